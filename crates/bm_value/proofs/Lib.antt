@@ -1,0 +1,11 @@
+pub mod Utf8
+pub mod Values
+pub mod Loops
+pub mod Soundness
+pub mod Completeness
+pub mod Fronts
+pub mod Unique
+pub mod Examples
+pub mod Written
+pub mod Nesting
+pub mod Keys

@@ -1,0 +1,59 @@
+-- A value by its first byte, and values level by level.
+use Rattle.std.proofs.Common.{◌≡◌, ℕ, zero, suc, ◌<◌, ◌-◌, List, [], ◌∷◌, length, get_or, take, drop, map, Result, Ok, Err, Vec, refl, sym, ap, subst, ◌∙◌, arith}
+use Rattle.bm_value.specs.Row.{row}
+use Rattle.bm_value.specs.Tree.{Tree, dict, Trees, TreePair, Pairs as TreePairs}
+use Rattle.bm_value.specs.View.{value_step, items_step, pair_step, pairs_step, tree, trees_of, pairs_of, pair_tree, items_tree, pairs_tree}
+use Rattle.bm_value.specs.Reading.{Gives, mapped, ◌>>=◌, length_at, pairs_at, map_with, value_at, value_with, row_with, inner}
+use Rattle.bm_value.specs.declared.fault.DecodeError.{DecodeError}
+use Rattle.bm_value.specs.declared.fault.DecodeError.TheVariants.{Truncated}
+use Rattle.bm_value.specs.declared.row.Row.{Row}
+use Rattle.bm_value.specs.declared.value.Value.{Value, Map}
+use Rattle.bm_value.specs.declared.value.Pair.{Pair}
+use Rattle.bm_value.specs.declared.value.Pairs.{Pairs}
+use Rattle.bm_value.specs.declared.value.Value.TheViews.{roll-Items, roll-Pairs}
+use Rattle.bm_value.specs.declared.value.Value.TheVariants.{rolls-Map}
+use Rattle.bm_value.specs.declared.value.Value.TheOpen.{Value-F}
+use Rattle.bm_value.specs.declared.value.Value.TheFolds.{fold-roll-Value, fold-roll-Items, fold-roll-Pairs}
+use Rattle.std.proofs.lemmas.List.{take_rest}
+use Rattle.bm_value.specs.declared.row.Size.{Size}
+
+pub value_at-is : (room : ℕ) (bytes : List ℕ) → value_at room bytes ≡ value_with (inner room) bytes
+unfolding value_at
+value_at-is zero bytes = refl
+value_at-is (suc room) bytes = refl
+
+pub no_byte : (room : ℕ) (bytes : List ℕ) → length bytes < 1 → value_at room bytes ≡ Err Truncated
+no_byte room [] h = value_at-is room []
+no_byte room (b ∷ bytes) h = absurd (omega arith)
+
+pub first_byte : (room : ℕ) (bytes : List ℕ) (r : Row) → 0 < length bytes → r ≡ row (get_or bytes 0 0) → value_at room bytes ≡ row_with (inner room) r (drop 1 bytes)
+first_byte room [] r h is = absurd (omega arith)
+first_byte room (b ∷ bytes) r h is = value_at-is room (b ∷ bytes) ∙ ap (λ (x : Row). row_with (inner room) x bytes) (sym is)
+
+pub gives_along : {X Y : Type 0} (view : X → Y) (r : Result X DecodeError) (a b : Result Y DecodeError) → a ≡ b → Gives view r a → Gives view r b
+gives_along view r a b e h = subst (λ x. Gives view r x) e h
+
+pub items_tree-of : {A : Type 0} (v : Vec (Value A) A) → items_tree (roll-Items A record { vec = v }) ≡ trees_of (map tree v.items)
+items_tree-of {A} v = fold-roll-Items A Tree Trees TreePair TreePairs value_step items_step pair_step pairs_step record { vec = v }
+
+pub pairs_tree-of : {A : Type 0} (v : Vec (Pair A) A) → pairs_tree (roll-Pairs A record { vec = v }) ≡ pairs_of (map pair_tree v.items)
+pairs_tree-of {A} v = fold-roll-Pairs A Tree Trees TreePair TreePairs value_step items_step pair_step pairs_step record { vec = v }
+
+pub tree-Map : {A : Type 0} (p : Pairs A) → tree (Map p) ≡ dict (pairs_tree p)
+tree-Map {A} p = ap tree (sym (rolls-Map p)) ∙ fold-roll-Value A Tree Trees TreePair TreePairs value_step items_step pair_step pairs_step (Value-F.Map p)
+
+pub tail_is : (bytes : List ℕ) → take (length bytes - 1) (drop 1 bytes) ≡ drop 1 bytes
+tail_is bytes = take_rest bytes 1
+
+-- what stands behind the first byte is read by its row
+pub gives_row : {X : Type 0} (view : X → Tree × List ℕ) (out : Result X DecodeError) (room : ℕ) (bytes : List ℕ) (r : Row) → 0 < length bytes → r ≡ row (get_or bytes 0 0)
+    → Gives view out (row_with (inner room) r (take (length bytes - 1) (drop 1 bytes))) → Gives view out (value_at room bytes)
+gives_row view out room bytes r h is given =
+    subst (λ x. Gives view out x) (ap (row_with (inner room) r) (tail_is bytes) ∙ sym (first_byte room bytes r h is)) given
+
+pub map_read : (room : ℕ) (s : Size) (bytes : List ℕ) (n : ℕ) (rest : List ℕ) (ps : TreePairs) (after : List ℕ) → 0 < room → length_at s bytes ≡ Ok (n, rest) → pairs_at (value_at (room - 1)) n rest ≡ Ok (ps, after)
+    → map_with (inner room) s bytes ≡ Ok (dict ps, after)
+map_read zero s bytes n rest ps after lt e f = absurd (omega arith)
+map_read (suc room) s bytes n rest ps after lt e f =
+    let k : suc room - 1 ≡ room = omega arith in
+    ap (λ r. r >>= λ n. mapped dict (pairs_at (value_at room) n.0 n.1)) e ∙ ap (mapped dict) (ap (λ d. pairs_at (value_at d) n rest) (sym k) ∙ f)

@@ -1,0 +1,10 @@
+pub mod Num
+pub mod Tree
+pub mod View
+pub mod Field
+pub mod Row
+pub mod Reading
+pub mod Spelling
+pub mod Decoding
+pub mod Laws
+pub mod Writing

@@ -1,0 +1,29 @@
+//! MessagePack trees: read from bytes and written as bytes under any allocator.
+//!
+//! The format is that of the MessagePack specification (msgpack.org,
+//! github.com/msgpack/msgpack/blob/master/spec.md). A reader meets every format of a kind; a writer
+//! uses the one with the fewest bytes. Floats are kept as their bits, timestamps as the ext that
+//! they are.
+#![tactic(auto)]
+
+mod bytes;
+mod fault;
+mod front;
+mod heads;
+pub mod laws;
+mod limits;
+mod lookup;
+mod num;
+mod reading;
+mod row;
+#[cfg(test)]
+mod tests;
+mod value;
+mod writing;
+
+pub use bytes::{Bytes, Text};
+pub use fault::DecodeError;
+pub use limits::nests_within;
+pub use num::Num;
+pub use reading::{decode, decode_whole};
+pub use value::{Items, Pair, Pairs, Value};

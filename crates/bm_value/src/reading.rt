@@ -1,0 +1,298 @@
+//! Trees at the front of bytes.
+
+ghost use Rattle.std.specs.Prelude.{◌≡◌, ◌≢◌, ◌≤◌, ℕ, take, length, IfOk, IfErr, Ok, Err};
+ghost use Rattle.bm_value.specs.declared.fault.DecodeError.{DecodeError};
+ghost use Rattle.bm_value.specs.Tree.{Tree, depth};
+ghost use Rattle.bm_value.specs.Decoding.{Decodes, DecodesWhole, Trails};
+ghost use Rattle.bm_value.specs.Spelling.{Spells, Fails};
+ghost use Rattle.bm_value.specs.View.{tree, items_tree, pair_tree, pairs_tree};
+ghost use Rattle.bm_value.specs.Reading.{Gives, signed_at, text_at, binary_at, extension_at, plain_at, items_at, pair_at, pairs_at, inner, array_with, map_with, value_at};
+
+use crate::bytes::{Bytes, Text};
+use crate::fault::DecodeError;
+use crate::front::{eight, four, length, number, one, take, two};
+use crate::num::Num;
+use crate::row::{Plain, Row, Size, Wide, row_of};
+use crate::value::{Items, Pair, Pairs, Value};
+use std::alloc::Allocator;
+
+fn signed(wide: Wide, bytes: &[u8]) -> Result<(Num, &[u8]), DecodeError>
+    ensures { Gives (λ x. (x.0, x.1.now)) result (signed_at wide bytes.now) }
+{
+    match wide {
+        Wide::One => {
+            let (n, rest) = one(bytes)?;
+            Ok((Num::of_i64(i64::from(n.cast_signed())), rest))
+        }
+        Wide::Two => {
+            let (n, rest) = two(bytes)?;
+            Ok((Num::of_i64(i64::from(n.cast_signed())), rest))
+        }
+        Wide::Four => {
+            let (n, rest) = four(bytes)?;
+            Ok((Num::of_i64(i64::from(n.cast_signed())), rest))
+        }
+        Wide::Eight => {
+            let (n, rest) = eight(bytes)?;
+            Ok((Num::of_i64(n.cast_signed()), rest))
+        }
+    }
+}
+
+#[tactic(auto, using(crate::proofs::Utf8::utf8_tests), unfolding(crate::specs::Reading::text_at))]
+fn text<A: Allocator>(alloc: A, size: Size, bytes: &[u8]) -> Result<(Text<A>, &[u8]), DecodeError>
+    ensures { Gives (λ x. (x.0, x.1.now)) result (text_at size bytes.now) }
+{
+    let (n, rest) = length(size, bytes)?;
+    let (front, rest) = take(n, rest)?;
+    match std::str::from_utf8(front) {
+        Ok(text) => Ok((Text::from_string(String::from_str(alloc, text)?), rest)),
+        Err(_) => Err(DecodeError::BadUtf8),
+    }
+}
+
+#[tactic(auto, unfolding(crate::specs::Reading::binary_at))]
+fn binary<A: Allocator>(
+    alloc: A,
+    size: Size,
+    bytes: &[u8],
+) -> Result<(Bytes<A>, &[u8]), DecodeError>
+    ensures { Gives (λ x. (x.0, x.1.now)) result (binary_at size bytes.now) }
+{
+    let (n, rest) = length(size, bytes)?;
+    let (front, rest) = take(n, rest)?;
+    Ok((Bytes::from_vec(Vec::from_slice(alloc, front)?), rest))
+}
+
+#[tactic(auto, unfolding(crate::specs::Reading::extension_at))]
+fn extension<A: Allocator>(
+    alloc: A,
+    size: Size,
+    bytes: &[u8],
+) -> Result<(i8, Bytes<A>, &[u8]), DecodeError>
+    ensures { Gives (λ x. ((x.0, x.1), x.2.now)) result (extension_at size bytes.now) }
+{
+    let (n, rest) = length(size, bytes)?;
+    let (kind, rest) = one(rest)?;
+    let (front, rest) = take(n, rest)?;
+    Ok((
+        kind.cast_signed(),
+        Bytes::from_vec(Vec::from_slice(alloc, front)?),
+        rest,
+    ))
+}
+
+/// A value with no value inside, behind its first byte.
+#[tactic(auto, unfolding(crate::specs::Reading::plain_at))]
+fn plain<A: Allocator + Copy>(
+    alloc: A,
+    plain: Plain,
+    bytes: &[u8],
+) -> Result<(Value<A>, &[u8]), DecodeError>
+    ensures { Gives (λ x. (tree x.0, x.1.now)) result (plain_at plain bytes.now) }
+{
+    match plain {
+        Plain::Nil => Ok((Value::Nil, bytes)),
+        Plain::Bool(b) => Ok((Value::Bool(b), bytes)),
+        Plain::Small(n) => Ok((Value::Int(Num::of_i64(i64::from(n))), bytes)),
+        Plain::Unsigned(wide) => {
+            let (n, rest) = number(wide, bytes)?;
+            Ok((Value::Int(Num::of_u64(n)), rest))
+        }
+        Plain::Signed(wide) => {
+            match signed(wide, bytes) {
+                Ok((n, rest)) => Ok((Value::Int(n), rest)),
+                Err(e) => Err(e),
+            }
+        }
+        Plain::Bits32 => {
+            let (n, rest) = four(bytes)?;
+            Ok((Value::Bits32(n), rest))
+        }
+        Plain::Bits64 => {
+            let (n, rest) = eight(bytes)?;
+            Ok((Value::Bits64(n), rest))
+        }
+        Plain::Str(size) => {
+            match text(alloc, size, bytes) {
+                Ok((text, rest)) => Ok((Value::Str(text), rest)),
+                Err(e) => Err(e),
+            }
+        }
+        Plain::Bin(size) => {
+            match binary(alloc, size, bytes) {
+                Ok((binary, rest)) => Ok((Value::Bin(binary), rest)),
+                Err(e) => Err(e),
+            }
+        }
+        Plain::Ext(size) => {
+            match extension(alloc, size, bytes) {
+                Ok((kind, binary, rest)) => Ok((Value::Ext(kind, binary), rest)),
+                Err(e) => Err(e),
+            }
+        }
+    }
+}
+
+/// The value at the front, where arrays and maps may nest `room` deep.
+#[cycle(read)]
+fn read<A: Allocator + Copy>(
+    alloc: A,
+    bytes: &[u8],
+    room: u32,
+) -> Result<(Value<A>, &[u8]), DecodeError>
+    ensures { Gives (λ x. (tree x.0, x.1.now)) result (value_at room bytes.now) }
+{
+    match bytes {
+        [] => Err(DecodeError::Truncated),
+        [first, rest @ ..] => match row_of(*first) {
+            Row::Plain(row) => plain(alloc, row, rest),
+            Row::Array(size) => array(alloc, size, rest, room),
+            Row::Map(size) => map(alloc, size, rest, room),
+            Row::Reserved => Err(DecodeError::Reserved),
+        },
+    }
+}
+
+#[cycle(read)]
+fn array<A: Allocator + Copy>(
+    alloc: A,
+    size: Size,
+    bytes: &[u8],
+    room: u32,
+) -> Result<(Value<A>, &[u8]), DecodeError>
+    ensures { Gives (λ x. (tree x.0, x.1.now)) result (array_with (inner room) size bytes.now) }
+{
+    if room == 0 {
+        return Err(DecodeError::TooDeep);
+    }
+    let (count, rest) = length(size, bytes)?;
+    match items(alloc, count, rest, room - 1) {
+        Ok((items, rest)) => Ok((Value::Array(items), rest)),
+        Err(e) => Err(e),
+    }
+}
+
+#[cycle(read)]
+fn map<A: Allocator + Copy>(
+    alloc: A,
+    size: Size,
+    bytes: &[u8],
+    room: u32,
+) -> Result<(Value<A>, &[u8]), DecodeError>
+    ensures { Gives (λ x. (tree x.0, x.1.now)) result (map_with (inner room) size bytes.now) }
+{
+    if room == 0 {
+        return Err(DecodeError::TooDeep);
+    }
+    let (count, rest) = length(size, bytes)?;
+    match pairs(alloc, count, rest, room - 1) {
+        Ok((pairs, rest)) => Ok((Value::Map(pairs), rest)),
+        Err(e) => Err(e),
+    }
+}
+
+#[cycle(read)]
+fn items<A: Allocator + Copy>(
+    alloc: A,
+    count: u64,
+    bytes: &[u8],
+    room: u32,
+) -> Result<(Items<A>, &[u8]), DecodeError>
+    ensures { Gives (λ x. (items_tree x.0, x.1.now)) result (items_at (value_at room) count bytes.now) }
+{
+    let mut found = Vec::new(alloc);
+    let mut rest = bytes;
+    'items: for _ in 0..count {
+        match read(alloc, rest, room) {
+            Ok((item, after)) => {
+                found.push(item)?;
+                rest = after;
+            }
+            Err(e) => return Err(e),
+        }
+    }
+    Ok((Items { vec: found }, rest))
+}
+
+#[cycle(read)]
+fn pairs<A: Allocator + Copy>(
+    alloc: A,
+    count: u64,
+    bytes: &[u8],
+    room: u32,
+) -> Result<(Pairs<A>, &[u8]), DecodeError>
+    ensures { Gives (λ x. (pairs_tree x.0, x.1.now)) result (pairs_at (value_at room) count bytes.now) }
+{
+    let mut found = Vec::new(alloc);
+    let mut rest = bytes;
+    'pairs: for _ in 0..count {
+        match pair(alloc, rest, room) {
+            Ok((pair, after)) => {
+                found.push(pair)?;
+                rest = after;
+            }
+            Err(e) => return Err(e),
+        }
+    }
+    Ok((Pairs { vec: found }, rest))
+}
+
+#[cycle(read)]
+fn pair<A: Allocator + Copy>(
+    alloc: A,
+    bytes: &[u8],
+    room: u32,
+) -> Result<(Pair<A>, &[u8]), DecodeError>
+    ensures { Gives (λ x. (pair_tree x.0, x.1.now)) result (pair_at (value_at room) bytes.now) }
+{
+    match read(alloc, bytes, room) {
+        Ok((key, rest)) => match read(alloc, rest, room) {
+            Ok((value, rest)) => Ok((Pair { key, value }, rest)),
+            Err(e) => Err(e),
+        },
+        Err(e) => Err(e),
+    }
+}
+
+/// The value at the front of the bytes, and how many bytes it takes.
+pub fn decode<A: Allocator + Copy>(alloc: A, bytes: &[u8]) -> Result<(Value<A>, usize), DecodeError>
+    // What is read is spelled so, and arrays and maps nest no deeper than 32.
+    ensures found { IfOk result (λ x. (x.1 ≤ length bytes.now) × Spells (take x.1 bytes.now) (tree x.0) × (depth (tree x.0) ≤ 32)) }
+    // What is spelled at the front is read, unless memory runs out.
+    ensures only { (t : Tree) (n : ℕ) → n ≤ length bytes.now → Spells (take n bytes.now) t → depth t ≤ 32
+        → Decodes result (Ok (t, n)) }
+    // A fault that is told is the first from the left.
+    ensures fault { IfErr result (λ e. e ≢ DecodeError.Mem → Fails bytes.now 0 e) }
+    // The first fault from the left is told, unless memory runs out.
+    ensures refused { (f : DecodeError) → Fails bytes.now 0 f → Decodes result (Err f) }
+{
+    match read(alloc, bytes, 32) {
+        Ok((value, rest)) => {
+            let taken = bytes.len() - rest.len();
+            Ok((value, taken))
+        }
+        Err(e) => Err(e),
+    }
+}
+
+/// The value that all of the bytes spell.
+pub fn decode_whole<A: Allocator + Copy>(alloc: A, bytes: &[u8]) -> Result<Value<A>, DecodeError>
+    ensures found { IfOk result (λ v. Spells bytes.now (tree v) × (depth (tree v) ≤ 32)) }
+    ensures only { (t : Tree) → Spells bytes.now t → depth t ≤ 32 → DecodesWhole result (Ok t) }
+    ensures trailing { result ≡ Err DecodeError.Trailing → Trails bytes.now }
+    ensures trails { Trails bytes.now → DecodesWhole result (Err DecodeError.Trailing) }
+    ensures fault { IfErr result (λ e. e ≢ DecodeError.Mem → e ≢ DecodeError.Trailing → Fails bytes.now 0 e) }
+    ensures refused { (f : DecodeError) → Fails bytes.now 0 f → DecodesWhole result (Err f) }
+{
+    match read(alloc, bytes, 32) {
+        Ok((value, rest)) => {
+            if rest.is_empty() {
+                Ok(value)
+            } else {
+                Err(DecodeError::Trailing)
+            }
+        }
+        Err(e) => Err(e),
+    }
+}

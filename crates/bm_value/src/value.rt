@@ -1,0 +1,46 @@
+//! The kinds of value.
+
+use crate::bytes::{Bytes, Text};
+use crate::num::Num;
+use std::alloc::{Allocator, Global};
+
+/// A MessagePack value, whose parts lie in the allocator `A`.
+#[cycle(value)]
+#[derive(Debug, Drop)]
+pub enum Value<A: Allocator = Global> {
+    Nil,
+    Bool(bool),
+    Int(Num),
+    /// A float of 32 bits, as its bits.
+    Bits32(u32),
+    /// A float of 64 bits, as its bits.
+    Bits64(u64),
+    Str(Text<A>),
+    Bin(Bytes<A>),
+    Array(Items<A>),
+    Map(Pairs<A>),
+    /// An application's own type, and its bytes.
+    Ext(i8, Bytes<A>),
+}
+
+/// The items of an array, in order.
+#[cycle(value)]
+#[derive(Debug, Drop)]
+pub struct Items<A: Allocator> {
+    pub vec: Vec<Value<A>, A>,
+}
+
+/// The pairs of a map, in order. Keys are of any kind, and the same key may come twice.
+#[cycle(value)]
+#[derive(Debug, Drop)]
+pub struct Pairs<A: Allocator> {
+    pub vec: Vec<Pair<A>, A>,
+}
+
+/// A key and its value.
+#[cycle(value)]
+#[derive(Debug, Drop)]
+pub struct Pair<A: Allocator> {
+    pub key: Value<A>,
+    pub value: Value<A>,
+}
