@@ -1,0 +1,26 @@
+-- What an update carries for each log.
+use Rattle.std.specs.Prelude.{Bool, true, not, ◌&&◌, List, [], ◌∷◌, ◌++◌, map, filter, find, Option, bytes_eq, if◌then◌else◌}
+use Rattle.std.specs.List.{list_any}
+use Rattle.std.specs.Option.{option_map}
+use Rattle.bm_lines.specs.Names.{Name}
+use Rattle.bm_lines.specs.declared.line.Line.{Line}
+use Rattle.bm_lines.specs.declared.parcel.Part.{Part}
+
+-- no name twice
+abbrev pub are_distinct : List Part → Bool
+are_distinct [] = true
+are_distinct (p ∷ ps) = not (list_any (λ (q : Part). bytes_eq q.name p.name) ps) && are_distinct ps
+
+-- the blocks of the parts with this name: one at most, where the names are distinct
+abbrev pub blocks_under : Name → List Part → List (List Line)
+blocks_under name ps = map (λ (p : Part). p.block) (filter (λ (p : Part). bytes_eq p.name name) ps)
+
+-- the block of the first part with this name
+abbrev pub block_under : Name → List Part → Option (List Line)
+block_under name ps = option_map (λ (p : Part). p.block) (find (λ (p : Part). bytes_eq p.name name) ps)
+
+-- the parts after the lines of one more item: behind those of its name, or as a new part at the end
+abbrev pub with_item : Name → List Line → List Part → List Part
+with_item name lines [] = record { name = name; block = lines } ∷ []
+with_item name lines (p ∷ ps) =
+    if bytes_eq p.name name then record { name = p.name; block = p.block ++ lines } ∷ ps else p ∷ with_item name lines ps

@@ -1,0 +1,16 @@
+//! Lines of command logs, the names of logs, and the parcels of lines that an update carries.
+//!
+//! A log of type `s` in the Buildbot manual is a list of lines, each behind a letter for the stream that it came from.
+#![tactic(auto)]
+
+mod block;
+mod line;
+mod log_name;
+mod parcel;
+mod text;
+
+pub use block::{Block, content, cut};
+pub use line::{Letter, Line};
+pub use log_name::LogName;
+pub use parcel::{Parcel, Part};
+pub use text::Text;
