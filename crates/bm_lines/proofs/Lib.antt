@@ -1,3 +1,4 @@
 mod Rows
 pub mod Cuts
 pub mod PartLists
+pub mod Contents

@@ -1,13 +1,13 @@
 -- Lists of parts, by name.
 use Rattle.std.proofs.Common.{◌≡◌, refl, sym, ◌∙◌, ap, ℕ, zero, suc, ◌+◌, ◌≤◌, ◌<◌, Bool, true, false, cond, not, ◌&&◌, ◌||◌, List, [], ◌∷◌, ◌++◌, length, get_or, set, Some, None, Result, Ok, Err, append-nil, arith}
-use Rattle.std.specs.Prelude.{bytes_eq, find, OnOk, OnErr}
-use Rattle.std.specs.Option.{option_map}
+use Rattle.std.specs.Prelude.{bytes_eq, find, filter, map, OnOk, OnErr}
+use Rattle.std.specs.Option.{option_map, option_to_list}
 use Rattle.std.specs.List.{position_or_len, list_any}
 use Rattle.std.proofs.lemmas.Slice.Eq.{bytes_eq-Decides}
 use Rattle.bm_lines.specs.Names.{Name}
 use Rattle.bm_lines.specs.declared.line.Line.{Line}
 use Rattle.bm_lines.specs.declared.parcel.Part.{Part}
-use Rattle.bm_lines.specs.Parcels.{are_distinct, block_under, with_item}
+use Rattle.bm_lines.specs.Parcels.{are_distinct, block_under, blocks_under, with_item}
 
 pub same_name : (a b : Name) → bytes_eq a b ≡ true → a ≡ b
 same_name a b h = (bytes_eq-Decides a b).0 h
@@ -118,3 +118,31 @@ pub set_on_ok : {T E : Type 0} (r : Result T E) (ps : List Part) (name : Name) (
     → p ≡ get_or ps i p → OnOk r (block ≡ p.block ++ lines) → OnOk r (set ps i (record { name = p.name; block = block }) ≡ with_item name lines ps)
 set_on_ok (Ok x) ps name lines i p block at inside is grown = with_item-at ps name lines i p (record { name = p.name; block = block }) at inside is refl grown
 set_on_ok (Err e) ps name lines i p block at inside is grown = tt
+
+-- ---- distinct names
+
+from_not : (b : Bool) → not b ≡ true → b ≡ false
+from_not true g = absurd cc
+from_not false g = refl
+
+none_named : (ps : List Part) (name : Name) → list_any (λ (q : Part). bytes_eq q.name name) ps ≡ false → blocks_under name ps ≡ []
+none_named [] name h = refl
+none_named (x ∷ xs) name h = go (bytes_eq x.name name) h (none_named xs name)
+  where
+    go : (b : Bool) → (b || list_any (λ (q : Part). bytes_eq q.name name) xs) ≡ false → (list_any (λ (q : Part). bytes_eq q.name name) xs ≡ false → blocks_under name xs ≡ [])
+        → map (λ (q : Part). q.block) (cond b (x ∷ filter (λ (q : Part). bytes_eq q.name name) xs) (filter (λ (q : Part). bytes_eq q.name name) xs)) ≡ []
+    go true h ih = absurd cc
+    go false h ih = ih h
+
+-- a name has one block at most
+pub blocks_under-distinct : (ps : List Part) (name : Name) → are_distinct ps ≡ true → blocks_under name ps ≡ option_to_list (block_under name ps)
+blocks_under-distinct [] name h = refl
+blocks_under-distinct (x ∷ xs) name h = go (bytes_eq x.name name) refl (blocks_under-distinct xs name (and_parts _ _ h).1)
+  where
+    go : (b : Bool) → bytes_eq x.name name ≡ b → blocks_under name xs ≡ option_to_list (block_under name xs)
+        → map (λ (q : Part). q.block) (cond b (x ∷ filter (λ (q : Part). bytes_eq q.name name) xs) (filter (λ (q : Part). bytes_eq q.name name) xs))
+        ≡ option_to_list (option_map (λ (q : Part). q.block) (cond b (Some x) (find (λ q. bytes_eq q.name name) xs)))
+    go true e ih =
+        let alone : list_any (λ (q : Part). bytes_eq q.name name) xs ≡ false = ap (λ n. list_any (λ (q : Part). bytes_eq q.name n) xs) (sym (same_name x.name name e)) ∙ from_not _ (and_parts _ _ h).0 in
+        ap (λ bs. x.block ∷ bs) (none_named xs name alone)
+    go false e ih = ih

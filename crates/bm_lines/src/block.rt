@@ -1,5 +1,6 @@
 ghost use Rattle.std.specs.Prelude.{◌≡◌, ◌∷◌, [], ◌++◌, ◌==◌, map, take, length, string_bytes, IfOk, OnOk, OnErr};
 ghost use Rattle.std.specs.List.{slice_split};
+ghost use Rattle.std.specs.Arc.{arc_value};
 ghost use Rattle.bm_lines.specs.Lines.{lines_of, content_of};
 
 use crate::line::{Letter, Line};
@@ -77,11 +78,48 @@ impl Block {
         ensures ok { OnOk result (self.new ≡ self.old ++ lines_of letter text.now) }
         ensures err { OnErr result (self.new ≡ self.old) }
     {
-        let mut lines = Lines::copy_of(self.alloc, self.lines())?;
-        lines.append(letter, text)?;
-        self.lines = Some(Arc::new(self.alloc, lines)?);
-        Ok(())
+        match &mut self.lines {
+            Some(lines) => grow(self.alloc, lines, letter, text),
+            None => {
+                let mut lines = Lines {
+                    vec: Vec::new(self.alloc),
+                };
+                lines.append(letter, text)?;
+                self.lines = Some(Arc::new(self.alloc, lines)?);
+                Ok(())
+            }
+        }
     }
+
+    /// The block of these lines, which aren't copied.
+    pub fn from_lines(alloc: Global, lines: Vec<Line>) -> Result<Block, AllocError>
+        ensures { IfOk result (λ b. b ≡ lines.items) }
+    {
+        let lines = Arc::new(alloc, Lines { vec: lines })?;
+        Ok(Block {
+            alloc,
+            lines: Some(lines),
+        })
+    }
+}
+
+/// Appends the lines of a text: in place where no other block has the lines, else to a copy.
+fn grow(
+    alloc: Global,
+    shared: &mut Arc<Lines>,
+    letter: Letter,
+    text: &str,
+) -> Result<(), AllocError>
+    ensures ok { OnOk result (arc_value shared.new ≡ arc_value shared.old ++ lines_of letter text.now) }
+    ensures err { OnErr result (arc_value shared.new ≡ arc_value shared.old) }
+{
+    if let Some(own) = Arc::get_mut(shared) {
+        return own.append(letter, text);
+    }
+    let mut lines = Lines::copy_of(alloc, shared.as_slice())?;
+    lines.append(letter, text)?;
+    *shared = Arc::new(alloc, lines)?;
+    Ok(())
 }
 
 impl Lines {
@@ -154,10 +192,19 @@ pub fn content(alloc: Global, lines: &[Line]) -> Result<String, AllocError>
     ensures { IfOk result (λ s. string_bytes s ≡ content_of lines.now) }
 {
     let mut content = String::new(alloc);
-    for line in lines {
-        content.push_str(line.letter.as_str())?;
-        content.push_str(line.text.as_str())?;
-        content.push('\n')?;
-    }
+    append_content(&mut content, lines)?;
     Ok(content)
+}
+
+/// Appends the content of lines to a text. After want of memory a front of it may stand there.
+pub fn append_content(out: &mut String, lines: &[Line]) -> Result<(), AllocError>
+    ensures ok { OnOk result (string_bytes out.new ≡ string_bytes out.old ++ content_of lines.now) }
+    ensures err { OnErr result (take (length (string_bytes out.old)) (string_bytes out.new) ≡ string_bytes out.old) }
+{
+    for line in lines {
+        out.push_str(line.letter.as_str())?;
+        out.push_str(line.text.as_str())?;
+        out.push('\n')?;
+    }
+    Ok(())
 }

@@ -9,7 +9,7 @@ mod log_name;
 mod parcel;
 mod text;
 
-pub use block::{Block, content, cut};
+pub use block::{Block, append_content, content, cut};
 pub use line::{Letter, Line};
 pub use log_name::LogName;
 pub use parcel::{Parcel, Part};
