@@ -9,3 +9,5 @@ pub mod Examples
 pub mod Written
 pub mod Nesting
 pub mod Keys
+pub mod Shortness
+pub mod Copied

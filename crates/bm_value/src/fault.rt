@@ -2,6 +2,7 @@
 
 ghost use Rattle.std.specs.Prelude.{◌≡◌};
 ghost use Rattle.bm_value.specs.declared.fault.DecodeError.TheVariants.{Mem};
+ghost use Rattle.bm_value.specs.declared.fault.EncodeError.TheVariants as written;
 
 use std::alloc::{AllocError, AllocFailed};
 use thiserror::Error;
@@ -42,5 +43,27 @@ impl<T: Drop> From<AllocFailed<T>> for DecodeError {
 
     fn from(_e: AllocFailed<T>) -> DecodeError {
         DecodeError::Mem
+    }
+}
+
+/// Why a value could not be written.
+#[derive(Clone, Copy, Debug, PartialEq, Eq, Error)]
+pub enum EncodeError {
+    /// Arrays and maps nest deeper than 32.
+    #[error("too deep")]
+    TooDeep,
+    /// A str, bin, ext, array or map is longer than 2^32-1.
+    #[error("too long")]
+    TooLong,
+    /// The allocator refused a request.
+    #[error("out of memory")]
+    Mem,
+}
+
+impl From<AllocError> for EncodeError {
+    ghost from_gives = { λ _ e. e ≡ written.Mem };
+
+    fn from(_e: AllocError) -> EncodeError {
+        EncodeError::Mem
     }
 }

@@ -7,6 +7,7 @@
 #![tactic(auto)]
 
 mod bytes;
+mod copying;
 mod fault;
 mod front;
 mod heads;
@@ -22,8 +23,9 @@ mod value;
 mod writing;
 
 pub use bytes::{Bytes, Text};
-pub use fault::DecodeError;
-pub use limits::nests_within;
+pub use fault::{DecodeError, EncodeError};
+pub use limits::{is_short, nests_within};
 pub use num::Num;
 pub use reading::{decode, decode_whole};
 pub use value::{Items, Pair, Pairs, Value};
+pub use writing::encode;
