@@ -6,7 +6,7 @@ use Rattle.bm_value.specs.declared.fault.DecodeError.TheVariants.{Truncated, Res
 use Rattle.bm_value.specs.Tree.{Tree, depth}
 use Rattle.bm_value.specs.Reading.{Answer, Refuses, value_at}
 use Rattle.bm_value.specs.Spelling.{Spells, PlainFails, FailsRow, Fails, FailsWithin}
-use Rattle.bm_value.specs.Decoding.{Trails}
+use Rattle.bm_value.specs.Decoding.{Reads, Trails}
 use Rattle.bm_value.specs.Row.{row}
 use Rattle.bm_value.specs.declared.row.Plain.{Plain}
 use Rattle.bm_value.specs.declared.row.Plain.TheVariants as plain
@@ -89,7 +89,7 @@ pub whole_at : (bytes : List ℕ) (t : Tree) → Spells bytes t → depth t ≤ 
 whole_at bytes t s d = ap (value_at 32) (sym (append-nil bytes)) ∙ value_again t 32 bytes [] s d
 
 pub trails_at : (bytes : List ℕ) → Trails bytes → (t : Tree) × (rest : List ℕ) × (value_at 32 bytes ≡ Ok (t, rest)) × (0 < length rest)
-trails_at bytes h = (h.1, drop h.0 bytes, read_at bytes h.1 h.0 (omega (arith, h.2)) h.3 h.4, omega (arith, length-drop h.0 bytes, h.2))
+trails_at bytes h = (h.1, drop h.0 bytes, read_at bytes h.1 h.0 h.3.within h.3.spelled h.3.nests, omega (arith, length-drop h.0 bytes, h.2))
 
 pub both_read : (bytes : List ℕ) (t u : Tree) (a b : List ℕ) → value_at 32 bytes ≡ Ok (t, a) → value_at 32 bytes ≡ Ok (u, b) → (t ≡ u) × (a ≡ b)
 both_read bytes t u a b e f =
@@ -100,7 +100,7 @@ both_read bytes t u a b e f =
 pub trails_by : (bytes : List ℕ) (t : Tree) (rest : List ℕ) → value_at 32 bytes ≡ Ok (t, rest) → 0 < length rest → Trails bytes
 trails_by bytes t rest e long =
     let f = front_of bytes t rest e in
-    (length bytes - length rest, t, omega (arith, f.shorter), f.spelled, f.nests)
+    (length bytes - length rest, t, omega (arith, f.shorter), record { within = omega arith; spelled = f.spelled; nests = f.nests })
 
 pub whole_by : (bytes : List ℕ) (t : Tree) (rest : List ℕ) → value_at 32 bytes ≡ Ok (t, rest) → length rest ≡ 0 → Spells bytes t × (depth t ≤ 32)
 whole_by bytes t rest e none =

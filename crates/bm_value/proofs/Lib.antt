@@ -7,7 +7,9 @@ pub mod Fronts
 pub mod Unique
 pub mod Examples
 pub mod Written
+pub mod Spelled
 pub mod Nesting
 pub mod Keys
 pub mod Shortness
 pub mod Copied
+pub mod ReadBack

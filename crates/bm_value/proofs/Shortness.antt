@@ -5,7 +5,7 @@ use Rattle.bm_value.specs.declared.value.Value.{Value}
 use Rattle.bm_value.specs.declared.value.Pair.{Pair}
 use Rattle.bm_value.specs.Tree.{Tree, Trees, none, item, Pairs as TreePairs, no_pairs, pair, TreePair}
 use Rattle.bm_value.specs.View.{tree, trees_of, pair_tree, pairs_of}
-use Rattle.bm_value.specs.Writing.{IsShort, AreShort, PairsAreShort, IsShortPair}
+use Rattle.bm_value.specs.Limits.{IsShort, AreShort, PairsAreShort, IsShortPair}
 
 -- the whole is so exactly where the rest is
 pub record SameFact (whole rest : Type 0) : Type 0 where

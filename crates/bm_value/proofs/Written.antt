@@ -14,7 +14,8 @@ use Rattle.bm_value.specs.declared.value.Value.TheViews.{out-Items, out-Pairs}
 use Rattle.bm_value.specs.declared.value.Value.TheFolds.{fold_out-Items, fold_out-Pairs}
 use Rattle.bm_value.specs.Tree.{Tree, Trees, Pairs as TreePairs, array, dict, count, count_of_pairs, TreePair}
 use Rattle.bm_value.specs.View.{value_step, items_step, pair_step, pairs_step, tree, items_tree, pairs_tree, pair_tree, trees_of, pairs_of}
-use Rattle.bm_value.specs.Writing.{array_head, map_head, written, written_pair, written_items, written_pairs, IsShort, IsShortPair, AreShort, PairsAreShort, Grows, Puts}
+use Rattle.bm_value.specs.Limits.{IsShort, IsShortPair, AreShort, PairsAreShort}
+use Rattle.bm_value.specs.Writing.{array_head, map_head, written, written_pair, written_items, written_pairs, Grows, Puts}
 
 pub count_is : {A : Type 0} (vs : List (Value A)) → count (trees_of (map tree vs)) ≡ length vs
 count_is [] = refl

@@ -7,4 +7,5 @@ pub mod Reading
 pub mod Spelling
 pub mod Decoding
 pub mod Laws
+pub mod Limits
 pub mod Writing

@@ -85,33 +85,8 @@ abbrev mutual
   written_pairs no_pairs = []
   written_pairs (pair k v ps) = written k ++ (written v ++ written_pairs ps)
 
--- no part is longer than a length's field can say
-abbrev mutual
-  pub IsShort : Tree → Type 0
-  IsShort nil = Unit {0}
-  IsShort (bool b) = Unit {0}
-  IsShort (int z) = Unit {0}
-  IsShort (bits32 n) = Unit {0}
-  IsShort (bits64 n) = Unit {0}
-  IsShort (str s) = length s < 2 ^ 32
-  IsShort (bin s) = length s < 2 ^ 32
-  IsShort (ext k s) = length s < 2 ^ 32
-  IsShort (array ts) = (count ts < 2 ^ 32) × AreShort ts
-  IsShort (dict ps) = (count_of_pairs ps < 2 ^ 32) × PairsAreShort ps
-
-  pub AreShort : Trees → Type 0
-  AreShort none = Unit {0}
-  AreShort (item t ts) = IsShort t × AreShort ts
-
-  pub PairsAreShort : Pairs → Type 0
-  PairsAreShort no_pairs = Unit {0}
-  PairsAreShort (pair k v ps) = IsShort k × IsShort v × PairsAreShort ps
-
 abbrev pub written_pair : TreePair → List ℕ
 written_pair p = written p.key ++ written p.value
-
-abbrev pub IsShortPair : TreePair → Type 0
-IsShortPair p = IsShort p.key × IsShort p.value
 
 -- new begins with old
 pub record Grows (old new : List ℕ) : Type 0 where

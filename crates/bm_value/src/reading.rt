@@ -3,7 +3,7 @@
 ghost use Rattle.std.specs.Prelude.{◌≡◌, ◌≢◌, ◌≤◌, ℕ, take, length, IfOk, IfErr, Ok, Err};
 ghost use Rattle.bm_value.specs.declared.fault.DecodeError.{DecodeError};
 ghost use Rattle.bm_value.specs.Tree.{Tree, depth};
-ghost use Rattle.bm_value.specs.Decoding.{Decodes, DecodesWhole, Trails};
+ghost use Rattle.bm_value.specs.Decoding.{Reads, Decodes, DecodesWhole, Trails};
 ghost use Rattle.bm_value.specs.Spelling.{Spells, Fails};
 ghost use Rattle.bm_value.specs.View.{tree, items_tree, pair_tree, pairs_tree};
 ghost use Rattle.bm_value.specs.Reading.{Gives, signed_at, text_at, binary_at, extension_at, plain_at, items_at, pair_at, pairs_at, inner, array_with, map_with, value_at};
@@ -255,13 +255,18 @@ fn pair<A: Allocator + Copy>(
     }
 }
 
-/// The value at the front of the bytes, and how many bytes it takes.
+/// The value at the front of the bytes, and how many bytes it takes. Memory is taken for bytes that
+/// are there, never by a claimed length alone.
+///
+/// # Errors
+///
+/// The first fault from the left: `Truncated`, `Reserved`, `BadUtf8`, or `TooDeep` where arrays and
+/// maps nest deeper than 32. `Mem` where the allocator refused a request, at the place of the growth.
 pub fn decode<A: Allocator + Copy>(alloc: A, bytes: &[u8]) -> Result<(Value<A>, usize), DecodeError>
-    // What is read is spelled so, and arrays and maps nest no deeper than 32.
-    ensures found { IfOk result (λ x. (x.1 ≤ length bytes.now) × Spells (take x.1 bytes.now) (tree x.0) × (depth (tree x.0) ≤ 32)) }
-    // What is spelled at the front is read, unless memory runs out.
-    ensures only { (t : Tree) (n : ℕ) → n ≤ length bytes.now → Spells (take n bytes.now) t → depth t ≤ 32
-        → Decodes result (Ok (t, n)) }
+    // What is answered is spelled so.
+    ensures found { IfOk result (λ x. Reads bytes.now (tree x.0) x.1) }
+    // What is spelled at the front is answered, unless memory runs out.
+    ensures only { (t : Tree) (n : ℕ) → Reads bytes.now t n → Decodes result (Ok (t, n)) }
     // A fault that is told is the first from the left.
     ensures fault { IfErr result (λ e. e ≢ DecodeError.Mem → Fails bytes.now 0 e) }
     // The first fault from the left is told, unless memory runs out.
@@ -277,6 +282,10 @@ pub fn decode<A: Allocator + Copy>(alloc: A, bytes: &[u8]) -> Result<(Value<A>, 
 }
 
 /// The value that all of the bytes spell.
+///
+/// # Errors
+///
+/// Those of `decode`, and `Trailing` where more bytes stand behind the value.
 pub fn decode_whole<A: Allocator + Copy>(alloc: A, bytes: &[u8]) -> Result<Value<A>, DecodeError>
     ensures found { IfOk result (λ v. Spells bytes.now (tree v) × (depth (tree v) ≤ 32)) }
     ensures only { (t : Tree) → Spells bytes.now t → depth t ≤ 32 → DecodesWhole result (Ok t) }

@@ -1,6 +1,6 @@
 use Rattle.std.proofs.Common.{drop, map}
 use Rattle.bm_value.specs.View.{tree, trees_of, pair_tree, pairs_of, items_tree, pairs_tree}
-use Rattle.bm_value.specs.Writing.{AreShort, PairsAreShort}
+use Rattle.bm_value.specs.Limits.{AreShort, PairsAreShort}
 use Rattle.bm_value.proofs.Shortness.{SameFact}
 use Rattle.bm_value.proofs.limits.+short.Given as goal
 

@@ -11,18 +11,18 @@ overflow_sub-taken g c = (front_of c.args.bytes.now (tree c.in-Ok.value) c.in-Ok
 pub returns-in-Ok-clause-found : goal.returns-in-Ok-clause-found
 returns-in-Ok-clause-found g c =
     let front = front_of c.args.bytes.now (tree c.in-Ok.value) c.in-Ok.rest.now c.in-Ok.ensures in
-    (omega arith, front.spelled, front.nests)
+    record { within = omega arith; spelled = front.spelled; nests = front.nests }
 
 pub returns-in-Ok-clause-only : goal.returns-in-Ok-clause-only
-returns-in-Ok-clause-only g c = λ t n le s d.
-    let same = same_front c.args.bytes.now t (tree c.in-Ok.value) n c.in-Ok.rest.now le (sym c.in-Ok.ensures ∙ read_at c.args.bytes.now t n le s d) in
+returns-in-Ok-clause-only g c = λ t n r.
+    let same = same_front c.args.bytes.now t (tree c.in-Ok.value) n c.in-Ok.rest.now r.within (sym c.in-Ok.ensures ∙ read_at c.args.bytes.now t n r.within r.spelled r.nests) in
     ap₂ (λ (x : Tree) (k : ℕ). Ok (x, k)) same.0 same.1
 
 pub returns-in-Ok-clause-refused : goal.returns-in-Ok-clause-refused
 returns-in-Ok-clause-refused g c = λ f h. no_fault c.args.bytes.now f (tree c.in-Ok.value, c.in-Ok.rest.now) h c.in-Ok.ensures
 
 pub returns-in-Err-clause-only : goal.returns-in-Err-clause-only
-returns-in-Err-clause-only g c = λ t n le s d. refused_ok c.in-Err.e (value_at 32 c.args.bytes.now) (t, drop n c.args.bytes.now) (t, n) (read_at c.args.bytes.now t n le s d) c.in-Err.ensures
+returns-in-Err-clause-only g c = λ t n r. refused_ok c.in-Err.e (value_at 32 c.args.bytes.now) (t, drop n c.args.bytes.now) (t, n) (read_at c.args.bytes.now t n r.within r.spelled r.nests) c.in-Err.ensures
 
 pub returns-in-Err-clause-fault : goal.returns-in-Err-clause-fault
 returns-in-Err-clause-fault g c = λ ne. is_fault c.args.bytes.now c.in-Err.e c.in-Err.ensures ne
