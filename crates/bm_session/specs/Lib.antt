@@ -1,0 +1,5 @@
+pub mod Events
+pub mod Trace
+pub mod Seen
+pub mod Session
+pub mod Texts

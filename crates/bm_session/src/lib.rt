@@ -1,0 +1,21 @@
+//! The session of a lane: the events that it took, in order, and what they mean.
+//!
+//! An event is taken in two steps. [`Session::ready`] decides, takes all memory that is needed, and
+//! gives a [`Plan`]; [`Session::commit`] then can't fail, and [`Session::withdraw`] does nothing.
+#![tactic(auto)]
+
+mod event;
+mod item;
+mod refusal;
+mod reply;
+mod results;
+mod run;
+mod seen;
+
+pub use event::{Body, Event};
+pub use item::Item;
+pub use refusal::Refusal;
+pub use reply::{Reply, Verdict};
+pub use results::Results;
+pub use run::Ran;
+pub use seen::Seen;

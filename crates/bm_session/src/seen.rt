@@ -1,0 +1,9 @@
+use crate::reply::Verdict;
+
+/// The request numbers from `first` to `last`, and the verdict that each first got.
+#[derive(Clone, Copy, Debug, PartialEq, Eq)]
+pub struct Seen {
+    pub first: u64,
+    pub last: u64,
+    pub verdict: Verdict,
+}
