@@ -1,0 +1,4 @@
+pub mod Meaning
+pub mod Items
+pub mod Messages
+pub mod Carried
