@@ -7,6 +7,7 @@ pub mod Fronts
 pub mod Unique
 pub mod Examples
 pub mod Written
+pub mod Formed
 pub mod Spelled
 pub mod Nesting
 pub mod Keys
