@@ -1,4 +1,4 @@
-ghost use Rattle.std.specs.Prelude.{◌≡◌, [], true, OnOk, OnErr, bytes_eq};
+ghost use Rattle.std.specs.Prelude.{◌≡◌, [], true, OnOk, OnErr, bytes_eq, IfOk};
 ghost use Rattle.std.specs.Option.{option_copied};
 ghost use Rattle.std.specs.List.{position_or_len};
 ghost use Rattle.bm_lines.specs.Lines.{lines_of};
@@ -80,6 +80,28 @@ impl Parcel {
             Ok(())
         }
     }
+
+    /// An equal parcel, whose blocks share their lines with those of this one.
+    pub fn copy(&self) -> Result<Parcel, AllocError>
+        ensures { IfOk result (λ p. p ≡ self.now) }
+    {
+        let parts = copies(*self.parts.allocator(), self.parts.as_slice())?;
+        Ok(Parcel { parts })
+    }
+}
+
+/// Equal parts, whose blocks share their lines.
+fn copies(alloc: Global, parts: &[Part]) -> Result<Vec<Part>, AllocError>
+    ensures { IfOk result (λ v. v.items ≡ parts.now) }
+{
+    let mut out = Vec::with_capacity(alloc, parts.len())?;
+    for part in parts {
+        out.push(Part {
+            name: part.name.copy()?,
+            block: part.block.copy()?,
+        })?;
+    }
+    Ok(out)
 }
 
 /// The place of the first part with this name, or the number of parts.
