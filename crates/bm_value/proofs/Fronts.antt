@@ -58,7 +58,7 @@ refused_err Y TooDeep f r is h = let same : f ≡ TooDeep = cc in ap (λ x. Err 
 refused_err Y Trailing f r is h = let same : f ≡ Trailing = cc in ap (λ x. Err x) same
 refused_err Y Mem f r is h = tt
 
-fault_at : (bytes : List ℕ) (e : DecodeError) → value_at 32 bytes ≡ Err e → Fails bytes 0 e
+pub fault_at : (bytes : List ℕ) (e : DecodeError) → value_at 32 bytes ≡ Err e → Fails bytes 0 e
 fault_at bytes e is = subst (λ r. Outcome (Found 32) (FailsWithin 32 bytes) bytes r) is (value_outcome 32 bytes)
 
 pub is_fault : (bytes : List ℕ) (e : DecodeError) → Refuses e (value_at 32 bytes) → e ≢ Mem → Fails bytes 0 e
