@@ -3,5 +3,8 @@ pub mod Pushed
 pub mod Taken
 pub mod Visible
 pub mod Words
+mod Rows
 mod Scanned
 mod Lanes
+mod Runs
+mod Fields

@@ -2,4 +2,5 @@ pub mod Events
 pub mod Trace
 pub mod Seen
 pub mod Session
+pub mod Heard
 pub mod Texts

@@ -1,5 +1,12 @@
+ghost use Rattle.std.specs.Prelude.{◌≡◌, IfOk};
+ghost use Rattle.bm_msg.specs.Meaning.{asked, meaning};
+ghost use Rattle.bm_session.specs.Heard.{body_of, event_of};
+
+use crate::carried;
 use bm_lines::Parcel;
+use bm_msg::{Message, Numbered, Request, Response};
 use bm_value::Num;
+use std::alloc::{AllocError, Global};
 
 /// What a lane's session takes, one at a time.
 #[derive(Drop)]
@@ -16,6 +23,29 @@ pub enum Event {
     Cut,
     /// The session is given up: every open command ends.
     Down,
+}
+
+impl Event {
+    /// What a message of the worker is to its session. Requests that only a master sends are no operation.
+    pub fn of_message(alloc: Global, message: Message) -> Result<Event, AllocError>
+        ensures { IfOk result (λ event. event ≡ event_of (meaning message)) }
+    {
+        match message {
+            Message::Request(Numbered { seq, request }) => {
+                Ok(Event::In(seq, Body::of_request(alloc, request)?))
+            }
+            Message::Response(Response { seq, exception, .. }) => {
+                Ok(Event::In(seq, Body::Answered { fault: exception }))
+            }
+        }
+    }
+
+    /// The request with this number, whose keys are missing or of another kind.
+    pub fn bad_args(seq: u64) -> Event
+        ensures { result ≡ Event.In seq Body.BadArgs }
+    {
+        Event::In(seq, Body::BadArgs)
+    }
 }
 
 /// What a message of the worker says.
@@ -42,4 +72,25 @@ pub enum Body {
     Answered {
         fault: bool,
     },
+}
+
+impl Body {
+    /// What a request asks of a session.
+    fn of_request(alloc: Global, request: Request) -> Result<Body, AllocError>
+        ensures { IfOk result (λ body. body ≡ body_of (asked request)) }
+    {
+        match request {
+            Request::Auth { .. } => Ok(Body::Auth),
+            Request::Update { command, fields } => Ok(Body::Update {
+                command,
+                parcel: carried::parcel(alloc, fields.as_slice())?,
+                rc: carried::last_rc(fields.as_slice()),
+            }),
+            Request::Complete { command, fault } => Ok(Body::Complete {
+                command,
+                fault: fault.is_some(),
+            }),
+            _ => Ok(Body::NoSuchOp),
+        }
+    }
 }

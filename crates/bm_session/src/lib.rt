@@ -4,18 +4,27 @@
 //! gives a [`Plan`]; [`Session::commit`] then can't fail, and [`Session::withdraw`] does nothing.
 #![tactic(auto)]
 
+mod carried;
 mod event;
 mod item;
+mod plan;
 mod refusal;
 mod reply;
 mod results;
 mod run;
+mod scan;
 mod seen;
+mod session;
 
 pub use event::{Body, Event};
 pub use item::Item;
+pub use plan::Plan;
 pub use refusal::Refusal;
 pub use reply::{Reply, Verdict};
 pub use results::Results;
 pub use run::Ran;
 pub use seen::Seen;
+pub use session::Session;
+
+#[cfg(test)]
+mod tests;

@@ -1,0 +1,164 @@
+ghost use Rattle.std.specs.Prelude.{◌≡◌, ◌⊎◌, ◌++◌, ◌∷◌, ◌||◌, ◌≤◌, [], Some, None, true, IfOk, IfErr, IsOk, if◌then◌else◌};
+ghost use Rattle.bm_session.specs.Trace.{is_up as up_of, is_cut as cut_of, refusal as refusal_of, reply as reply_of, item as item_of, log as log_of, has_log as has_log_in, outcome as outcome_of, was_taken};
+ghost use Rattle.bm_session.specs.Session.{IsPlanFor, ran_as, trace_as, ran_after, trace_after};
+
+use crate::event::Event;
+use crate::item::Item;
+use crate::plan::Plan;
+use crate::refusal::Refusal;
+use crate::reply::Reply;
+use crate::results::Results;
+use crate::run::Ran;
+use crate::scan::{answers, logs};
+use bm_lines::Block;
+use std::alloc::{AllocError, Global};
+use std::marker::Model;
+
+/// A lane's session: the events that it took.
+///
+/// While it is up or cut it has room for one event more, so that it can be given up without memory.
+#[derive(Drop)]
+pub struct Session {
+    events: Vec<Event>,
+}
+
+impl Model for Session {
+    ghost use Rattle.std.specs.Prelude.{◌-◌, vec_len, vec_capacity};
+    ghost use Rattle.bm_session.specs.Session.{Lane, IsLane};
+
+    ghost Value = { Lane };
+
+    ghost view = { λ s. record { trace = s.events.items; room = vec_capacity s.events - vec_len s.events } };
+
+    ghost invariant = { λ s. IsLane (record { trace = s.events.items; room = vec_capacity s.events - vec_len s.events }) };
+}
+
+impl Session {
+    /// A session that took no event yet, and isn't up.
+    pub fn new(alloc: Global) -> Result<Session, AllocError>
+        ensures { IfOk result (λ s. s.trace ≡ []) }
+    {
+        Ok(Session {
+            events: Vec::with_capacity(alloc, 2)?,
+        })
+    }
+
+    /// The events that were taken, in order.
+    pub fn trace(&self) -> &[Event]
+        ensures events { result.now ≡ self.now.trace }
+        ensures taken { was_taken self.now.trace ≡ true }
+    {
+        self.events.as_slice()
+    }
+
+    /// The events that were taken, in order, when the session is over.
+    pub fn into_trace(self) -> Vec<Event>
+        ensures events { result.items ≡ self.trace }
+        ensures taken { was_taken self.trace ≡ true }
+    {
+        let Session { events } = self;
+        events
+    }
+
+    /// The log of the command under the name, or None where that log isn't there.
+    pub fn log(&self, alloc: Global, command: u64, name: &str) -> Result<Option<Block>, AllocError>
+        ensures { IfOk result (λ log. log ≡ (if has_log_in self.now.trace command name.now then Some (log_of self.now.trace command name.now) else None)) }
+    {
+        if !logs::has_log(self.events.as_slice(), command, name) {
+            return Ok(None);
+        }
+        let lines = logs::log(alloc, self.events.as_slice(), command, name)?;
+        Ok(Some(Block::from_lines(alloc, lines)?))
+    }
+
+    /// How the command ended, or None while it is open or isn't there.
+    pub fn outcome(&self, command: u64) -> Option<Results>
+        ensures { result ≡ outcome_of self.now.trace command }
+    {
+        logs::outcome(self.events.as_slice(), command)
+    }
+
+    /// Decides whether the event is taken next, and takes the memory that this needs. The session means the same
+    /// afterwards, and earlier plans for it stay good. An event that isn't taken comes back with the reason.
+    ///
+    /// To give up a session that is up or cut takes no memory.
+    pub fn ready(&mut self, event: Event) -> Result<Plan, (Event, Refusal)>
+        ensures same { self.new.trace ≡ self.old.trace }
+        ensures room { self.old.room ≤ self.new.room }
+
+        ensures planned { IfOk result (λ p. IsPlanFor self.new p) }
+        ensures event { IfOk result (λ p. p.event ≡ event) }
+        ensures item { IfOk result (λ p. p.given ≡ item_of self.old.trace event) }
+
+        ensures back { IfErr result (λ r. r.0 ≡ event) }
+        ensures refused { IfErr result (λ r. (refusal_of self.old.trace event ≡ Some r.1) ⊎ ((refusal_of self.old.trace event ≡ None) × (r.1 ≡ Refusal.Mem))) }
+        ensures down { event ≡ Event.Down → (up_of self.old.trace || cut_of self.old.trace) ≡ true → IsOk result }
+    {
+        if let Some(reason) = answers::refusal(self.events.as_slice(), &event) {
+            return Err((event, reason));
+        }
+        let reply = answers::reply(self.events.as_slice(), &event);
+        let Ok(item) = answers::item(self.events.as_slice(), &event) else {
+            return Err((event, Refusal::Mem));
+        };
+        let needed = match event {
+            Event::Down => 1,
+            _ => 2,
+        };
+        if self.events.reserve(needed).is_err() {
+            return Err((event, Refusal::Mem));
+        }
+        Ok(Plan::of(event, reply, item))
+    }
+
+    /// Takes the event of the plan: answers what the master sends, and the event's item unless it was taken from the
+    /// plan before.
+    pub fn commit(&mut self, plan: Plan) -> (Reply, Option<Item>)
+        requires { IsPlanFor self.old plan }
+        ensures trace { self.new.trace ≡ self.old.trace ++ plan.event ∷ [] }
+        ensures reply { result.0 ≡ reply_of self.old.trace plan.event }
+        ensures item { result.1 ≡ plan.given }
+    {
+        let (event, reply, item) = plan.into_parts();
+        let _ = self.events.push(event);
+        (reply, item)
+    }
+
+    /// A session that took the events, one after the other, and what came of each. A refused event is passed over.
+    pub fn run(alloc: Global, events: Vec<Event>) -> Result<(Session, Vec<Ran>), AllocError>
+        ensures trace { IfOk result (λ r. r.0.trace ≡ trace_after [] events.items) }
+        ensures ran { IfOk result (λ r. r.1.items ≡ ran_after [] events.items) }
+    {
+        let mut session = Session::new(alloc)?;
+        let mut ran = Vec::with_capacity(alloc, events.len())?;
+        for event in events {
+            let one = session.take(event)?;
+            ran.push(one)?;
+        }
+        Ok((session, ran))
+    }
+
+    /// Takes the event, or passes it over.
+    fn take(&mut self, event: Event) -> Result<Ran, AllocError>
+        ensures trace { IfOk result (λ r. self.new.trace ≡ trace_as self.old.trace event (refusal_of self.old.trace event)) }
+        ensures ran { IfOk result (λ r. r ≡ ran_as self.old.trace event (refusal_of self.old.trace event)) }
+    {
+        match self.ready(event) {
+            Ok(plan) => {
+                let (reply, item) = self.commit(plan);
+                Ok(Ran::Done(reply, item))
+            }
+            Err((_, Refusal::Mem)) => Err(AllocError),
+            Err((_, reason)) => Ok(Ran::Refused(reason)),
+        }
+    }
+
+    /// Gives the event of the plan back. Nothing was done.
+    pub fn withdraw(&mut self, plan: Plan) -> Event
+        ensures event { result ≡ plan.event }
+        ensures same { self.new ≡ self.old }
+    {
+        let (event, _, _) = plan.into_parts();
+        event
+    }
+}
