@@ -1,0 +1,6 @@
+pub mod Books
+pub mod Gathering
+pub mod Looks
+pub mod Meaning
+pub mod Places
+pub mod Shelves

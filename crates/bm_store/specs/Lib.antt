@@ -1,0 +1,4 @@
+pub mod Book
+pub mod Kept
+pub mod Placing
+pub mod Laws

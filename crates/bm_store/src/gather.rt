@@ -1,0 +1,80 @@
+ghost use Rattle.std.specs.Prelude.{◌≡◌, ◌++◌, ◌≤◌, ◌<◌, ◌+◌, length, map, take, drop, Some, IfOk, string_bytes, slice_get};
+ghost use Rattle.bm_lines.specs.Lines.{content_of};
+ghost use Rattle.bm_session.specs.Trace.{joined, slice};
+ghost use Rattle.bm_store.specs.Book.{placed, chunk_of};
+ghost use Rattle.bm_store.specs.Placing.{block_at};
+ghost use Rattle.bm_store.specs.declared.placed.Placed.{Placed};
+
+use crate::chunk::Chunk;
+use crate::placed::Placed;
+use bm_lines::{Line, Text, append_content};
+use std::alloc::{AllocError, Global};
+
+/// The place of the last block that begins at or before the line `offset` (0 where there is none), and how many of
+/// its lines stand before that line.
+fn seek(blocks: &[Placed], offset: u64) -> (usize, u64)
+    requires { blocks.now ≡ placed (map block_at blocks.now) }
+    ensures inside { result.0 ≤ length blocks.now }
+    ensures rest { drop offset (joined (map block_at blocks.now)) ≡ drop result.1 (joined (map block_at (drop result.0 blocks.now))) }
+    ensures last { (p : Placed) → slice_get blocks.now (result.0 + 1) ≡ Some p → offset < p.first }
+{
+    let mut low = 0;
+    let mut before = 0;
+    let mut high = blocks.len();
+    while high - low > 1 {
+        let middle = low + (high - low) / 2;
+        let first = blocks[middle].first;
+        if first <= offset as u128 {
+            low = middle;
+            before = first as u64;
+        } else {
+            high = middle;
+        }
+    }
+    (low, offset - before)
+}
+
+/// The lines behind the first `skip`, `limit` at most.
+fn window(lines: &[Line], skip: u64, limit: u64) -> &[Line]
+    ensures { result.now ≡ take limit (drop skip lines.now) }
+{
+    let from = lines.len().min(skip as usize);
+    let rest = &lines[from..];
+    let count = rest.len().min(limit as usize);
+    &rest[..count]
+}
+
+/// Appends the content of the lines of all blocks behind the first `skip`, of `limit` lines at most, and counts them.
+fn gather(out: &mut String, blocks: &[Placed], skip: u64, limit: u64) -> Result<u64, AllocError>
+    ensures content { IfOk result (λ n. string_bytes out.new ≡ string_bytes out.old ++ content_of (slice (joined (map block_at blocks.now)) skip limit)) }
+    ensures count { IfOk result (λ n. n ≡ length (slice (joined (map block_at blocks.now)) skip limit)) }
+{
+    let mut skip = skip;
+    let mut left = limit;
+    for placed in blocks {
+        if left == 0 {
+            break;
+        }
+        let lines = placed.block.lines();
+        let part = window(lines, skip, left);
+        append_content(out, part)?;
+        skip = skip.saturating_sub(lines.len() as u64);
+        left -= part.len() as u64;
+    }
+    Ok(limit - left)
+}
+
+/// The asked lines of a log whose blocks stand at their places.
+pub fn chunk(alloc: Global, blocks: &[Placed], offset: u64, limit: u64) -> Result<Chunk, AllocError>
+    requires { blocks.now ≡ placed (map block_at blocks.now) }
+    ensures { IfOk result (λ c. c ≡ chunk_of offset (slice (joined (map block_at blocks.now)) offset limit)) }
+{
+    let (start, skip) = seek(blocks, offset);
+    let mut content = String::new(alloc);
+    let lines = gather(&mut content, &blocks[start..], skip, limit)?;
+    Ok(Chunk {
+        first_line: offset,
+        lines,
+        content: Text::from_string(content),
+    })
+}
