@@ -1,1 +1,4 @@
 mod Rows
+pub mod ItemTrees
+pub mod FieldLists
+pub mod Numerals

@@ -2,3 +2,4 @@ pub mod Meaning
 pub mod Items
 pub mod Messages
 pub mod Carried
+pub mod Reading

@@ -6,7 +6,11 @@
 
 mod fault;
 mod field;
+mod items;
+mod keys;
+mod kind;
 mod message;
+mod reading;
 mod request;
 
 pub use fault::MsgError;

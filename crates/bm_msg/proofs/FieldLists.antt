@@ -1,0 +1,45 @@
+-- The fields of items, one item after another.
+use Rattle.std.proofs.Common.{◌≡◌, refl, sym, ◌∙◌, ap, ℕ, suc, ◌+◌, ◌<◌, ◌≤◌, List, [], ◌∷◌, ◌++◌, length, get_or, drop, map, Option, Some, None, append_assoc, append-nil, arith}
+use Rattle.std.specs.Option.{option_map, option_and_then}
+use Rattle.std.proofs.lemmas.List.{drop_more, drop_all}
+use Rattle.bm_value.specs.declared.value.Value.{Value}
+use Rattle.bm_value.specs.Tree.{Tree, Trees, item}
+use Rattle.bm_value.specs.View.{tree, trees_of}
+use Rattle.bm_msg.specs.declared.field.Field.{Field}
+use Rattle.bm_msg.specs.Items.{item_fields, fields_of}
+
+-- fields, and then those of the items that are left
+abbrev pub with_rest : {A : Type 0} → List Field → List (Value A) → Option (List Field)
+with_rest found xs = option_map (λ back. found ++ back) (fields_of (trees_of (map tree xs)))
+
+option_map-append : (old front : List Field) (o : Option (List Field)) → option_map (λ back. old ++ back) (option_map (λ back. front ++ back) o) ≡ option_map (λ back. (old ++ front) ++ back) o
+option_map-append old front (Some back) = ap (λ fs. Some fs) (sym (append_assoc old front back))
+option_map-append old front None = refl
+
+pub with_rest-none : {A : Type 0} (xs : List (Value A)) → fields_of (trees_of (map tree xs)) ≡ with_rest [] xs
+with_rest-none xs = go (fields_of (trees_of (map tree xs)))
+  where
+    go : (o : Option (List Field)) → o ≡ option_map (λ back. [] ++ back) o
+    go (Some back) = refl
+    go None = refl
+
+split_at : {A : Type 0} (xs : List (Value A)) (i : ℕ) (x : Value A) → i < length xs → x ≡ get_or xs i x → drop i xs ≡ x ∷ drop (i + 1) xs
+split_at xs i x h is = drop_more xs i x h ∙ ap (λ y. y ∷ drop (i + 1) xs) (sym is)
+
+-- an item that carries these fields
+pub with_rest-more : {A : Type 0} (all : Option (List Field)) (old front : List Field) (xs : List (Value A)) (i : ℕ) (x : Value A) → i < length xs → x ≡ get_or xs i x
+    → item_fields (tree x) ≡ Some front → all ≡ with_rest old (drop i xs) → all ≡ with_rest (old ++ front) (drop (i + 1) xs)
+with_rest-more all old front xs i x h is carries so_far =
+    so_far ∙ ap (with_rest old) (split_at xs i x h is)
+    ∙ ap (λ o. option_map (λ back. old ++ back) (option_and_then (λ f. option_map (λ back. f ++ back) (fields_of (trees_of (map tree (drop (i + 1) xs))))) o)) carries
+    ∙ option_map-append old front (fields_of (trees_of (map tree (drop (i + 1) xs))))
+
+-- an item of another kind
+pub with_rest-wrong : {A : Type 0} (all : Option (List Field)) (old : List Field) (xs : List (Value A)) (i : ℕ) (x : Value A) → i < length xs → x ≡ get_or xs i x
+    → item_fields (tree x) ≡ None → all ≡ with_rest old (drop i xs) → None ≡ all
+with_rest-wrong all old xs i x h is wrong so_far =
+    sym (so_far ∙ ap (with_rest old) (split_at xs i x h is)
+    ∙ ap (λ o. option_map (λ back. old ++ back) (option_and_then (λ f. option_map (λ back. f ++ back) (fields_of (trees_of (map tree (drop (i + 1) xs))))) o)) wrong)
+
+pub with_rest-end : {A : Type 0} (all : Option (List Field)) (found : List Field) (xs : List (Value A)) (i : ℕ) → length xs ≤ i → all ≡ with_rest found (drop i xs) → Some found ≡ all
+with_rest-end all found xs i past so_far = sym (so_far ∙ ap (with_rest found) (drop_all i xs past) ∙ ap (λ fs. Some fs) (append-nil found))

@@ -1,0 +1,134 @@
+-- Items of an update as trees.
+use Rattle.std.proofs.Common.{◌≡◌, ◌≢◌, refl, sym, ◌∙◌, ap, ℕ, zero, suc, ◌+◌, ◌<◌, ◌≤◌, Bool, true, false, cond, ◌&&◌, List, [], ◌∷◌, ◌++◌, length, get_or, drop, map, Option, Some, None, Result, subst, arith}
+use Rattle.std.specs.Prelude.{IfOk, slice_get, if◌then◌else◌, nat_le}
+use Rattle.std.specs.Option.{option_map, option_and_then}
+use Rattle.bm_value.specs.declared.value.Value.{Value, Array}
+use Rattle.bm_value.specs.declared.value.Items.{Items}
+use Rattle.bm_value.specs.Tree.{Tree, nil, bool, int, bits32, bits64, str, bin, array, dict, ext, Trees, none, item}
+use Rattle.bm_value.specs.View.{tree, trees_of, items_tree, values_in}
+use Rattle.bm_value.proofs.Values.{tree-Array}
+use Rattle.bm_value.proofs.Written.{items_out}
+use Rattle.bm_msg.specs.declared.field.Field.{Field}
+use Rattle.bm_msg.specs.declared.field.Field.TheVariants.{Named}
+use Rattle.bm_msg.specs.Items.{text_of, named, carried_by, item_fields, fields_of, is_log_name}
+use Rattle.bm_msg.specs.declared.items.Told.{Told}
+use Rattle.bm_msg.specs.Reading.{told, str_of, log_item, item_parts}
+
+-- an array is the trees of its values
+pub array_is : {A : Type 0} (v : Value A) (x : Items A) → v ≡ Array x → tree v ≡ array (trees_of (map tree (values_in x)))
+array_is v x is = ap tree is ∙ tree-Array x ∙ ap array (items_out x)
+
+pub text_of-first : (t : Tree) (ts : Trees) → text_of (array (item t ts)) ≡ str_of t
+text_of-first (str s) ts = refl
+text_of-first nil ts = refl
+text_of-first (bool b) ts = refl
+text_of-first (int z) ts = refl
+text_of-first (bits32 k) ts = refl
+text_of-first (bits64 k) ts = refl
+text_of-first (bin s) ts = refl
+text_of-first (array us) ts = refl
+text_of-first (dict ps) ts = refl
+text_of-first (ext k s) ts = refl
+
+-- the name of a log and its text
+pub named-two : (n v : Tree) (more : Trees)
+    → named (array (item n (item v more))) ≡ log_item n v
+named-two (str s) v more = refl
+named-two nil v more = refl
+named-two (bool b) v more = refl
+named-two (int z) v more = refl
+named-two (bits32 k) v more = refl
+named-two (bits64 k) v more = refl
+named-two (bin s) v more = refl
+named-two (array us) v more = refl
+named-two (dict ps) v more = refl
+named-two (ext k s) v more = refl
+
+named-one : (n : Tree) → named (array (item n none)) ≡ None
+named-one (str s) = refl
+named-one nil = refl
+named-one (bool b) = refl
+named-one (int z) = refl
+named-one (bits32 k) = refl
+named-one (bits64 k) = refl
+named-one (bin s) = refl
+named-one (array us) = refl
+named-one (dict ps) = refl
+named-one (ext k s) = refl
+
+pub named-short : {A : Type 0} (xs : List (Value A)) → length xs < 2 → named (array (trees_of (map tree xs))) ≡ None
+named-short [] h = refl
+named-short (x ∷ []) h = named-one (tree x)
+named-short (x ∷ (y ∷ ys)) h = absurd (omega arith)
+
+-- a name and a value
+pub item_fields-two : (n v : Tree) → item_fields (array (item n (item v none))) ≡ item_parts n v
+item_fields-two (str s) v = refl
+item_fields-two nil v = refl
+item_fields-two (bool b) v = refl
+item_fields-two (int z) v = refl
+item_fields-two (bits32 k) v = refl
+item_fields-two (bits64 k) v = refl
+item_fields-two (bin s) v = refl
+item_fields-two (array us) v = refl
+item_fields-two (dict ps) v = refl
+item_fields-two (ext k s) v = refl
+
+item_fields-one : (n : Tree) → item_fields (array (item n none)) ≡ None
+item_fields-one (str s) = refl
+item_fields-one nil = refl
+item_fields-one (bool b) = refl
+item_fields-one (int z) = refl
+item_fields-one (bits32 k) = refl
+item_fields-one (bits64 k) = refl
+item_fields-one (bin s) = refl
+item_fields-one (array us) = refl
+item_fields-one (dict ps) = refl
+item_fields-one (ext k s) = refl
+
+item_fields-more : (n v w : Tree) (ts : Trees) → item_fields (array (item n (item v (item w ts)))) ≡ None
+item_fields-more (str s) v w ts = refl
+item_fields-more nil v w ts = refl
+item_fields-more (bool b) v w ts = refl
+item_fields-more (int z) v w ts = refl
+item_fields-more (bits32 k) v w ts = refl
+item_fields-more (bits64 k) v w ts = refl
+item_fields-more (bin s) v w ts = refl
+item_fields-more (array us) v w ts = refl
+item_fields-more (dict ps) v w ts = refl
+item_fields-more (ext k s) v w ts = refl
+
+pub item_fields-other : {A : Type 0} (xs : List (Value A)) → length xs ≢ 2 → item_fields (array (trees_of (map tree xs))) ≡ None
+item_fields-other [] h = refl
+item_fields-other (x ∷ []) h = item_fields-one (tree x)
+item_fields-other (x ∷ (y ∷ [])) h = absurd (h refl)
+item_fields-other (x ∷ (y ∷ (z ∷ zs))) h = item_fields-more (tree x) (tree y) (tree z) (trees_of (map tree zs))
+
+-- ---- lists by their first elements
+
+pub first_is : {A : Type 0} (xs : List (Value A)) (x : Value A) → slice_get xs 0 ≡ Some x → trees_of (map tree xs) ≡ item (tree x) (trees_of (map tree (drop 1 xs)))
+first_is [] x h = absurd cc
+first_is (y ∷ ys) x h =
+    let same : y ≡ x = cc in
+    ap (λ z. item (tree z) (trees_of (map tree ys))) same
+
+pub no_first : {A : Type 0} (xs : List (Value A)) → slice_get xs 0 ≡ None → xs ≡ []
+no_first [] h = refl
+no_first (y ∷ ys) h = absurd cc
+
+pub two_are : {A : Type 0} (xs : List (Value A)) (x y : Value A) → 2 ≤ length xs → x ≡ get_or xs 0 x → y ≡ get_or xs 1 y
+    → trees_of (map tree xs) ≡ item (tree x) (item (tree y) (trees_of (map tree (drop 2 xs))))
+two_are [] x y h p q = absurd (omega arith)
+two_are (a ∷ []) x y h p q = absurd (omega arith)
+two_are (a ∷ (b ∷ more)) x y h p q = ap (λ z. item (tree z) (item (tree b) (trees_of (map tree more)))) (sym p) ∙ ap (λ z. item (tree x) (item (tree z) (trees_of (map tree more)))) (sym q)
+
+pub two_alone : {A : Type 0} (xs : List (Value A)) (x y : Value A) → length xs ≡ 2 → x ≡ get_or xs 0 x → y ≡ get_or xs 1 y
+    → trees_of (map tree xs) ≡ item (tree x) (item (tree y) none)
+two_alone [] x y h p q = absurd (omega arith)
+two_alone (a ∷ []) x y h p q = absurd (omega arith)
+two_alone (a ∷ (b ∷ [])) x y h p q = ap (λ z. item (tree z) (item (tree b) none)) (sym p) ∙ ap (λ z. item (tree x) (item (tree z) none)) (sym q)
+two_alone (a ∷ (b ∷ (d ∷ more))) x y h p q = absurd (omega arith)
+
+-- what is told of an item is told of the same item in other words
+pub told_along : {E : Type 0} (r : Result Told E) (a b : Option (List Field)) → a ≡ b → IfOk r (λ t. told t ≡ a) → IfOk r (λ t. told t ≡ b)
+told_along r a b e h = subst (λ x. IfOk r (λ t. told t ≡ x)) e h
