@@ -2,3 +2,6 @@ mod Rows
 pub mod ItemTrees
 pub mod FieldLists
 pub mod Numerals
+pub mod KeyValues
+pub mod KindNames
+pub mod Readings

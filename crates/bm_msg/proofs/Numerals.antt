@@ -47,7 +47,7 @@ plain_from s h =
     record {
       digits = parts.1;
       some = grind (arith, nat_tests);
-      no_zero = λ z. let first : (slice_index s 0 == 48) ≡ true = grind (arith, nat_tests) in let one : (length s == 1) ≡ true = parts.2 first in grind (arith, nat_tests)
+      no_zero = λ z. let first : (slice_index s 0 == 48) ≡ true = grind (arith, nat_tests) in let one : (length s == 1) ≡ true = parts.2 first in grind (arith, nat_tests);
     }
 
 pub command_number-some : (s : List ℕ) → IsPlain s → digits_value 10 s < 2 ^ 63 → command_number s ≡ Some (digits_value 10 s)
@@ -73,7 +73,7 @@ command_number-decimal k small =
     let plain : IsPlain (decimal k) = record {
       digits = digits_decimal numerals k wide;
       some = decimal_nonempty k wide;
-      no_zero = λ z. zero_alone k wide z
+      no_zero = λ z. zero_alone k wide z;
     } in
     command_number-some (decimal k) plain (omega arith) ∙ ap (λ n. Some n) value
   where

@@ -140,12 +140,3 @@ with_number t (Some n) (Some op) = op_read n op t
 abbrev pub reading : Tree → Result Meaning MsgError
 reading (dict ps) = with_number (dict ps) (number_at (dict ps)) (text_at (dict ps) (codes "op"))
 reading _ = Err NotMap
-
--- what a call answers, unless memory ran out
-abbrev pub Reads : Result Message MsgError → Result Meaning MsgError → Type 0
-Reads (Ok m) read = read ≡ Ok (meaning m)
-Reads (Err NotMap) read = read ≡ Err NotMap
-Reads (Err NoSeq) read = read ≡ Err NoSeq
-Reads (Err NoOp) read = read ≡ Err NoOp
-Reads (Err (BadArgs n)) read = read ≡ Err (BadArgs n)
-Reads (Err Mem) read = Unit {0}

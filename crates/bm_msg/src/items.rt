@@ -46,10 +46,7 @@ fn lettered<A: Allocator>(
     ensures { IfOk result (λ t. told t ≡ lettered letter (tree value.now)) }
 {
     match text_of(value) {
-        Some(text) => Ok(Told::Carries(Field::Text(
-            letter,
-            Text::from_str(alloc, text)?,
-        ))),
+        Some(text) => Ok(Told::Carries(Field::Text(letter, Text::from_str(alloc, text)?))),
         None => Ok(Told::Wrong),
     }
 }
@@ -69,10 +66,7 @@ fn log_item<A: Allocator>(
         return Ok(Told::Wrong);
     };
     match LogName::new(alloc, name)? {
-        Some(name) => Ok(Told::Carries(Field::Named(
-            name,
-            Text::from_str(alloc, text)?,
-        ))),
+        Some(name) => Ok(Told::Carries(Field::Named(name, Text::from_str(alloc, text)?))),
         None => Ok(Told::Wrong),
     }
 }
@@ -89,11 +83,7 @@ fn named<A: Allocator>(alloc: Global, value: &Value<A>) -> Result<Told, AllocErr
     }
 }
 
-fn carried_by<A: Allocator>(
-    alloc: Global,
-    name: &str,
-    value: &Value<A>,
-) -> Result<Told, AllocError>
+fn carried_by<A: Allocator>(alloc: Global, name: &str, value: &Value<A>) -> Result<Told, AllocError>
     ensures { IfOk result (λ t. told t ≡ carried_by name.now (tree value.now)) }
 {
     match name {
@@ -137,10 +127,7 @@ fn item<A: Allocator>(alloc: Global, item: &Value<A>) -> Result<Told, AllocError
 }
 
 /// What the items of an update carry, or None where one of them is of another kind.
-pub fn fields<A: Allocator>(
-    alloc: Global,
-    items: &Items<A>,
-) -> Result<Option<Fields>, AllocError>
+pub fn fields<A: Allocator>(alloc: Global, items: &Items<A>) -> Result<Option<Fields>, AllocError>
     ensures { IfOk result (λ f. f ≡ fields_of (items_tree items.now)) }
 {
     let mut fields = Vec::new(alloc);

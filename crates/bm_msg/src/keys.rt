@@ -84,7 +84,9 @@ pub fn session<A: Allocator>(alloc: Global, message: &Value<A>) -> Result<Option
     ensures { IfOk result (λ s. s ≡ session_of (field (tree message.now) (codes "session"))) }
 {
     match text_at(message, "session") {
-        Some(text) if !text.is_empty() && text.len() <= 64 => Ok(Some(Text::from_str(alloc, text)?)),
+        Some(text) if !text.is_empty() && text.len() <= 64 => Ok(Some(Text::from_str(
+            alloc, text,
+        )?)),
         _ => Ok(None),
     }
 }

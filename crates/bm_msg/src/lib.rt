@@ -16,4 +16,5 @@ mod request;
 pub use fault::MsgError;
 pub use field::{Field, Fields};
 pub use message::{Message, Numbered, Response};
+pub use reading::read;
 pub use request::Request;

@@ -7,7 +7,8 @@ ghost use Rattle.bm_value.specs.View.{tree};
 ghost use Rattle.bm_msg.specs.declared.fault.MsgError.{MsgError};
 ghost use Rattle.bm_msg.specs.Meaning.{Meaning, asked, meaning};
 ghost use Rattle.bm_msg.specs.Messages.{IsMessage, IsFaulty, is_exception, result_of};
-ghost use Rattle.bm_msg.specs.Reading.{Reads, reading, op_read, response_at, items_at, fault_at, auth_at, update_at, complete_at, print_at, start_at, interrupt_at, asked_at};
+ghost use Rattle.bm_msg.specs.Answers.{Reads};
+ghost use Rattle.bm_msg.specs.Reading.{reading, op_read, response_at, items_at, fault_at, auth_at, update_at, complete_at, print_at, start_at, interrupt_at, asked_at};
 
 use crate::fault::MsgError;
 use crate::field::Fields;
@@ -20,10 +21,7 @@ use bm_lines::Text;
 use bm_value::{Text as Str, Value};
 use std::alloc::{AllocError, Allocator, Global};
 
-fn auth<A: Allocator>(
-    alloc: Global,
-    message: &Value<A>,
-) -> Result<Option<Request>, AllocError>
+fn auth<A: Allocator>(alloc: Global, message: &Value<A>) -> Result<Option<Request>, AllocError>
     ensures { IfOk result (λ r. option_map asked r ≡ auth_at (tree message.now)) }
 {
     let Some(username) = text_at(message, "username") else {
@@ -49,10 +47,7 @@ fn items<A: Allocator>(alloc: Global, message: &Value<A>) -> Result<Option<Field
     }
 }
 
-fn update<A: Allocator>(
-    alloc: Global,
-    message: &Value<A>,
-) -> Result<Option<Request>, AllocError>
+fn update<A: Allocator>(alloc: Global, message: &Value<A>) -> Result<Option<Request>, AllocError>
     ensures { IfOk result (λ r. option_map asked r ≡ update_at (tree message.now)) }
 {
     let Some(command) = command_at(message) else {
@@ -78,10 +73,7 @@ fn fault<A: Allocator>(
     }
 }
 
-fn complete<A: Allocator>(
-    alloc: Global,
-    message: &Value<A>,
-) -> Result<Option<Request>, AllocError>
+fn complete<A: Allocator>(alloc: Global, message: &Value<A>) -> Result<Option<Request>, AllocError>
     ensures { IfOk result (λ r. option_map asked r ≡ complete_at (tree message.now)) }
 {
     let Some(command) = command_at(message) else {
@@ -93,10 +85,7 @@ fn complete<A: Allocator>(
     }
 }
 
-fn print<A: Allocator>(
-    alloc: Global,
-    message: &Value<A>,
-) -> Result<Option<Request>, AllocError>
+fn print<A: Allocator>(alloc: Global, message: &Value<A>) -> Result<Option<Request>, AllocError>
     ensures { IfOk result (λ r. option_map asked r ≡ print_at (tree message.now)) }
 {
     match text_at(message, "message") {
@@ -248,4 +237,25 @@ fn by_keys<A: Allocator>(alloc: Global, message: &Value<A>) -> Result<Message, M
         Some(op) => with_op(alloc, seq, op, message),
         None => Err(MsgError::NoOp),
     }
+}
+
+/// The message that a value is.
+///
+/// The keys are read as the Buildbot manual has them; of two pairs with a key the last counts, and
+/// other keys are ignored. Texts and values are copied, so the tree may be dropped afterwards.
+///
+/// # Errors
+///
+/// The first reason why the value is no message, in the order of [`MsgError`]; `Mem` where memory ran out.
+pub fn read<A: Allocator>(alloc: Global, message: &Value<A>) -> Result<Message, MsgError>
+    // What is answered is the message that the value is.
+    ensures found { IfOk result (λ m. IsMessage (tree message.now) (meaning m)) }
+    // A value that is a message is answered as that, unless memory runs out.
+    ensures only { (m : Meaning) → IsMessage (tree message.now) m → Reads result (Ok m) }
+    // A fault that is told is the first reason.
+    ensures fault { IfErr result (λ e. e ≢ MsgError.Mem → IsFaulty (tree message.now) e) }
+    // The first reason is told, unless memory runs out.
+    ensures refused { (f : MsgError) → IsFaulty (tree message.now) f → Reads result (Err f) }
+{
+    by_keys(alloc, message)
 }

@@ -15,14 +15,14 @@ returns-in-Wrong g c =
 pub loop-part-preserved : goal.loop-part-preserved
 loop-part-preserved g c =
     elim c.match-branch-2.branch [
-        in-Carries+in_ok-push-in-Carries w ↦
-            (let carries : item_fields (tree c.part-item.result) ≡ Some (w.in-Carries.field ∷ []) = sym c.in_ok-field.ensures ∙ ap told w.in-Carries.is in
-            with_rest-more (fields_of (items_tree c.args.items.now)) c.loop-part.fields.items _ c.deref-part-items.result.now c.loop-part.part-index c.part-item.result c.loop-part-test.true c.part-item.is carries c.loop-part.invariant
-            ∙ ap (λ fs. with_rest fs (drop (c.loop-part.part-index + 1) c.deref-part-items.result.now)) (sym w.in_ok-push-in-Carries.ensures.items)
-            ∙ ap (λ (v : Vec Field Global). with_rest v.items (drop (c.loop-part.part-index + 1) c.deref-part-items.result.now)) (sym w.fields-is))
-        | in-Nothing w ↦
-            (let carries : item_fields (tree c.part-item.result) ≡ Some [] = sym c.in_ok-field.ensures ∙ ap told w.in-Nothing.is in
-            with_rest-more (fields_of (items_tree c.args.items.now)) c.loop-part.fields.items [] c.deref-part-items.result.now c.loop-part.part-index c.part-item.result c.loop-part-test.true c.part-item.is carries c.loop-part.invariant
-            ∙ ap (λ fs. with_rest fs (drop (c.loop-part.part-index + 1) c.deref-part-items.result.now)) (append-nil c.loop-part.fields.items)
-            ∙ ap (λ (v : Vec Field Global). with_rest v.items (drop (c.loop-part.part-index + 1) c.deref-part-items.result.now)) (sym w.fields-is))
+      | in-Carries+in_ok-push-in-Carries w ↦
+          (let carries : item_fields (tree c.part-item.result) ≡ Some (w.in-Carries.field ∷ []) = sym c.in_ok-field.ensures ∙ ap told w.in-Carries.is in
+          with_rest-more (fields_of (items_tree c.args.items.now)) c.loop-part.fields.items _ c.deref-part-items.result.now c.loop-part.part-index c.part-item.result c.loop-part-test.true c.part-item.is carries c.loop-part.invariant
+          ∙ ap (λ fs. with_rest fs (drop (c.loop-part.part-index + 1) c.deref-part-items.result.now)) (sym w.in_ok-push-in-Carries.ensures.items)
+          ∙ ap (λ (v : Vec Field Global). with_rest v.items (drop (c.loop-part.part-index + 1) c.deref-part-items.result.now)) (sym w.fields-is))
+      | in-Nothing w ↦
+          (let carries : item_fields (tree c.part-item.result) ≡ Some [] = sym c.in_ok-field.ensures ∙ ap told w.in-Nothing.is in
+          with_rest-more (fields_of (items_tree c.args.items.now)) c.loop-part.fields.items [] c.deref-part-items.result.now c.loop-part.part-index c.part-item.result c.loop-part-test.true c.part-item.is carries c.loop-part.invariant
+          ∙ ap (λ fs. with_rest fs (drop (c.loop-part.part-index + 1) c.deref-part-items.result.now)) (append-nil c.loop-part.fields.items)
+          ∙ ap (λ (v : Vec Field Global). with_rest v.items (drop (c.loop-part.part-index + 1) c.deref-part-items.result.now)) (sym w.fields-is))
     ]

@@ -18,8 +18,8 @@ returns-then-n c =
     let no_plus = not_either (starts_char 43 c.args.text.now c.starts_with.result c.starts_with.ensures.cases (lit< tt) (lit< tt)) c.if-starts_with.false in
     let no_zero : get_or c.args.text.now 0 0 ≡ 48 → length c.args.text.now ≤ 1 =
     elim c.else-text-gt1.branch [
-        else-text-gt1-via-then-text-gt1+else-starts_with-2 w ↦ (λ z. absurd (not_either (starts_char 48 c.args.text.now w.starts_with-then-text-gt1.result w.starts_with-then-text-gt1.ensures.cases (lit< tt) (lit< tt)) w.if-starts_with-2.false z))
-        | else-text-gt1-via-else-text-gt1 w ↦ (λ z. w.if-text-gt1.false)
+      | else-text-gt1-via-then-text-gt1+else-starts_with-2 w ↦ (λ z. absurd (not_either (starts_char 48 c.args.text.now w.starts_with-then-text-gt1.result w.starts_with-then-text-gt1.ensures.cases (lit< tt) (lit< tt)) w.if-starts_with-2.false z))
+      | else-text-gt1-via-else-text-gt1 w ↦ (λ z. w.if-text-gt1.false)
     ] in
     sym (number_parsed c.args.text.now c.parse.result c.in-Ok.n c.parse.ensures.value.0 no_plus no_zero c.in-Ok.is (omega (arith, c.if-n.true)))
 
