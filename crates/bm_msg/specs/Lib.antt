@@ -4,3 +4,4 @@ pub mod Messages
 pub mod Carried
 pub mod Answers
 pub mod Reading
+pub mod Trees
