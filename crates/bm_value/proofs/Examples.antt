@@ -1,6 +1,6 @@
 -- Worked rows of the format, computed by the definitions.
-use Rattle.std.proofs.Common.{◌≡◌, ℕ, List, [], ◌∷◌, ◌++◌, inl, inr, length, Ok, Err, refl, lit<, lit≤}
-use Rattle.std.specs.Prelude.{pos, negsuc, true, false, Some, None}
+use Rattle.std.proofs.Common.{◌≡◌, ℕ, List, [], ◌∷◌, ◌++◌, inl, inr, Ok, refl, lit<, lit≤}
+use Rattle.std.specs.Prelude.{pos, negsuc, Some, None}
 use Rattle.std.specs.Str.{is_utf8, chars}
 use Rattle.std.specs.Char.{encode_utf8}
 use Rattle.bm_value.specs.declared.fault.DecodeError.TheVariants.{Truncated, Reserved, BadUtf8, TooDeep}
@@ -8,7 +8,7 @@ use Rattle.bm_value.specs.declared.row.Plain.TheVariants as plain
 use Rattle.bm_value.specs.declared.row.Size.TheVariants as size
 use Rattle.bm_value.specs.declared.row.Wide.TheVariants as wide
 use Rattle.bm_value.specs.Row.{row}
-use Rattle.bm_value.specs.Tree.{Tree, nil, bool, int, bits32, bits64, str, bin, array, dict, ext, Trees, none, item, Pairs, no_pairs, pair, depth, count}
+use Rattle.bm_value.specs.Tree.{Tree, nil, int, str, bin, array, dict, ext, none, item, no_pairs, pair, depth}
 use Rattle.bm_value.specs.Field.{field}
 use Rattle.bm_value.specs.Reading.{text_at, binary_at, extension_at, plain_at, items_at, pairs_at, value_at}
 use Rattle.bm_value.specs.Spelling.{Spells, Fails}
@@ -129,9 +129,11 @@ signed_256 = (plain.Signed wide.Two, refl, (256, record { len = refl; number = r
 -- `c4 00` in an array of one
 array_of_bin : Spells (0x91 ∷ 0xc4 ∷ 0 ∷ []) (array (item (bin []) none))
 unfolding row
-array_of_bin = (0xc4 ∷ 0 ∷ [],
-    record { first = 0x91; size = size.Here 1; head = []; parts = refl; begins = refl; counts = (refl, refl) },
-    (0xc4 ∷ 0 ∷ [], [], refl, (plain.Bin (size.Field wide.One), refl, (0 ∷ [], [], refl, record { len = refl; number = refl }, refl)), refl))
+array_of_bin = (
+  0xc4 ∷ 0 ∷ [],
+  record { first = 0x91; size = size.Here 1; head = []; parts = refl; begins = refl; counts = (refl, refl) },
+  (0xc4 ∷ 0 ∷ [], [], refl, (plain.Bin (size.Field wide.One), refl, (0 ∷ [], [], refl, record { len = refl; number = refl }, refl)), refl),
+)
 
 -- ---- first faults
 

@@ -6,7 +6,7 @@ use Rattle.bm_value.specs.declared.fault.DecodeError.TheVariants.{Truncated, Res
 use Rattle.bm_value.specs.Tree.{Tree, depth}
 use Rattle.bm_value.specs.Reading.{Answer, Refuses, value_at}
 use Rattle.bm_value.specs.Spelling.{Spells, PlainFails, FailsRow, Fails, FailsWithin}
-use Rattle.bm_value.specs.Decoding.{Reads, Trails}
+use Rattle.bm_value.specs.Decoding.{Trails}
 use Rattle.bm_value.specs.Row.{row}
 use Rattle.bm_value.specs.declared.row.Plain.{Plain}
 use Rattle.bm_value.specs.declared.row.Plain.TheVariants as plain

@@ -1,5 +1,5 @@
 -- The last pair with a key.
-use Rattle.std.proofs.Common.{◌≡◌, ℕ, zero, suc, ◌+◌, ◌-◌, ◌<◌, ◌≤◌, List, [], ◌∷◌, length, get_or, drop, map, sym, ap, ◌∙◌, arith}
+use Rattle.std.proofs.Common.{◌≡◌, true, false, ℕ, zero, suc, ◌+◌, ◌-◌, ◌<◌, ◌≤◌, List, [], ◌∷◌, length, get_or, drop, map, sym, ap, ◌∙◌, arith}
 use Rattle.std.specs.Prelude.{Option, Some, None, if◌then◌else◌}
 use Rattle.std.specs.Option.{option_or}
 use Rattle.std.proofs.lemmas.List.{drop_more}
@@ -28,3 +28,19 @@ pub last_stays : {A : Type 0} (key : List ℕ) (ps : List (Pair A)) (n : ℕ) (t
 last_stays key ps zero t h = h
 last_stays key [] (suc n) t h = h
 last_stays key (p ∷ ps) (suc n) t h = ap (λ o. option_or o (if is_str (pair_tree p).key key then Some (pair_tree p).value else None)) (last_stays key ps n t h)
+
+-- where this pair has the key and no later one, its value is the map's
+pub last_found : {A : Type 0} (key : List ℕ) (ps : List (Pair A)) (left : ℕ) (p : Pair A) → 0 < left → left ≤ length ps → p ≡ get_or ps (left - 1) p → last_in key (drop left ps) ≡ None → is_str (tree p.key) key ≡ true
+    → last_in key ps ≡ Some (tree p.value)
+last_found key ps left p lt le is none has =
+    let here = last_here key ps left p lt le is none in
+    let this : (if is_str (pair_tree p).key key then Some (pair_tree p).value else None) ≡ Some (tree p.value) =
+    ap (λ (q : TreePair). if is_str q.key key then Some q.value else None) (pair_is p) ∙ ap (λ b. if b then Some (tree p.value) else None) has in
+    last_stays key ps (left - 1) (tree p.value) (here ∙ this)
+
+-- and where it has another key, none of them has
+pub last_not : {A : Type 0} (key : List ℕ) (ps : List (Pair A)) (left : ℕ) (p : Pair A) → 0 < left → left ≤ length ps → p ≡ get_or ps (left - 1) p → last_in key (drop left ps) ≡ None → is_str (tree p.key) key ≡ false
+    → last_in key (drop (left - 1) ps) ≡ None
+last_not key ps left p lt le is none other =
+    let here = last_here key ps left p lt le is none in
+    here ∙ ap (λ (q : TreePair). if is_str q.key key then Some q.value else None) (pair_is p) ∙ ap (λ b. if b then Some (tree p.value) else None) other

@@ -1,11 +1,11 @@
 -- What is written is read back.
-use Rattle.std.proofs.Common.{◌≡◌, ℕ, ◌+◌, ◌≤◌, List, ◌++◌, length, take, refl, sym, subst, arith}
+use Rattle.std.proofs.Common.{◌≤◌, length, refl, sym, subst, arith}
 use Rattle.std.proofs.lemmas.List.{take_at, length-append}
 use Rattle.bm_value.specs.Tree.{Tree, depth}
 use Rattle.bm_value.specs.Spelling.{Spells}
 use Rattle.bm_value.specs.Limits.{IsShort, IsWellFormed}
 use Rattle.bm_value.specs.Writing.{written}
-use Rattle.bm_value.specs.Decoding.{Reads, IsReadBack}
+use Rattle.bm_value.specs.Decoding.{IsReadBack}
 use Rattle.bm_value.proofs.Spelled.{spelled}
 
 pub read_back : (t : Tree) → IsWellFormed t → IsShort t → depth t ≤ 32 → IsReadBack t

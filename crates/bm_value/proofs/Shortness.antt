@@ -1,9 +1,9 @@
 -- Whether the rest of a list has only short parts.
-use Rattle.std.proofs.Common.{◌≡◌, ℕ, ◌+◌, ◌<◌, ◌≤◌, ◌^◌, Bool, true, List, [], ◌∷◌, length, get_or, drop, map, refl, sym, ap, subst, ◌∙◌, arith}
+use Rattle.std.proofs.Common.{◌≡◌, ℕ, ◌+◌, ◌<◌, ◌≤◌, List, ◌∷◌, length, get_or, drop, map, sym, ap, subst, ◌∙◌}
 use Rattle.std.proofs.lemmas.List.{drop_more, drop_all}
 use Rattle.bm_value.specs.declared.value.Value.{Value}
 use Rattle.bm_value.specs.declared.value.Pair.{Pair}
-use Rattle.bm_value.specs.Tree.{Tree, Trees, none, item, Pairs as TreePairs, no_pairs, pair, TreePair}
+use Rattle.bm_value.specs.Tree.{Tree, Trees, item, Pairs as TreePairs, pair, TreePair}
 use Rattle.bm_value.specs.View.{tree, trees_of, pair_tree, pairs_of}
 use Rattle.bm_value.specs.Limits.{IsShort, AreShort, PairsAreShort, IsShortPair}
 

@@ -1,4 +1,4 @@
--- The table of first bytes.
+-- The table of first bytes (MessagePack specification, "Formats").
 use Rattle.std.specs.Prelude.{ℕ, ◌-◌, ◌^◌, true, false, nat_lt, ◌==◌, if◌then◌else◌}
 use Rattle.std.specs.Int.{Width, w8, w16, w32, w64, cast_signed}
 use Rattle.bm_value.specs.declared.row.Wide.{Wide}
@@ -21,7 +21,7 @@ limit wide.Two = 2 ^ 16
 limit wide.Four = 2 ^ 32
 limit wide.Eight = 2 ^ 64
 
--- the rows from c0 to df, by the distance from c0
+-- the rows of the first bytes from c0 to df
 abbrev pub middle_row : ℕ → Row
 middle_row b =
     if b == 0xc0 then rows.Plain plain.Nil else
@@ -57,6 +57,7 @@ middle_row b =
     if b == 0xde then rows.Map (size.Field wide.Two) else
     rows.Map (size.Field wide.Four)
 
+-- the row of a first byte
 unfoldable pub row : ℕ → Row
 row b =
     if nat_lt b 0x80 then rows.Plain (plain.Small (cast_signed w8 b)) else

@@ -24,7 +24,7 @@ mod writing;
 
 pub use bytes::{Bytes, Text};
 pub use fault::{DecodeError, EncodeError};
-pub use limits::{is_short, nests_within};
+pub use limits::{MAX_DEPTH, is_short, nests_within};
 pub use num::Num;
 pub use reading::{decode, decode_whole};
 pub use value::{Items, Pair, Pairs, Value};

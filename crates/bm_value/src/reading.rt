@@ -11,6 +11,7 @@ ghost use Rattle.bm_value.specs.Reading.{Gives, signed_at, text_at, binary_at, e
 use crate::bytes::{Bytes, Text};
 use crate::fault::DecodeError;
 use crate::front::{eight, four, length, number, one, take, two};
+use crate::limits::MAX_DEPTH;
 use crate::num::Num;
 use crate::row::{Plain, Row, Size, Wide, row_of};
 use crate::value::{Items, Pair, Pairs, Value};
@@ -272,7 +273,7 @@ pub fn decode<A: Allocator + Copy>(alloc: A, bytes: &[u8]) -> Result<(Value<A>, 
     // The first fault from the left is told, unless memory runs out.
     ensures refused { (f : DecodeError) → Fails bytes.now 0 f → Decodes result (Err f) }
 {
-    match read(alloc, bytes, 32) {
+    match read(alloc, bytes, MAX_DEPTH) {
         Ok((value, rest)) => {
             let taken = bytes.len() - rest.len();
             Ok((value, taken))
@@ -294,7 +295,7 @@ pub fn decode_whole<A: Allocator + Copy>(alloc: A, bytes: &[u8]) -> Result<Value
     ensures fault { IfErr result (λ e. e ≢ DecodeError.Mem → e ≢ DecodeError.Trailing → Fails bytes.now 0 e) }
     ensures refused { (f : DecodeError) → Fails bytes.now 0 f → DecodesWhole result (Err f) }
 {
-    match read(alloc, bytes, 32) {
+    match read(alloc, bytes, MAX_DEPTH) {
         Ok((value, rest)) => {
             if rest.is_empty() {
                 Ok(value)

@@ -1,7 +1,9 @@
 //! The written forms of each kind, and the first faults, by the tables of the format.
 
 use super::{fault_in, rewritten, written};
-use crate::{Bytes, DecodeError, EncodeError, Items, Num, Pair, Pairs, Text, Value, decode, decode_whole};
+use crate::{
+    Bytes, DecodeError, EncodeError, Items, Num, Pair, Pairs, Text, Value, decode, decode_whole,
+};
 use std::alloc::{AllocError, Global};
 use std::process::Abort;
 use std::test::Fail;
@@ -126,23 +128,53 @@ fn heads_take_the_fewest_bytes(rt: HostRuntime) -> Result<(), Fail> {
     begins(&rt, alloc, &str_of(alloc, 31)?, b"\xbf", 32)?;
     begins(&rt, alloc, &str_of(alloc, 32)?, b"\xd9\x20", 34)?;
     begins(&rt, alloc, &str_of(alloc, 256)?, b"\xda\x01\x00", 259)?;
-    begins(&rt, alloc, &str_of(alloc, 65536)?, b"\xdb\x00\x01\x00\x00", 65541)?;
+    begins(
+        &rt,
+        alloc,
+        &str_of(alloc, 65536)?,
+        b"\xdb\x00\x01\x00\x00",
+        65541,
+    )?;
     begins(&rt, alloc, &array_of(alloc, 15)?, b"\x9f", 16)?;
     begins(&rt, alloc, &array_of(alloc, 16)?, b"\xdc\x00\x10", 19)?;
-    begins(&rt, alloc, &array_of(alloc, 65536)?, b"\xdd\x00\x01\x00\x00", 65541)?;
+    begins(
+        &rt,
+        alloc,
+        &array_of(alloc, 65536)?,
+        b"\xdd\x00\x01\x00\x00",
+        65541,
+    )?;
     begins(&rt, alloc, &map_of(alloc, 15)?, b"\x8f", 31)?;
     begins(&rt, alloc, &map_of(alloc, 16)?, b"\xde\x00\x10", 35)?;
-    begins(&rt, alloc, &map_of(alloc, 65536)?, b"\xdf\x00\x01\x00\x00", 131077)?;
+    begins(
+        &rt,
+        alloc,
+        &map_of(alloc, 65536)?,
+        b"\xdf\x00\x01\x00\x00",
+        131077,
+    )?;
     begins(&rt, alloc, &bin_of(alloc, 0)?, b"\xc4\x00", 2)?;
     begins(&rt, alloc, &bin_of(alloc, 256)?, b"\xc5\x01\x00", 259)?;
-    begins(&rt, alloc, &bin_of(alloc, 65536)?, b"\xc6\x00\x01\x00\x00", 65541)?;
+    begins(
+        &rt,
+        alloc,
+        &bin_of(alloc, 65536)?,
+        b"\xc6\x00\x01\x00\x00",
+        65541,
+    )?;
     begins(&rt, alloc, &ext_of(alloc, 0)?, b"\xc7\x00\x05", 3)?;
     begins(&rt, alloc, &ext_of(alloc, 1)?, b"\xd4\x05", 3)?;
     begins(&rt, alloc, &ext_of(alloc, 2)?, b"\xd5\x05", 4)?;
     begins(&rt, alloc, &ext_of(alloc, 8)?, b"\xd7\x05", 10)?;
     begins(&rt, alloc, &ext_of(alloc, 16)?, b"\xd8\x05", 18)?;
     begins(&rt, alloc, &ext_of(alloc, 256)?, b"\xc8\x01\x00\x05", 260)?;
-    begins(&rt, alloc, &ext_of(alloc, 65536)?, b"\xc9\x00\x01\x00\x00\x05", 65542)?;
+    begins(
+        &rt,
+        alloc,
+        &ext_of(alloc, 65536)?,
+        b"\xc9\x00\x01\x00\x00\x05",
+        65542,
+    )?;
     Ok(())
 }
 
@@ -152,8 +184,18 @@ fn scalars_and_exts_are_written_as_the_format_says(rt: HostRuntime) -> Result<()
     is_written(&rt, alloc, &Value::Nil, b"\xc0")?;
     is_written(&rt, alloc, &Value::Bool(false), b"\xc2")?;
     is_written(&rt, alloc, &Value::Bool(true), b"\xc3")?;
-    is_written(&rt, alloc, &Value::Bits32(0x3f80_0000), b"\xca\x3f\x80\x00\x00")?;
-    is_written(&rt, alloc, &Value::Bits64(0x3ff0_0000_0000_0000), b"\xcb\x3f\xf0\x00\x00\x00\x00\x00\x00")?;
+    is_written(
+        &rt,
+        alloc,
+        &Value::Bits32(0x3f80_0000),
+        b"\xca\x3f\x80\x00\x00",
+    )?;
+    is_written(
+        &rt,
+        alloc,
+        &Value::Bits64(0x3ff0_0000_0000_0000),
+        b"\xcb\x3f\xf0\x00\x00\x00\x00\x00\x00",
+    )?;
     let four = Value::Ext(-1, Bytes::from_vec(Vec::from_slice(alloc, &[1, 2, 3, 4])?));
     is_written(&rt, alloc, &four, b"\xd6\xff\x01\x02\x03\x04")?;
     let three = Value::Ext(5, Bytes::from_vec(Vec::from_slice(alloc, &[1, 2, 3])?));
@@ -168,7 +210,10 @@ fn longer_formats_are_read_and_written_short(rt: HostRuntime) -> Result<(), Fail
     assert_eq!(rt; taken, 2);
     assert_eq!(rt; written(alloc, &five)?.as_slice(), b"\x05".as_slice());
     assert_eq!(rt; int_in(alloc, b"\xd1\x01\x00"), Some(256));
-    assert_eq!(rt; rewritten(alloc, b"\xd1\x01\x00")?.as_slice(), b"\xcd\x01\x00".as_slice());
+    assert_eq!(rt;
+        rewritten(alloc, b"\xd1\x01\x00")?.as_slice(),
+        b"\xcd\x01\x00".as_slice()
+    );
     Ok(())
 }
 

@@ -10,15 +10,21 @@ use std::test::Fail;
 
 pub const UPDATE_ZERO: &[u8] =
     b"\x84\xaaseq_number\x00\xa2op\xa6update\xaacommand_id\xa10\xa4args\x91\x92\xa6stdout\xa2a\n";
+
 pub const COMPLETE_ONE: &[u8] =
     b"\x84\xaaseq_number\x01\xa2op\xa8complete\xaacommand_id\xa10\xa4args\xc0";
+
 pub const RESPONSE_ZERO: &[u8] = b"\x83\xaaseq_number\x00\xa2op\xa8response\xa6result\xc0";
+
 pub const EXCEPTION_ONE: &[u8] =
     b"\x84\xaaseq_number\x01\xa2op\xa8response\xa6result\xafno such command\xacis_exception\xc3";
+
 pub const START_ZERO: &[u8] =
     b"\x85\xaaseq_number\x00\xa2op\xadstart_command\xaacommand_id\xa10\xaccommand_name\xa5shell\xa4args\x81\xa7command\x91\xa4true";
+
 pub const AUTH_ZERO: &[u8] =
     b"\x84\xaaseq_number\x00\xa2op\xa4auth\xa8username\xa2w0\xa8password\xa1p";
+
 pub const UPDATE_WITH_A_FLOAT: &[u8] =
     b"\x84\xaaseq_number\x00\xa2op\xa6update\xaacommand_id\xa10\xa4args\x91\x92\xa6stdout\x93\xa2x\n\x91\x01\x91\xcb\x3f\xf0\x00\x00\x00\x00\x00\x00";
 
@@ -79,7 +85,11 @@ fn every_proper_prefix_is_truncated(rt: HostRuntime) -> Result<(), Fail> {
     let mut prefixes = 0u32;
     for bytes in VECTORS {
         for n in 0..bytes.len() {
-            assert_eq!(rt; fault_in(rt.alloc(), &bytes[..n]), Some(DecodeError::Truncated), "at {n}");
+            assert_eq!(rt;
+                fault_in(rt.alloc(), &bytes[..n]),
+                Some(DecodeError::Truncated),
+                "at {n}"
+            );
             prefixes = prefixes.saturating_add(1);
         }
     }
@@ -91,7 +101,10 @@ fn every_proper_prefix_is_truncated(rt: HostRuntime) -> Result<(), Fail> {
 fn bytes_behind_a_value_are_trailing(rt: HostRuntime) -> Result<(), Fail> {
     let mut bytes = Vec::from_slice(rt.alloc(), UPDATE_ZERO)?;
     bytes.push(0)?;
-    assert_eq!(rt; decode_whole(rt.alloc(), &bytes).err(), Some(DecodeError::Trailing));
+    assert_eq!(rt;
+        decode_whole(rt.alloc(), &bytes).err(),
+        Some(DecodeError::Trailing)
+    );
     let (_, taken) = decode(rt.alloc(), &bytes)?;
     assert_eq!(rt; taken, 53);
     Ok(())

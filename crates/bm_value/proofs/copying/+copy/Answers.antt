@@ -1,6 +1,6 @@
-use Rattle.std.proofs.Common.{◌≡◌, map, sym, ap, ◌∙◌, arith, rules}
+use Rattle.std.proofs.Common.{map, sym, ap, ◌∙◌}
 use Rattle.bm_value.specs.Tree.{dict}
-use Rattle.bm_value.specs.View.{tree, trees_of, items_tree, pair_tree, pairs_of, pairs_tree, values_in, pairs_in}
+use Rattle.bm_value.specs.View.{tree, trees_of, pair_tree, pairs_of, values_in, pairs_in}
 use Rattle.bm_value.proofs.Copied.{map_more, map_whole}
 use Rattle.bm_value.proofs.Values.{items_tree-of, pairs_tree-of, tree-Map}
 use Rattle.bm_value.proofs.Written.{items_out, pairs_out}

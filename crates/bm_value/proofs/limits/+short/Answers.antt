@@ -1,11 +1,10 @@
-use Rattle.std.proofs.Common.{◌≡◌, ℕ, ◌<◌, ◌≤◌, ◌^◌, map, sym, ap, subst, ◌∙◌, rules, arith}
-use Rattle.std.proofs.lemmas.Grind.{common_steps}
-use Rattle.bm_value.specs.Tree.{Tree, array, dict, count, count_of_pairs}
-use Rattle.bm_value.specs.View.{tree, trees_of, items_tree, pair_tree, pairs_of, pairs_tree}
+use Rattle.std.proofs.Common.{◌≡◌, ◌<◌, ◌^◌, map, sym, ap, subst, ◌∙◌, rules, arith}
+use Rattle.bm_value.specs.Tree.{array, dict, count, count_of_pairs}
+use Rattle.bm_value.specs.View.{tree, items_tree, pair_tree, pairs_of, pairs_tree}
 use Rattle.bm_value.specs.Limits.{IsShort, AreShort, PairsAreShort, IsShortPair}
-use Rattle.bm_value.proofs.Shortness.{SameFact, item_rest, pair_rest, items_more, items_stop, pairs_more, pairs_stop, items_same, pairs_same, items_end, pairs_end}
+use Rattle.bm_value.proofs.Shortness.{item_rest, pair_rest, items_more, items_stop, pairs_more, pairs_stop, pairs_same}
 use Rattle.bm_value.proofs.Values.{tree-Array, tree-Map}
-use Rattle.bm_value.proofs.Written.{items_out, pairs_out, items_len, pairs_len}
+use Rattle.bm_value.proofs.Written.{pairs_out, items_len, pairs_len}
 use Rattle.bm_value.proofs.limits.+short.Goals as goal
 
 pub is_short-returns-then-fits_field : goal.is_short-returns-then-fits_field

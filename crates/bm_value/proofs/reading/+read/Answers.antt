@@ -1,38 +1,38 @@
 use Rattle.std.proofs.Common.{◌≡◌, [], ◌∷◌, ◌++◌, map, Ok, sym, ap, ◌∙◌, arith}
 use Rattle.std.proofs.lemmas.List.{map_push}
 use Rattle.bm_value.specs.View.{tree, pair_tree, pairs_tree}
-use Rattle.bm_value.specs.Reading.{value_at}
+use Rattle.bm_value.specs.Reading.{value_at, items_at, pairs_at}
 use Rattle.bm_value.proofs.Values.{first_byte, no_byte, gives_row, map_read, items_tree-of, pairs_tree-of, tree-Map}
 use Rattle.bm_value.proofs.Loops.{item_read, item_refused, items_done, pair_read, pair_refused, pairs_done}
 use Rattle.bm_value.proofs.reading.+read.Goals as goal
 
 pub items-returns-in-Err : goal.items-returns-in-Err
-items-returns-in-Err g t c = item_refused (value_at c.args.room) c.in-Err.e (map tree c.items.found.items) c.args.count c.items.counter c.items.rest.now _ c.items-test.true c.in-Err.ensures c.items.invariant
+items-returns-in-Err g t c = item_refused (value_at c.args.room) c.in-Err.e (map tree c.items.found.items) c.args.count c.items.counter c.items.rest.now (items_at (value_at c.args.room) c.args.count c.args.bytes.now) c.items-test.true c.in-Err.ensures c.items.invariant
 
 pub items-items-preserved : goal.items-items-preserved
 items-items-preserved g t c =
     let pushed : map tree c.push.new.self.items ≡ map tree c.items.found.items ++ tree c.in-Ok.item ∷ [] = rw c.in_ok-push-in-Ok.ensures.items (map_push _ c.items.found.items c.in-Ok.item) in
-    rw pushed (item_read (value_at c.args.room) (map tree c.items.found.items) c.args.count c.items.counter c.items.rest.now (tree c.in-Ok.item) c.in-Ok.after.now _ c.items-test.true c.in-Ok.ensures c.items.invariant)
+    rw pushed (item_read (value_at c.args.room) (map tree c.items.found.items) c.args.count c.items.counter c.items.rest.now (tree c.in-Ok.item) c.in-Ok.after.now (items_at (value_at c.args.room) c.args.count c.args.bytes.now) c.items-test.true c.in-Ok.ensures c.items.invariant)
 
 pub items-returns : goal.items-returns
 items-returns g t c =
-    items_done (value_at c.args.room) (map tree c.items.found.items) c.args.count c.items.counter c.items.rest.now _ c.items-test.false c.items.invariant ∙ ap (λ ts. Ok (ts, c.items.rest.now)) (sym (items_tree-of c.items.found))
+    items_done (value_at c.args.room) (map tree c.items.found.items) c.args.count c.items.counter c.items.rest.now (items_at (value_at c.args.room) c.args.count c.args.bytes.now) c.items-test.false c.items.invariant ∙ ap (λ ts. Ok (ts, c.items.rest.now)) (sym (items_tree-of c.items.found))
 
 pub map-returns-in-Ok : goal.map-returns-in-Ok
 map-returns-in-Ok g t c =
     map_read c.args.room c.args.size c.args.bytes.now c.in_ok-count.count c.in_ok-count.rest.now (pairs_tree c.in-Ok.pairs) c.in-Ok.rest.now (omega arith) c.in_ok-count.ensures c.in-Ok.ensures ∙ ap (λ x. Ok (x, c.in-Ok.rest.now)) (sym (tree-Map c.in-Ok.pairs))
 
 pub pairs-returns-in-Err : goal.pairs-returns-in-Err
-pairs-returns-in-Err g t c = pair_refused (value_at c.args.room) c.in-Err.e (map pair_tree c.pairs.found.items) c.args.count c.pairs.counter c.pairs.rest.now _ c.pairs-test.true c.in-Err.ensures c.pairs.invariant
+pairs-returns-in-Err g t c = pair_refused (value_at c.args.room) c.in-Err.e (map pair_tree c.pairs.found.items) c.args.count c.pairs.counter c.pairs.rest.now (pairs_at (value_at c.args.room) c.args.count c.args.bytes.now) c.pairs-test.true c.in-Err.ensures c.pairs.invariant
 
 pub pairs-pairs-preserved : goal.pairs-pairs-preserved
 pairs-pairs-preserved g t c =
     let pushed : map pair_tree c.push.new.self.items ≡ map pair_tree c.pairs.found.items ++ pair_tree c.in-Ok.pair ∷ [] = rw c.in_ok-push-in-Ok.ensures.items (map_push _ c.pairs.found.items c.in-Ok.pair) in
-    rw pushed (pair_read (value_at c.args.room) (map pair_tree c.pairs.found.items) c.args.count c.pairs.counter c.pairs.rest.now (pair_tree c.in-Ok.pair) c.in-Ok.after.now _ c.pairs-test.true c.in-Ok.ensures c.pairs.invariant)
+    rw pushed (pair_read (value_at c.args.room) (map pair_tree c.pairs.found.items) c.args.count c.pairs.counter c.pairs.rest.now (pair_tree c.in-Ok.pair) c.in-Ok.after.now (pairs_at (value_at c.args.room) c.args.count c.args.bytes.now) c.pairs-test.true c.in-Ok.ensures c.pairs.invariant)
 
 pub pairs-returns : goal.pairs-returns
 pairs-returns g t c =
-    pairs_done (value_at c.args.room) (map pair_tree c.pairs.found.items) c.args.count c.pairs.counter c.pairs.rest.now _ c.pairs-test.false c.pairs.invariant ∙ ap (λ ts. Ok (ts, c.pairs.rest.now)) (sym (pairs_tree-of c.pairs.found))
+    pairs_done (value_at c.args.room) (map pair_tree c.pairs.found.items) c.args.count c.pairs.counter c.pairs.rest.now (pairs_at (value_at c.args.room) c.args.count c.args.bytes.now) c.pairs-test.false c.pairs.invariant ∙ ap (λ ts. Ok (ts, c.pairs.rest.now)) (sym (pairs_tree-of c.pairs.found))
 
 pub read-returns-in-empty : goal.read-returns-in-empty
 read-returns-in-empty g t c = no_byte c.args.room c.args.bytes.now (omega arith)

@@ -25,9 +25,10 @@ put_each-returns-in_err-put-clause-puts g t c =
     rw p.1 (grows_then _ c.loop-value.out.items _ _ c.loop-value.invariant.0 c.in_err-put.ensures.puts)
 
 pub put_each-loop-value-preserved : goal.put_each-loop-value-preserved
-put_each-loop-value-preserved g t c =
-    (flat_more (λ v. written (tree v)) c.deref-value-items.result.now c.loop-value.value-index c.value-item.result _ _ _ c.loop-value-test.true c.value-item.is c.loop-value.invariant.0 c.in_ok-put.ensures.puts,
-    formed_more c.deref-value-items.result.now c.loop-value.value-index c.value-item.result c.loop-value-test.true c.value-item.is c.loop-value.invariant.1 c.in_ok-put.ensures.formed)
+put_each-loop-value-preserved g t c = (
+  flat_more (λ v. written (tree v)) c.deref-value-items.result.now c.loop-value.value-index c.value-item.result _ _ _ c.loop-value-test.true c.value-item.is c.loop-value.invariant.0 c.in_ok-put.ensures.puts,
+  formed_more c.deref-value-items.result.now c.loop-value.value-index c.value-item.result c.loop-value-test.true c.value-item.is c.loop-value.invariant.1 c.in_ok-put.ensures.formed,
+)
 
 pub put_each-returns-clause-puts : goal.put_each-returns-clause-puts
 put_each-returns-clause-puts g t c = flat_whole (λ v. written (tree v)) c.deref-value-items.result.now (values_in c.args.values.now) c.loop-value.value-index _ _ c.deref-value-items.ensures.value c.loop-value-test.false c.loop-value.invariant.0
@@ -49,9 +50,10 @@ put_pairs-returns-in_err-put_pair-clause-puts g t c =
     rw p.1 (grows_then _ c.loop-pair.out.items _ _ c.loop-pair.invariant.0 c.in_err-put_pair.ensures.puts)
 
 pub put_pairs-loop-pair-preserved : goal.put_pairs-loop-pair-preserved
-put_pairs-loop-pair-preserved g t c =
-    (flat_more (λ p. written_pair (pair_tree p)) c.deref-pair-items.result.now c.loop-pair.pair-index c.pair-item.result _ _ _ c.loop-pair-test.true c.pair-item.is c.loop-pair.invariant.0 c.in_ok-put_pair.ensures.puts,
-    pairs_formed_more c.deref-pair-items.result.now c.loop-pair.pair-index c.pair-item.result c.loop-pair-test.true c.pair-item.is c.loop-pair.invariant.1 c.in_ok-put_pair.ensures.formed)
+put_pairs-loop-pair-preserved g t c = (
+  flat_more (λ p. written_pair (pair_tree p)) c.deref-pair-items.result.now c.loop-pair.pair-index c.pair-item.result _ _ _ c.loop-pair-test.true c.pair-item.is c.loop-pair.invariant.0 c.in_ok-put_pair.ensures.puts,
+  pairs_formed_more c.deref-pair-items.result.now c.loop-pair.pair-index c.pair-item.result c.loop-pair-test.true c.pair-item.is c.loop-pair.invariant.1 c.in_ok-put_pair.ensures.formed,
+)
 
 pub put_pairs-returns-clause-puts : goal.put_pairs-returns-clause-puts
 put_pairs-returns-clause-puts g t c = flat_whole (λ p. written_pair (pair_tree p)) c.deref-pair-items.result.now (pairs_in c.args.pairs.now) c.loop-pair.pair-index _ _ c.deref-pair-items.ensures.value c.loop-pair-test.false c.loop-pair.invariant.0

@@ -1,4 +1,4 @@
-use Rattle.std.proofs.Common.{◌≡◌, ◌≤◌, rules}
+use Rattle.std.proofs.Common.{◌≤◌, rules}
 use Rattle.bm_value.specs.Limits.{IsShort}
 use Rattle.bm_value.specs.Tree.{depth}
 use Rattle.bm_value.specs.View.{tree}
