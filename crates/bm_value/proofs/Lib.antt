@@ -14,3 +14,4 @@ pub mod Keys
 pub mod Shortness
 pub mod Copied
 pub mod ReadBack
+pub mod Shortest
