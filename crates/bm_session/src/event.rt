@@ -40,6 +40,20 @@ impl Event {
         }
     }
 
+    /// An equal event. The lines of an update are shared.
+    pub fn copy(&self) -> Result<Event, AllocError>
+        ensures { IfOk result (λ event. event ≡ self.now) }
+    {
+        Ok(match self {
+            Event::Up => Event::Up,
+            Event::In(seq, body) => Event::In(*seq, body.copy()?),
+            Event::Go => Event::Go,
+            Event::Stop(command) => Event::Stop(*command),
+            Event::Cut => Event::Cut,
+            Event::Down => Event::Down,
+        })
+    }
+
     /// The request with this number, whose keys are missing or of another kind.
     pub fn bad_args(seq: u64) -> Event
         ensures { result ≡ Event.In seq Body.BadArgs }
@@ -75,6 +89,31 @@ pub enum Body {
 }
 
 impl Body {
+    /// An equal body. The lines of an update are shared.
+    pub fn copy(&self) -> Result<Body, AllocError>
+        ensures { IfOk result (λ body. body ≡ self.now) }
+    {
+        Ok(match self {
+            Body::Auth => Body::Auth,
+            Body::Update {
+                command,
+                parcel,
+                rc,
+            } => Body::Update {
+                command: *command,
+                parcel: parcel.copy()?,
+                rc: *rc,
+            },
+            Body::Complete { command, fault } => Body::Complete {
+                command: *command,
+                fault: *fault,
+            },
+            Body::BadArgs => Body::BadArgs,
+            Body::NoSuchOp => Body::NoSuchOp,
+            Body::Answered { fault } => Body::Answered { fault: *fault },
+        })
+    }
+
     /// What a request asks of a session.
     fn of_request(alloc: Global, request: Request) -> Result<Body, AllocError>
         ensures { IfOk result (λ body. body ≡ body_of (asked request)) }

@@ -1,5 +1,8 @@
+ghost use Rattle.std.specs.Prelude.{◌≡◌, IfOk};
+
 use crate::results::Results;
 use bm_lines::Parcel;
+use std::alloc::AllocError;
 
 /// What an event does to the logs.
 #[derive(Drop)]
@@ -12,4 +15,18 @@ pub enum Item {
     End(u64, Results),
     /// The session was given up: each open command ended with `Retry`.
     Gone,
+}
+
+impl Item {
+    /// An equal item. The lines are shared.
+    pub fn copy(&self) -> Result<Item, AllocError>
+        ensures { IfOk result (λ item. item ≡ self.now) }
+    {
+        Ok(match self {
+            Item::Open(command) => Item::Open(*command),
+            Item::Lines(command, parcel) => Item::Lines(*command, parcel.copy()?),
+            Item::End(command, result) => Item::End(*command, *result),
+            Item::Gone => Item::Gone,
+        })
+    }
 }

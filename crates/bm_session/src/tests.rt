@@ -5,8 +5,15 @@ use bm_value::{Num, Value};
 use std::alloc::{AllocError, Global};
 use std::test::Fail;
 
-/// How often a call is made where one request for memory is refused.
-const TRIES: usize = 2;
+/// Makes the value, once more after want of memory.
+fn again<T: Drop, F: Fn() -> Result<T, AllocError>>(make: F) -> Result<T, AllocError>
+    requires { F.IsAlwaysCallable make }
+{
+    match make() {
+        Ok(made) => Ok(made),
+        Err(_) => make(),
+    }
+}
 
 fn request(alloc: Global, seq: u8, request: Request) -> Result<Event, AllocError> {
     let seq = u64::from(seq);
@@ -19,20 +26,11 @@ fn fields(alloc: Global, field: Field) -> Result<Fields, AllocError> {
     Ok(fields)
 }
 
-fn try_update(alloc: Global, seq: u8, text: &str) -> Result<Event, AllocError> {
+/// An update of command 0, by a text of standard output.
+fn update(alloc: Global, seq: u8, text: &str) -> Result<Event, AllocError> {
     let text = Text::from_str(alloc, text)?;
     let fields = fields(alloc, Field::Text(Letter::O, text))?;
     request(alloc, seq, Request::Update { command: 0, fields })
-}
-
-/// An update of command 0, by a text of standard output.
-fn update(alloc: Global, seq: u8, text: &str) -> Result<Event, AllocError> {
-    for _ in 0..TRIES {
-        if let Ok(event) = try_update(alloc, seq, text) {
-            return Ok(event);
-        }
-    }
-    Err(AllocError)
 }
 
 /// An update of command 0, by a text of a named log.
@@ -51,54 +49,59 @@ fn code(alloc: Global, seq: u8, code: i64) -> Result<Event, AllocError> {
     request(alloc, seq, Request::Update { command: 0, fields })
 }
 
-fn complete(alloc: Global, seq: u8, fault: Option<Text>) -> Result<Event, AllocError> {
+/// A complete of command 0, with a fault where that has a text.
+fn complete(alloc: Global, seq: u8, fault: &str) -> Result<Event, AllocError> {
+    let fault = match fault {
+        "" => None,
+        fault => Some(Text::from_str(alloc, fault)?),
+    };
     request(alloc, seq, Request::Complete { command: 0, fault })
 }
 
-fn new_session(alloc: Global) -> Result<Session, AllocError> {
-    for _ in 0..TRIES {
-        if let Ok(session) = Session::new(alloc) {
-            return Ok(session);
-        }
-    }
-    Err(AllocError)
+fn auth(alloc: Global, seq: u8) -> Result<Event, AllocError> {
+    let username = Text::from_str(alloc, "w0")?;
+    let password = Text::from_str(alloc, "p")?;
+    let session = None;
+    let auth = Request::Auth {
+        username,
+        password,
+        session,
+    };
+    request(alloc, seq, auth)
 }
 
-/// Takes the event. After want of memory the session is as before, and the event that came back is tried again.
-fn take(session: &mut Session, event: Event) -> Result<(Reply, Option<Item>), Refusal> {
-    let mut event = event;
-    for _ in 0..TRIES {
-        let before = session.trace().len();
-        match session.ready(event) {
-            Ok(plan) => return Ok(session.commit(plan)),
-            Err((back, Refusal::Mem)) => {
-                if session.trace().len() != before {
-                    return Err(Refusal::Full);
-                }
-                event = back;
+fn unknown(alloc: Global, seq: u8, op: &str) -> Result<Event, AllocError> {
+    let op = Text::from_str(alloc, op)?;
+    request(alloc, seq, Request::Unknown { op })
+}
+
+/// Plans to take the event. After want of memory the session is as before, and the event that came back is
+/// tried again.
+fn planned(session: &mut Session, event: Event) -> Result<Plan, Refusal> {
+    let before = session.trace().len();
+    match session.ready(event) {
+        Err((event, Refusal::Mem)) if session.trace().len() == before => {
+            match session.ready(event) {
+                Ok(plan) => Ok(plan),
+                Err((_, reason)) => Err(reason),
             }
-            Err((_, reason)) => return Err(reason),
         }
+        Ok(plan) => Ok(plan),
+        Err((_, reason)) => Err(reason),
     }
-    Err(Refusal::Mem)
+}
+
+fn take(session: &mut Session, event: Event) -> Result<(Reply, Option<Item>), Refusal> {
+    match planned(session, event) {
+        Ok(plan) => Ok(session.commit(plan)),
+        Err(reason) => Err(reason),
+    }
 }
 
 fn reply_to(session: &mut Session, event: Event) -> Result<Reply, Refusal> {
     match take(session, event) {
         Ok((reply, _)) => Ok(reply),
         Err(reason) => Err(reason),
-    }
-}
-
-fn try_text(
-    alloc: Global,
-    session: &Session,
-    command: u64,
-    name: &str,
-) -> Result<Option<String>, AllocError> {
-    match session.log(alloc, command, name)? {
-        Some(block) => Ok(Some(content(alloc, block.lines())?)),
-        None => Ok(None),
     }
 }
 
@@ -109,12 +112,10 @@ fn text(
     command: u64,
     name: &str,
 ) -> Result<Option<String>, AllocError> {
-    for _ in 0..TRIES {
-        if let Ok(text) = try_text(alloc, session, command, name) {
-            return Ok(text);
-        }
+    match session.log(alloc, command, name)? {
+        Some(block) => Ok(Some(content(alloc, block.lines())?)),
+        None => Ok(None),
     }
-    Err(AllocError)
 }
 
 fn is_text(text: &Option<String>, wanted: &str) -> bool {
@@ -138,7 +139,7 @@ fn orders(alloc: Global) -> Result<Vec<Event>, AllocError> {
 #[test]
 fn run_passes_over_refused_events(rt: HostRuntime) -> Result<(), Fail> {
     let alloc = rt.alloc();
-    let (session, ran) = Session::run(alloc, orders(alloc)?)?;
+    let (session, ran) = again(|| Session::run(alloc, orders(alloc)?))?;
     assert_eq!(rt; ran.len(), 6);
     assert!(rt; matches!(&ran[0], Ran::Done(Reply::Silent, None)));
     assert!(rt; matches!(&ran[1], Ran::Refused(Refusal::AlreadyUp)));
@@ -155,9 +156,9 @@ fn run_passes_over_refused_events(rt: HostRuntime) -> Result<(), Fail> {
 
 #[test]
 fn item_is_given_once(rt: HostRuntime) -> Result<(), Fail> {
-    let mut session = new_session(rt.alloc())?;
+    let mut session = again(|| Session::new(rt.alloc()))?;
     assert_eq!(rt; reply_to(&mut session, Event::Up), Ok(Reply::Silent));
-    let Ok(mut plan) = session.ready(Event::Go) else {
+    let Ok(mut plan) = planned(&mut session, Event::Go) else {
         return Err(Fail::from(AllocError));
     };
     assert!(rt; matches!(plan.take_item(), Some(Item::Open(0))));
@@ -171,9 +172,9 @@ fn item_is_given_once(rt: HostRuntime) -> Result<(), Fail> {
 
 #[test]
 fn withdrawn_event_comes_back(rt: HostRuntime) -> Result<(), Fail> {
-    let mut session = new_session(rt.alloc())?;
+    let mut session = again(|| Session::new(rt.alloc()))?;
     assert_eq!(rt; reply_to(&mut session, Event::Up), Ok(Reply::Silent));
-    let Ok(plan) = session.ready(Event::Go) else {
+    let Ok(plan) = planned(&mut session, Event::Go) else {
         return Err(Fail::from(AllocError));
     };
     let event = session.withdraw(plan);
@@ -186,18 +187,35 @@ fn withdrawn_event_comes_back(rt: HostRuntime) -> Result<(), Fail> {
 #[test]
 fn resumed_session_doubles_no_line(rt: HostRuntime) -> Result<(), Fail> {
     let alloc = rt.alloc();
-    let mut session = new_session(alloc)?;
+    let mut session = again(|| Session::new(alloc))?;
     let done = |seq| Ok(Reply::Answer(seq, Verdict::Done));
     assert_eq!(rt; reply_to(&mut session, Event::Up), Ok(Reply::Silent));
     assert_eq!(rt; reply_to(&mut session, Event::Go), Ok(Reply::Start(0, 0)));
-    assert_eq!(rt; reply_to(&mut session, update(alloc, 0, "a\n")?), done(0));
-    assert_eq!(rt; reply_to(&mut session, update(alloc, 1, "b\n")?), done(1));
+    assert_eq!(rt;
+        reply_to(&mut session, again(|| update(alloc, 0, "a\n"))?),
+        done(0)
+    );
+    assert_eq!(rt;
+        reply_to(&mut session, again(|| update(alloc, 1, "b\n"))?),
+        done(1)
+    );
     assert_eq!(rt; reply_to(&mut session, Event::Cut), Ok(Reply::Silent));
     assert_eq!(rt; reply_to(&mut session, Event::Go), Err(Refusal::NotUp));
     assert_eq!(rt; reply_to(&mut session, Event::Up), Ok(Reply::Silent));
-    assert_eq!(rt; reply_to(&mut session, update(alloc, 1, "b\n")?), done(1));
-    assert_eq!(rt; reply_to(&mut session, update(alloc, 2, "c\n")?), done(2));
-    assert!(rt; is_text(&text(alloc, &session, 0, "stdio")?, "oa\nob\noc\n"));
+    assert_eq!(rt;
+        reply_to(&mut session, again(|| update(alloc, 1, "b\n"))?),
+        done(1)
+    );
+    assert_eq!(rt;
+        reply_to(&mut session, again(|| update(alloc, 2, "c\n"))?),
+        done(2)
+    );
+    assert!(rt;
+        is_text(
+            &again(|| text(alloc, &session, 0, "stdio"))?,
+            "oa\nob\noc\n"
+        )
+    );
     assert_eq!(rt; session.outcome(0), None);
     assert_eq!(rt; reply_to(&mut session, Event::Down), Ok(Reply::Silent));
     assert_eq!(rt; session.outcome(0), Some(Results::Retry));
@@ -207,32 +225,32 @@ fn resumed_session_doubles_no_line(rt: HostRuntime) -> Result<(), Fail> {
 #[test]
 fn named_log_is_there_from_its_first_block(rt: HostRuntime) -> Result<(), Fail> {
     let alloc = rt.alloc();
-    let mut session = new_session(alloc)?;
+    let mut session = again(|| Session::new(alloc))?;
     assert_eq!(rt; reply_to(&mut session, Event::Up), Ok(Reply::Silent));
-    assert!(rt; text(alloc, &session, 0, "stdio")?.is_none());
+    assert!(rt; again(|| text(alloc, &session, 0, "stdio"))?.is_none());
     assert_eq!(rt; reply_to(&mut session, Event::Go), Ok(Reply::Start(0, 0)));
-    let event = named(alloc, 0, "l", "x\n")?;
+    let event = again(|| named(alloc, 0, "l", "x\n"))?;
     let Ok((_, Some(Item::Lines(0, parcel)))) = take(&mut session, event) else {
         return Err(Fail::from(AllocError));
     };
     assert_eq!(rt; parcel.parts().len(), 1);
-    assert!(rt; is_text(&text(alloc, &session, 0, "stdio")?, ""));
-    assert!(rt; is_text(&text(alloc, &session, 0, "l")?, "ox\n"));
-    assert!(rt; text(alloc, &session, 0, "m")?.is_none());
+    assert!(rt; is_text(&again(|| text(alloc, &session, 0, "stdio"))?, ""));
+    assert!(rt; is_text(&again(|| text(alloc, &session, 0, "l"))?, "ox\n"));
+    assert!(rt; again(|| text(alloc, &session, 0, "m"))?.is_none());
     Ok(())
 }
 
 #[test]
 fn last_exit_code_counts(rt: HostRuntime) -> Result<(), Fail> {
     let alloc = rt.alloc();
-    let mut session = new_session(alloc)?;
+    let mut session = again(|| Session::new(alloc))?;
     assert_eq!(rt; reply_to(&mut session, Event::Up), Ok(Reply::Silent));
     assert_eq!(rt; reply_to(&mut session, Event::Go), Ok(Reply::Start(0, 0)));
     for (seq, rc) in [(0, 3), (1, 0)] {
-        let event = code(alloc, seq, rc)?;
+        let event = again(|| code(alloc, seq, rc))?;
         assert!(rt; take(&mut session, event).is_ok());
     }
-    let event = complete(alloc, 2, None)?;
+    let event = again(|| complete(alloc, 2, ""))?;
     let Ok((_, Some(Item::End(0, result)))) = take(&mut session, event) else {
         return Err(Fail::from(AllocError));
     };
@@ -244,23 +262,21 @@ fn last_exit_code_counts(rt: HostRuntime) -> Result<(), Fail> {
 #[test]
 fn requests_have_their_verdicts(rt: HostRuntime) -> Result<(), Fail> {
     let alloc = rt.alloc();
-    let mut session = new_session(alloc)?;
+    let mut session = again(|| Session::new(alloc))?;
     assert_eq!(rt; reply_to(&mut session, Event::Up), Ok(Reply::Silent));
-    let no_such_op = Verdict::NoSuchOp;
-    let auth = Request::Auth {
-        username: Text::from_str(alloc, "w0")?,
-        password: Text::from_str(alloc, "p")?,
-        session: None,
-    };
-    let op = Text::from_str(alloc, "upload")?;
-    let fault = Some(Text::from_str(alloc, "cannot start")?);
     for (event, verdict) in [
-        (request(alloc, 4, auth)?, Verdict::AuthAgain),
+        (again(|| auth(alloc, 4))?, Verdict::AuthAgain),
         (Event::bad_args(4), Verdict::AuthAgain),
         (Event::bad_args(5), Verdict::BadArgs),
-        (request(alloc, 6, Request::Unknown { op })?, no_such_op),
-        (request(alloc, 7, Request::Keepalive)?, no_such_op),
-        (complete(alloc, 8, fault)?, Verdict::NoCommand),
+        (again(|| unknown(alloc, 6, "upload"))?, Verdict::NoSuchOp),
+        (
+            again(|| request(alloc, 7, Request::Keepalive))?,
+            Verdict::NoSuchOp,
+        ),
+        (
+            again(|| complete(alloc, 8, "cannot start"))?,
+            Verdict::NoCommand,
+        ),
     ] {
         let Ok(Reply::Answer(_, said)) = reply_to(&mut session, event) else {
             return Err(Fail::from(AllocError));
@@ -273,7 +289,7 @@ fn requests_have_their_verdicts(rt: HostRuntime) -> Result<(), Fail> {
 #[test]
 fn refused_start_ends_the_command(rt: HostRuntime) -> Result<(), Fail> {
     let alloc = rt.alloc();
-    let mut session = new_session(alloc)?;
+    let mut session = again(|| Session::new(alloc))?;
     assert_eq!(rt; reply_to(&mut session, Event::Up), Ok(Reply::Silent));
     assert_eq!(rt; reply_to(&mut session, Event::Go), Ok(Reply::Start(0, 0)));
     let response = Response {
@@ -284,6 +300,36 @@ fn refused_start_ends_the_command(rt: HostRuntime) -> Result<(), Fail> {
     let event = Event::of_message(alloc, Message::Response(response))?;
     assert_eq!(rt; reply_to(&mut session, event), Ok(Reply::Silent));
     assert_eq!(rt; session.outcome(0), Some(Results::Exception));
+    Ok(())
+}
+
+#[test]
+fn copies_are_equal(rt: HostRuntime) -> Result<(), Fail> {
+    let alloc = rt.alloc();
+    let event = again(|| named(alloc, 3, "l", "x\ny\n")?.copy())?;
+    let Event::In(
+        3,
+        Body::Update {
+            command: 0,
+            parcel,
+            rc: None,
+        },
+    ) = event
+    else {
+        return Err(Fail::from(AllocError));
+    };
+    let ran = Ran::Done(
+        Reply::Silent,
+        Some(Item::Lines(0, again(|| parcel.copy())?)),
+    );
+    let Ran::Done(Reply::Silent, Some(item)) = again(|| ran.copy())? else {
+        return Err(Fail::from(AllocError));
+    };
+    let Item::Lines(0, parcel) = again(|| item.copy())? else {
+        return Err(Fail::from(AllocError));
+    };
+    let block = parcel.of("l");
+    assert!(rt; block.is_some_and(|block| block.lines().len() == 2));
     Ok(())
 }
 
@@ -299,7 +345,7 @@ fn results_and_reasons_have_their_texts(rt: HostRuntime) -> Result<(), Fail> {
         (Results::Retry, "RETRY"),
         (Results::Cancelled, "CANCELLED"),
     ] {
-        assert_eq!(rt; format!(in alloc; "{result}")?.as_str(), name);
+        assert_eq!(rt; again(|| format!(in alloc; "{result}"))?.as_str(), name);
     }
     for (verdict, text) in [
         (Verdict::Done, "nil"),
@@ -308,7 +354,7 @@ fn results_and_reasons_have_their_texts(rt: HostRuntime) -> Result<(), Fail> {
         (Verdict::AuthAgain, "already authenticated"),
         (Verdict::NoSuchOp, "no such operation"),
     ] {
-        assert_eq!(rt; format!(in alloc; "{verdict}")?.as_str(), text);
+        assert_eq!(rt; again(|| format!(in alloc; "{verdict}"))?.as_str(), text);
     }
     for (reason, text) in [
         (Refusal::NotUp, "not up"),
@@ -318,7 +364,7 @@ fn results_and_reasons_have_their_texts(rt: HostRuntime) -> Result<(), Fail> {
         (Refusal::Full, "full"),
         (Refusal::Mem, "out of memory"),
     ] {
-        assert_eq!(rt; format!(in alloc; "{reason}")?.as_str(), text);
+        assert_eq!(rt; again(|| format!(in alloc; "{reason}"))?.as_str(), text);
     }
     Ok(())
 }

@@ -8,9 +8,9 @@ use crate::event::{Body, Event};
 use crate::item::Item;
 use crate::refusal::Refusal;
 use crate::reply::{Reply, Verdict};
+use crate::scan::connection::{begins_session, commands, is_cut, is_request, is_up, orders};
 use crate::scan::logs::{result_at, updates};
 use crate::scan::open::{ended_by, is_open, open_count};
-use crate::scan::place::{begins_session, commands, is_cut, is_request, is_up, orders};
 use std::alloc::AllocError;
 
 /// The verdict on a fresh request.

@@ -8,8 +8,8 @@ ghost use Rattle.bm_session.specs.Trace.{updates as updates_of, last_rc as last_
 
 use crate::event::{Body, Event};
 use crate::results::Results;
+use crate::scan::connection::{commands, is_new};
 use crate::scan::open::{ends, is_open};
-use crate::scan::place::{commands, is_new};
 use bm_lines::{Line, Parcel};
 use bm_value::Num;
 use std::alloc::{AllocError, Global};

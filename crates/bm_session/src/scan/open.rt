@@ -4,7 +4,7 @@ ghost use Rattle.bm_session.specs.Events.{is_go};
 ghost use Rattle.bm_session.specs.Trace.{was_order as was_order_in, is_open as is_open_in, ends_at, open_commands, ended_by as ended_by_of};
 
 use crate::event::{Body, Event};
-use crate::scan::place::{commands, is_new, orders_after};
+use crate::scan::connection::{commands, is_new, orders_after};
 
 /// Whether the event starts the command by the order with the number, where so many came before it.
 fn starts(e: &Event, commands: u64, orders: u64, command: u64, number: u64) -> bool
