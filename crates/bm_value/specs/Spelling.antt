@@ -1,4 +1,4 @@
--- Which bytes spell a tree, and where bytes that begin with no tree go wrong.
+-- Which bytes spell a tree, and where bytes that begin with no tree go wrong (MessagePack specification).
 use Rattle.std.specs.Prelude.{◌≡◌, ℕ, zero, suc, ◌+◌, ◌-◌, ◌*◌, ◌<◌, ◌≤◌, ◌⊎◌, pos, List, [], ◌∷◌, ◌++◌, length}
 use Rattle.std.specs.Int.{Width, w8, w32, w64, byte_len, from_be_bytes, cast_signed}
 use Rattle.std.specs.Str.{IsUtf8}
@@ -18,12 +18,13 @@ pub record IsField (w : Width) (bytes : List ℕ) (n : ℕ) : Type 0 where
   pub len : length bytes ≡ byte_len w
   pub number : from_be_bytes w bytes ≡ n
 
--- these bytes, behind the first byte, are the length
+-- these bytes, behind the first byte, are the length or the count
 abbrev pub IsLength : Size → List ℕ → ℕ → Type 0
 IsLength (size.Here k) bytes n = (bytes ≡ []) × (n ≡ k)
 IsLength (size.Field w) bytes n = IsField (width w) bytes n
 
--- what stands behind the first byte of a value with no value inside
+-- What stands behind the first byte of a value with no value inside: nothing, a number's field, or a length, an ext's type
+-- and so many bytes. A str's bytes are UTF-8.
 abbrev pub IsPlain : Plain → List ℕ → Tree → Type 0
 IsPlain plain.Nil bytes t = (bytes ≡ []) × (t ≡ nil)
 IsPlain (plain.Bool b) bytes t = (bytes ≡ []) × (t ≡ bool b)
@@ -41,7 +42,7 @@ abbrev pub SpellsPlain : List ℕ → Tree → Type 0
 SpellsPlain [] t = ⊥
 SpellsPlain (b ∷ bytes) t = (p : Plain) × (row b ≡ rows.Plain p) × IsPlain p bytes t
 
--- a first byte of this row, a count, and what the count is of
+-- a first byte of this row, a count of n, and the values that are counted
 pub record Opens (kind : Size → Row) (bytes : List ℕ) (n : ℕ) (rest : List ℕ) : Type 0 where
   pub first : ℕ
   pub size : Size
@@ -82,6 +83,7 @@ LacksLength (size.Field w) bytes = length bytes < byte_len (width w)
 abbrev pub LacksBytes : Size → ℕ → List ℕ → Type 0
 LacksBytes s between bytes = (head : List ℕ) × (rest : List ℕ) × (n : ℕ) × (bytes ≡ head ++ rest) × IsLength s head n × (length rest < between + n)
 
+-- a fault behind the first byte of a value with no value inside
 abbrev pub PlainFails : Plain → List ℕ → DecodeError → Type 0
 PlainFails plain.Nil bytes f = ⊥
 PlainFails (plain.Bool b) bytes f = ⊥
@@ -95,14 +97,15 @@ PlainFails (plain.Str s) bytes f = ((LacksLength s bytes ⊎ LacksBytes s 0 byte
 PlainFails (plain.Bin s) bytes f = (LacksLength s bytes ⊎ LacksBytes s 0 bytes) × (f ≡ Truncated)
 PlainFails (plain.Ext s) bytes f = (LacksLength s bytes ⊎ LacksBytes s 1 bytes) × (f ≡ Truncated)
 
--- a fault behind a first byte of this row, where inside says which faults a child may have
+-- a fault behind a first byte of this row; inside says it of an array or a map, whose entries are of so many values each
 abbrev pub FailsRow : Row → List ℕ → DecodeError → (ℕ → Size → Type 0) → Type 0
 FailsRow (rows.Plain p) bytes f inside = PlainFails p bytes f
 FailsRow rows.Reserved bytes f inside = f ≡ Reserved
 FailsRow (rows.Array s) bytes f inside = inside 1 s
 FailsRow (rows.Map s) bytes f inside = inside 2 s
 
--- The first fault from the left is f, where arrays and maps may nest so deep.
+-- The first fault from the left is f, where arrays and maps may nest so deep. Inside one of them, the first values are
+-- spelled by trees that nest no deeper, and the next value, of those that are counted, fails.
 abbrev pub FailsWithin : ℕ → List ℕ → DecodeError → Type 0
 FailsWithin zero [] f = f ≡ Truncated
 FailsWithin zero (b ∷ bytes) f = FailsRow (row b) bytes f (λ each s. f ≡ TooDeep)

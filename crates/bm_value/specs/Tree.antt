@@ -1,4 +1,4 @@
--- MessagePack trees.
+-- MessagePack trees. A float is kept as its bits, a str as the bytes of its text.
 use Rattle.std.specs.Prelude.{ℕ, suc, max, ℤ, List, Bool}
 
 mutual
@@ -27,6 +27,7 @@ pub record TreePair : Type 0 where
   pub key : Tree
   pub value : Tree
 
+-- 0 for a value with no value inside; of an array or a map one more than of its deepest child, and 1 where it is empty
 abbrev mutual
   pub depth : Tree → ℕ
   depth nil = 0

@@ -1,4 +1,4 @@
--- A value as a tree, without where it lies in memory.
+-- A value as a tree, without where it lies in memory. Contracts see values by `tree`, never by their fields.
 use Rattle.std.specs.Prelude.{List, [], ◌∷◌}
 use Rattle.bm_value.specs.Tree.{Tree, nil, bool, int, bits32, bits64, str, bin, array, dict, ext, Trees, none, item, Pairs as TreePairs, no_pairs, pair, TreePair}
 use Rattle.bm_value.specs.declared.value.Value.{Value}

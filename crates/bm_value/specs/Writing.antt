@@ -1,4 +1,5 @@
--- The written form: of each kind the format with the fewest bytes.
+-- The written form (MessagePack specification): of each kind the format with the fewest bytes. A number of at least 0 is
+-- written as unsigned, one below as signed. Pairs stand in the map's order.
 use Rattle.std.specs.Prelude.{◌≡◌, ℕ, ◌+◌, ◌^◌, ◌==◌, ℤ, pos, negsuc, List, [], ◌∷◌, ◌++◌, length, Result, Ok, Err, nat_lt, if◌then◌else◌}
 use Rattle.std.specs.Int.{Width, w8, w16, w32, w64, to_be_bytes, cast_unsigned}
 use Rattle.bm_value.specs.Tree.{Tree, nil, bool, int, bits32, bits64, str, bin, array, dict, ext, Trees, none, item, Pairs, no_pairs, pair, TreePair, count, count_of_pairs}
@@ -15,7 +16,7 @@ unsigned n =
     if nat_lt n (2 ^ 32) then headed 0xce w32 n else
     headed 0xcf w64 n
 
--- of -1 - n
+-- the number -1 - n
 unfoldable pub negative : ℕ → List ℕ
 negative n =
     if nat_lt n 32 then cast_unsigned w8 (negsuc n) ∷ [] else
