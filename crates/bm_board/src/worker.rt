@@ -1,0 +1,8 @@
+/// A worker as the board sees it.
+#[derive(Clone, Copy, Debug)]
+pub struct Worker {
+    /// How many builds it runs at a time.
+    pub slots: u8,
+    /// Whether it takes a build now.
+    pub ready: bool,
+}
