@@ -1,3 +1,6 @@
+ghost use Rattle.std.specs.Prelude.{IfOk};
+ghost use Rattle.bm_session.specs.Session.{IsPlanFor};
+
 use super::*;
 use bm_lines::{Letter, LogName, Text, content};
 use bm_msg::{Field, Fields, Message, Numbered, Request, Response};
@@ -77,7 +80,9 @@ fn unknown(alloc: Global, seq: u8, op: &str) -> Result<Event, AllocError> {
 
 /// Plans to take the event. After want of memory the session is as before, and the event that came back is
 /// tried again.
-fn planned(session: &mut Session, event: Event) -> Result<Plan, Refusal> {
+fn planned(session: &mut Session, event: Event) -> Result<Plan, Refusal>
+    ensures { IfOk result (λ plan. IsPlanFor session.new plan) }
+{
     let before = session.trace().len();
     match session.ready(event) {
         Err((event, Refusal::Mem)) if session.trace().len() == before => {
