@@ -5,3 +5,6 @@ pub mod Numerals
 pub mod KeyValues
 pub mod KindNames
 pub mod Readings
+pub mod TreeLists
+pub mod Writable
+pub mod ReadsBack

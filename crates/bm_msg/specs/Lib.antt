@@ -5,3 +5,5 @@ pub mod Carried
 pub mod Answers
 pub mod Reading
 pub mod Trees
+pub mod Limits
+pub mod Laws

@@ -9,12 +9,16 @@ mod field;
 mod items;
 mod keys;
 mod kind;
+pub mod laws;
+mod limits;
 mod message;
 mod reading;
 mod request;
+mod writing;
 
 pub use fault::MsgError;
 pub use field::{Field, Fields};
 pub use message::{Message, Numbered, Response};
 pub use reading::read;
 pub use request::Request;
+pub use writing::{write_request, write_response};

@@ -1,0 +1,44 @@
+-- What is written reads back as the same message.
+use Rattle.std.specs.Prelude.{◌≡◌, ℕ, ◌<◌, ◌≤◌, ◌^◌, Bool, true, false, List, [], ◌∷◌, length, Option, Some, None}
+use Rattle.bm_value.specs.Tree.{Tree, str}
+use Rattle.bm_lines.specs.Names.{IsLogName}
+use Rattle.bm_msg.specs.declared.field.Field.{Field}
+use Rattle.bm_msg.specs.declared.field.Field.TheVariants.{Text, Named, Rc}
+use Rattle.bm_msg.specs.Meaning.{Asked, auth, print, keepalive, get_worker_info, start_command, interrupt_command, shutdown, update, complete, unknown, Meaning, request, response}
+use Rattle.bm_msg.specs.Messages.{IsMessage, is_op}
+use Rattle.bm_msg.specs.Trees.{tree_of}
+
+-- the names of named texts are names of logs, as in every field
+abbrev pub AreNamed : List Field → Type 0
+AreNamed [] = Unit {0}
+AreNamed (Text letter text ∷ fields) = AreNamed fields
+AreNamed (Named name text ∷ fields) = IsLogName name × AreNamed fields
+AreNamed (Rc z ∷ fields) = AreNamed fields
+
+-- a session has 1 to 64 bytes
+abbrev pub IsSession : Option (List ℕ) → Type 0
+IsSession None = Unit {0}
+IsSession (Some s) = (1 ≤ length s) × (length s ≤ 64)
+
+-- a command's number is below 2^63, and an unknown operation is none of the protocol
+abbrev pub IsPlain : Asked → Type 0
+IsPlain (auth username password session) = IsSession session
+IsPlain (update command fields) = (command < 2 ^ 63) × AreNamed fields
+IsPlain (complete command fault) = command < 2 ^ 63
+IsPlain (start_command command name args) = command < 2 ^ 63
+IsPlain (interrupt_command command why) = command < 2 ^ 63
+IsPlain (unknown op) = is_op op ≡ false
+IsPlain _ = Unit {0}
+
+-- an exception's result is a str
+abbrev pub IsPlainResult : Bool → Tree → Type 0
+IsPlainResult true t = (s : List ℕ) × (t ≡ str s)
+IsPlainResult false t = Unit {0}
+
+abbrev pub IsPlainMessage : Meaning → Type 0
+IsPlainMessage (request n asked) = (n < 2 ^ 63) × IsPlain asked
+IsPlainMessage (response n result exception) = (n < 2 ^ 63) × IsPlainResult exception result
+
+-- The tree that a message is written as is that message.
+abbrev pub WrittenIsMessage : Type 0
+WrittenIsMessage = (m : Meaning) → IsPlainMessage m → IsMessage (tree_of m) m

@@ -1,0 +1,112 @@
+//! Tests of what can be written.
+
+ghost use Rattle.std.specs.Prelude.{◌≡◌, ◌<◌, ◌≤◌, ◌^◌, ◌↔◌, IsTrue, length, drop};
+ghost use Rattle.bm_value.specs.Tree.{depth};
+ghost use Rattle.bm_value.specs.View.{tree};
+ghost use Rattle.bm_value.specs.Limits.{IsShort};
+ghost use Rattle.bm_msg.specs.Meaning.{asked};
+ghost use Rattle.bm_msg.specs.Limits.{args_depth, IsShortField, AreShortFields, IsShortOption, IsShortRequest, request_tree, response_tree};
+
+use crate::field::{Field, Fields};
+use crate::message::{Numbered, Response};
+use crate::request::Request;
+use bm_lines::Text;
+use bm_value::{is_short, nests_within};
+
+/// Whether a request's args nest no deeper than a map with them may.
+fn args_nest(request: &Request) -> bool
+    ensures { IsTrue result ↔ (args_depth (asked request.now) ≤ 31) }
+{
+    match request {
+        Request::StartCommand { args, .. } => nests_within(args, 31),
+        _ => true,
+    }
+}
+
+fn fits(text: &str) -> bool
+    ensures { IsTrue result ↔ (length text.now < 2 ^ 32) }
+{
+    text.len() < 1 << 32
+}
+
+fn field_is_short(field: &Field) -> bool
+    ensures { IsTrue result ↔ IsShortField field.now }
+{
+    match field {
+        Field::Text(_, said) => fits(said.as_str()),
+        Field::Named(name, said) => fits(name.as_str()) && fits(said.as_str()),
+        Field::Rc(_) => true,
+    }
+}
+
+fn each_is_short(fields: &[Field]) -> bool
+    ensures { IsTrue result ↔ AreShortFields fields.now }
+{
+    for field in fields {
+        if !field_is_short(field) {
+            return false;
+        }
+    }
+    true
+}
+
+fn option_is_short(said: &Option<Text>) -> bool
+    ensures { IsTrue result ↔ IsShortOption said.now }
+{
+    match said {
+        Some(said) => fits(said.as_str()),
+        None => true,
+    }
+}
+
+fn request_is_short(request: &Request) -> bool
+    ensures { IsTrue result ↔ IsShortRequest (asked request.now) }
+{
+    match request {
+        Request::Auth {
+            username,
+            password,
+            session,
+        } => fits(username.as_str()) && fits(password.as_str()) && option_is_short(session),
+        Request::Print { message } => fits(message.as_str()),
+        Request::Keepalive => true,
+        Request::GetWorkerInfo => true,
+        Request::Shutdown => true,
+        Request::StartCommand { name, args, .. } => fits(name.as_str()) && is_short(args),
+        Request::InterruptCommand { why, .. } => fits(why.as_str()),
+        Request::Update { fields, .. } => {
+            let fields = fields.as_slice();
+            fields.len() < 1 << 32 && each_is_short(fields)
+        }
+        Request::Complete { fault, .. } => option_is_short(fault),
+        Request::Unknown { op } => fits(op.as_str()),
+    }
+}
+
+/// Whether the request's tree nests no deeper than 32.
+pub fn request_nests(message: &Numbered) -> bool
+    ensures { IsTrue result ↔ (depth (request_tree message.now) ≤ 32) }
+{
+    args_nest(&message.request)
+}
+
+/// Whether no part of the request's tree is longer than 2^32-1.
+pub fn is_short_request(message: &Numbered) -> bool
+    ensures { IsTrue result ↔ IsShort (request_tree message.now) }
+{
+    request_is_short(&message.request)
+}
+
+/// Whether the response's tree nests no deeper than 32.
+pub fn response_nests(message: &Response) -> bool
+    ensures { IsTrue result ↔ (depth (response_tree message.now) ≤ 32) }
+{
+    nests_within(&message.result, 31)
+}
+
+/// Whether no part of the response's tree is longer than 2^32-1.
+pub fn is_short_response(message: &Response) -> bool
+    ensures { IsTrue result ↔ IsShort (response_tree message.now) }
+{
+    is_short(&message.result)
+}

@@ -1,0 +1,366 @@
+//! Messages as bytes.
+
+ghost use Rattle.std.specs.Prelude.{◌≡◌, ◌<◌, ◌≤◌, ◌↔◌, ◌++◌, ◌∷◌, [], pos, map, codes, IfOk, OnOk, OnErr, IsErrOf};
+ghost use Rattle.bm_value.specs.Decoding.{IsReadBack};
+ghost use Rattle.bm_value.specs.Limits.{IsShort};
+ghost use Rattle.bm_value.specs.Tree.{depth, str, int, array, dict};
+ghost use Rattle.bm_value.specs.View.{tree, trees_of, pairs_of, pair_tree};
+ghost use Rattle.bm_value.specs.Writing.{written};
+ghost use Rattle.bm_msg.specs.Meaning.{asked, auth, start_command, request, response};
+ghost use Rattle.bm_msg.specs.Trees.{at, two, item_of, stream_of, op_of, session_key, fault_tree, command_key, keys_of, exception_key, tree_of};
+ghost use Rattle.bm_msg.specs.Limits.{request_tree, response_tree};
+
+use crate::field::{Field, Fields};
+use crate::limits::{is_short_request, is_short_response, request_nests, response_nests};
+use crate::message::{Numbered, Response};
+use crate::request::Request;
+use bm_lines::{Letter, Text};
+use bm_value::{EncodeError, Items, Num, Pair, Pairs, Text as Str, Value, encode};
+use std::alloc::{AllocError, Global};
+
+fn text(alloc: Global, text: &str) -> Result<Value<Global>, AllocError>
+    ensures { IfOk result (λ v. tree v ≡ str text.now) }
+{
+    Ok(Value::Str(Str::from_string(String::from_str(alloc, text)?)))
+}
+
+/// Appends a key and its value. After want of memory the value is gone.
+fn put(
+    alloc: Global,
+    keys: &mut Vec<Pair<Global>>,
+    key: &str,
+    value: Value<Global>,
+) -> Result<(), AllocError>
+    ensures { OnOk result (map pair_tree keys.new.items ≡ map pair_tree keys.old.items ++ at key.now (tree value) ∷ []) }
+{
+    keys.push(Pair {
+        key: text(alloc, key)?,
+        value,
+    })?;
+    Ok(())
+}
+
+/// The keys that every message has.
+fn first_keys(alloc: Global, seq: u64, op: &str) -> Result<Vec<Pair<Global>>, AllocError>
+    ensures { IfOk result (λ v. map pair_tree v.items ≡ at (codes "seq_number") (int (pos seq)) ∷ at (codes "op") (str op.now) ∷ []) }
+{
+    let mut keys = Vec::with_capacity(alloc, 5)?;
+    put(alloc, &mut keys, "seq_number", Value::Int(Num::of_u64(seq)))?;
+    put(alloc, &mut keys, "op", text(alloc, op)?)?;
+    Ok(keys)
+}
+
+/// An array of two.
+fn two(
+    alloc: Global,
+    first: Value<Global>,
+    second: Value<Global>,
+) -> Result<Value<Global>, AllocError>
+    ensures { IfOk result (λ v. tree v ≡ two (tree first) (tree second)) }
+{
+    let mut vec = Vec::with_capacity(alloc, 2)?;
+    vec.push(first)?;
+    vec.push(second)?;
+    Ok(Value::Array(Items { vec }))
+}
+
+fn item(alloc: Global, field: &Field) -> Result<Value<Global>, AllocError>
+    ensures { IfOk result (λ v. tree v ≡ item_of field.now) }
+{
+    match field {
+        Field::Text(letter, said) => {
+            let name = match letter {
+                Letter::O => "stdout",
+                Letter::E => "stderr",
+                Letter::H => "header",
+            };
+            two(alloc, text(alloc, name)?, text(alloc, said.as_str())?)
+        }
+        Field::Named(name, said) => {
+            let named = two(
+                alloc,
+                text(alloc, name.as_str())?,
+                text(alloc, said.as_str())?,
+            )?;
+            two(alloc, text(alloc, "log")?, named)
+        }
+        Field::Rc(n) => two(alloc, text(alloc, "rc")?, Value::Int(*n)),
+    }
+}
+
+/// The items of an update.
+fn items(alloc: Global, fields: &Fields) -> Result<Value<Global>, AllocError>
+    ensures { IfOk result (λ v. tree v ≡ array (trees_of (map item_of fields.now))) }
+{
+    let fields = fields.as_slice();
+    let mut vec = Vec::with_capacity(alloc, fields.len())?;
+    for field in fields {
+        vec.push(item(alloc, field)?)?;
+    }
+    Ok(Value::Array(Items { vec }))
+}
+
+fn command_key(alloc: Global, keys: &mut Vec<Pair<Global>>, command: u64) -> Result<(), AllocError>
+    ensures { OnOk result (map pair_tree keys.new.items ≡ map pair_tree keys.old.items ++ command_key command ∷ []) }
+{
+    let number = command.to_string(alloc)?;
+    put(
+        alloc,
+        keys,
+        "command_id",
+        Value::Str(Str::from_string(number)),
+    )
+}
+
+fn text_key(
+    alloc: Global,
+    keys: &mut Vec<Pair<Global>>,
+    key: &str,
+    said: &Text,
+) -> Result<(), AllocError>
+    ensures { OnOk result (map pair_tree keys.new.items ≡ map pair_tree keys.old.items ++ at key.now (str said.now) ∷ []) }
+{
+    put(alloc, keys, key, text(alloc, said.as_str())?)
+}
+
+fn fault(alloc: Global, fault: &Option<Text>) -> Result<Value<Global>, AllocError>
+    ensures { IfOk result (λ v. tree v ≡ fault_tree fault.now) }
+{
+    match fault {
+        Some(said) => text(alloc, said.as_str()),
+        None => Ok(Value::Nil),
+    }
+}
+
+/// The name of a request's operation.
+fn op_of(request: &Request) -> &str
+    ensures { result.now ≡ op_of (asked request.now) }
+{
+    match request {
+        Request::Auth { .. } => "auth",
+        Request::Print { .. } => "print",
+        Request::Keepalive => "keepalive",
+        Request::GetWorkerInfo => "get_worker_info",
+        Request::StartCommand { .. } => "start_command",
+        Request::InterruptCommand { .. } => "interrupt_command",
+        Request::Shutdown => "shutdown",
+        Request::Update { .. } => "update",
+        Request::Complete { .. } => "complete",
+        Request::Unknown { op } => op.as_str(),
+    }
+}
+
+fn session_key(
+    alloc: Global,
+    keys: &mut Vec<Pair<Global>>,
+    session: &Option<Text>,
+) -> Result<(), AllocError>
+    ensures { OnOk result (map pair_tree keys.new.items ≡ map pair_tree keys.old.items ++ session_key session.now) }
+{
+    match session {
+        Some(session) => text_key(alloc, keys, "session", session),
+        None => Ok(()),
+    }
+}
+
+fn auth_keys(
+    alloc: Global,
+    keys: &mut Vec<Pair<Global>>,
+    username: &Text,
+    password: &Text,
+    session: &Option<Text>,
+) -> Result<(), AllocError>
+    ensures { OnOk result (map pair_tree keys.new.items ≡ map pair_tree keys.old.items ++ keys_of (auth username.now password.now session.now)) }
+{
+    text_key(alloc, keys, "username", username)?;
+    text_key(alloc, keys, "password", password)?;
+    session_key(alloc, keys, session)
+}
+
+fn start_keys(
+    alloc: Global,
+    keys: &mut Vec<Pair<Global>>,
+    command: u64,
+    name: &Text,
+    args: &Value<Global>,
+) -> Result<(), AllocError>
+    ensures { OnOk result (map pair_tree keys.new.items ≡ map pair_tree keys.old.items ++ keys_of (start_command command name.now (tree args.now))) }
+{
+    command_key(alloc, keys, command)?;
+    text_key(alloc, keys, "command_name", name)?;
+    let args = args.copy_into(alloc)?;
+    put(alloc, keys, "args", args)
+}
+
+/// Appends the further keys of a request.
+fn put_keys(
+    alloc: Global,
+    keys: &mut Vec<Pair<Global>>,
+    request: &Request,
+) -> Result<(), AllocError>
+    ensures { OnOk result (map pair_tree keys.new.items ≡ map pair_tree keys.old.items ++ keys_of (asked request.now)) }
+{
+    match request {
+        Request::Auth {
+            username,
+            password,
+            session,
+        } => auth_keys(alloc, keys, username, password, session),
+        Request::Print { message } => text_key(alloc, keys, "message", message),
+        Request::Keepalive | Request::GetWorkerInfo | Request::Shutdown | Request::Unknown { .. } =>
+            Ok(()),
+        Request::StartCommand {
+            command,
+            name,
+            args,
+        } => start_keys(alloc, keys, *command, name, args),
+        Request::InterruptCommand { command, why } => {
+            command_key(alloc, keys, *command)?;
+            text_key(alloc, keys, "why", why)
+        }
+        Request::Update { command, fields } => {
+            command_key(alloc, keys, *command)?;
+            put(alloc, keys, "args", items(alloc, fields)?)
+        }
+        Request::Complete {
+            command,
+            fault: said,
+        } => {
+            command_key(alloc, keys, *command)?;
+            put(alloc, keys, "args", fault(alloc, said)?)
+        }
+    }
+}
+
+/// The written form of a map of these pairs.
+fn written_map(alloc: Global, keys: Vec<Pair<Global>>) -> Result<Vec<u8>, AllocError>
+    requires nests { depth (dict (pairs_of (map pair_tree keys.items))) ≤ 32 }
+    requires short { IsShort (dict (pairs_of (map pair_tree keys.items))) }
+    ensures ok { IfOk result (λ v. v.items ≡ written (dict (pairs_of (map pair_tree keys.items)))) }
+    ensures back { IfOk result (λ v. IsReadBack (dict (pairs_of (map pair_tree keys.items)))) }
+{
+    let map = Value::Map(Pairs { vec: keys });
+    let mut out = Vec::new(alloc);
+    match encode(&map, &mut out) {
+        Ok(()) => Ok(out),
+        Err(_) => Err(AllocError),
+    }
+}
+
+fn request_keys(alloc: Global, message: &Numbered) -> Result<Vec<Pair<Global>>, AllocError>
+    ensures { IfOk result (λ v. dict (pairs_of (map pair_tree v.items)) ≡ request_tree message.now) }
+{
+    let mut keys = first_keys(alloc, message.seq, op_of(&message.request))?;
+    put_keys(alloc, &mut keys, &message.request)?;
+    Ok(keys)
+}
+
+fn request_bytes(alloc: Global, message: &Numbered) -> Result<Vec<u8>, AllocError>
+    requires nests { depth (request_tree message.now) ≤ 32 }
+    requires short { IsShort (request_tree message.now) }
+    ensures ok { IfOk result (λ v. v.items ≡ written (request_tree message.now)) }
+    ensures back { IfOk result (λ v. IsReadBack (request_tree message.now)) }
+{
+    let keys = request_keys(alloc, message)?;
+    written_map(alloc, keys)
+}
+
+fn put_exception(
+    alloc: Global,
+    keys: &mut Vec<Pair<Global>>,
+    exception: bool,
+) -> Result<(), AllocError>
+    ensures { OnOk result (map pair_tree keys.new.items ≡ map pair_tree keys.old.items ++ exception_key exception) }
+{
+    if exception {
+        put(alloc, keys, "is_exception", Value::Bool(true))?;
+    }
+    Ok(())
+}
+
+fn response_keys(alloc: Global, message: &Response) -> Result<Vec<Pair<Global>>, AllocError>
+    ensures { IfOk result (λ v. dict (pairs_of (map pair_tree v.items)) ≡ response_tree message.now) }
+{
+    let mut keys = first_keys(alloc, message.seq, "response")?;
+    let result = message.result.copy_into(alloc)?;
+    put(alloc, &mut keys, "result", result)?;
+    put_exception(alloc, &mut keys, message.exception)?;
+    Ok(keys)
+}
+
+fn response_bytes(alloc: Global, message: &Response) -> Result<Vec<u8>, AllocError>
+    requires nests { depth (response_tree message.now) ≤ 32 }
+    requires short { IsShort (response_tree message.now) }
+    ensures ok { IfOk result (λ v. v.items ≡ written (response_tree message.now)) }
+    ensures back { IfOk result (λ v. IsReadBack (response_tree message.now)) }
+{
+    let keys = response_keys(alloc, message)?;
+    written_map(alloc, keys)
+}
+
+fn request_written(alloc: Global, message: &Numbered) -> Result<Vec<u8>, EncodeError>
+    ensures ok { IfOk result (λ v. v.items ≡ written (request_tree message.now)) }
+    ensures back { IfOk result (λ v. IsReadBack (request_tree message.now)) }
+    ensures deep { IsErrOf result EncodeError.TooDeep ↔ (32 < depth (request_tree message.now)) }
+    ensures long { IsErrOf result EncodeError.TooLong ↔ ((depth (request_tree message.now) ≤ 32) × ¬ IsShort (request_tree message.now)) }
+{
+    if !request_nests(message) {
+        return Err(EncodeError::TooDeep);
+    }
+    if !is_short_request(message) {
+        return Err(EncodeError::TooLong);
+    }
+    Ok(request_bytes(alloc, message)?)
+}
+
+fn response_written(alloc: Global, message: &Response) -> Result<Vec<u8>, EncodeError>
+    ensures ok { IfOk result (λ v. v.items ≡ written (response_tree message.now)) }
+    ensures back { IfOk result (λ v. IsReadBack (response_tree message.now)) }
+    ensures deep { IsErrOf result EncodeError.TooDeep ↔ (32 < depth (response_tree message.now)) }
+    ensures long { IsErrOf result EncodeError.TooLong ↔ ((depth (response_tree message.now) ≤ 32) × ¬ IsShort (response_tree message.now)) }
+{
+    if !response_nests(message) {
+        return Err(EncodeError::TooDeep);
+    }
+    if !is_short_response(message) {
+        return Err(EncodeError::TooLong);
+    }
+    Ok(response_bytes(alloc, message)?)
+}
+
+/// The written form of a request: the number, the operation and its keys in the order of the
+/// Buildbot manual's protocol, each value in the format with the fewest bytes. What is written is
+/// read back, whatever follows it.
+///
+/// # Errors
+///
+/// `TooDeep` where the args of a `start_command` nest deeper than 31; `TooLong` where a part is
+/// longer than 2^32-1; `Mem` where memory ran out.
+pub fn write_request(alloc: Global, message: &Numbered) -> Result<Vec<u8>, EncodeError>
+    ensures ok { IfOk result (λ v. v.items ≡ written (tree_of (request message.now.seq (asked message.now.request)))) }
+    ensures back { IfOk result (λ v. IsReadBack (tree_of (request message.now.seq (asked message.now.request)))) }
+    ensures deep { IsErrOf result EncodeError.TooDeep ↔ (32 < depth (tree_of (request message.now.seq (asked message.now.request)))) }
+    ensures long { IsErrOf result EncodeError.TooLong ↔ ((depth (tree_of (request message.now.seq (asked message.now.request))) ≤ 32)
+        × ¬ IsShort (tree_of (request message.now.seq (asked message.now.request)))) }
+{
+    request_written(alloc, message)
+}
+
+/// The written form of a response, which is read back, whatever follows it. `is_exception` stands
+/// only in an exception.
+///
+/// # Errors
+///
+/// `TooDeep` where the result nests deeper than 31; `TooLong` where a part of it is longer than
+/// 2^32-1; `Mem` where memory ran out.
+pub fn write_response(alloc: Global, message: &Response) -> Result<Vec<u8>, EncodeError>
+    ensures ok { IfOk result (λ v. v.items ≡ written (tree_of (response message.now.seq (tree message.now.result) message.now.exception))) }
+    ensures back { IfOk result (λ v. IsReadBack (tree_of (response message.now.seq (tree message.now.result) message.now.exception))) }
+    ensures deep { IsErrOf result EncodeError.TooDeep
+        ↔ (32 < depth (tree_of (response message.now.seq (tree message.now.result) message.now.exception))) }
+    ensures long { IsErrOf result EncodeError.TooLong
+        ↔ ((depth (tree_of (response message.now.seq (tree message.now.result) message.now.exception)) ≤ 32)
+        × ¬ IsShort (tree_of (response message.now.seq (tree message.now.result) message.now.exception))) }
+{
+    response_written(alloc, message)
+}
