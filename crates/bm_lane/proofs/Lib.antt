@@ -1,0 +1,10 @@
+mod Adding
+mod Chains
+mod Draining
+mod Grows
+mod Hearing
+mod Kept
+mod Prefixes
+mod Relays
+mod Counting
+mod Writing

@@ -1,0 +1,11 @@
+pub mod Additions
+pub mod Answers
+pub mod Copies
+pub mod Drains
+pub mod Ends
+pub mod Fronts
+pub mod Hearing
+pub mod Histories
+pub mod Names
+pub mod Relay
+pub mod Windows

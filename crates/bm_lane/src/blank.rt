@@ -1,0 +1,133 @@
+ghost use Rattle.std.specs.Prelude.{◌≡◌, ◌<◌, ◌≤◌, [], length, IfOk, IfErr, vec_capacity};
+ghost use Rattle.std.specs.Arc.{arc_value};
+ghost use Rattle.bm_lane.specs.Ends.{AllNew};
+ghost use Rattle.bm_lane.specs.Windows.{AllFresh};
+
+use crate::copy::open_copy;
+use crate::publisher::Publisher;
+use crate::reader_end::ReaderEnd;
+use crate::refusals::OpenError;
+use crate::relay::{ItemPass, ItemQueue, Roles};
+use crate::viewer::Viewer;
+use crate::window::Window;
+use crate::writer_end::WriterEnd;
+use crate::yard::Yard;
+use bm_session::Session;
+use std::alloc::{AllocError, Global};
+use std::marker::{Model, PhantomData};
+use std::sync::{Arc, Wait};
+
+/// A queue and a published copy that no lane has yet.
+#[derive(Drop)]
+pub struct Blank<R: Wait + Drop> {
+    session: Session,
+    queue: Arc<ItemQueue>,
+    pass: ItemPass,
+    publisher: Publisher<R>,
+    windows: Vec<Window>,
+}
+
+impl<R: Wait + Drop> Model for Blank<R> {
+    ghost use Rattle.std.specs.Prelude.{◌≡◌, [], true, length};
+    ghost use Rattle.std.specs.Arc.{arc_value};
+    ghost use Rattle.crossbeam_queue.specs.Passes.{IsPassOf, ruled_capacity};
+    ghost use Rattle.bm_lane.specs.Relay.{hand, known};
+    ghost use Rattle.bm_lane.specs.Windows.{AllFresh};
+    ghost use Rattle.bm_lane.specs.Ends.{Blanked};
+
+    ghost Value = { Blanked };
+
+    ghost view = { λ b. record { queue = b.pass.table_id; copy = b.publisher.history; capacity = ruled_capacity (arc_value b.queue); viewers = length b.windows.items } };
+
+    ghost invariant = { λ b. (b.session.trace ≡ []) × IsPassOf (arc_value b.queue) b.pass × (known b.pass ≡ hand true true [] []) × (b.publisher.shown ≡ []) × (b.publisher.held ≡ []) × (b.publisher.kept ≡ []) × AllFresh b.publisher.history [] b.windows.items };
+}
+
+/// The ends of a lane.
+#[derive(Drop)]
+pub struct Ends<Y: Yard, R: Wait + Drop> {
+    pub reader: ReaderEnd<Y>,
+    pub writer: WriterEnd<Y, R>,
+    pub viewers: Vec<Viewer<Y>>,
+}
+
+/// A queue that takes `capacity` items at once, and a published copy with places for so many viewers.
+///
+/// `NoPlace` where the copy gave no place to one of the viewers.
+pub fn open<R: Wait + Drop>(
+    rt: R,
+    alloc: Global,
+    capacity: usize,
+    viewers: usize,
+) -> Result<Blank<R>, OpenError>
+    requires capacity { (0 < capacity) × (capacity ≤ 65536) }
+    requires viewers { (0 < viewers) × (viewers ≤ 64) }
+    ensures { IfOk result (λ b. (b.capacity ≡ capacity) × (b.viewers ≡ viewers)) }
+{
+    let Ok(session) = Session::new(alloc) else {
+        return Err(OpenError::Mem);
+    };
+    let Ok((queue, pass)) = ItemQueue::ruled(alloc, capacity) else {
+        return Err(OpenError::Mem);
+    };
+    let Ok(queue) = Arc::new(alloc, queue) else {
+        return Err(OpenError::Mem);
+    };
+    let (publisher, windows) = open_copy(rt, alloc, viewers)?;
+    Ok(Blank {
+        session,
+        queue,
+        pass,
+        publisher,
+        windows,
+    })
+}
+
+// The viewers, under the lane's number.
+fn placed<Y: Yard>(windows: Vec<Window>, lane: u64, room: Vec<Viewer<Y>>) -> Vec<Viewer<Y>>
+    requires own { AllFresh (Y.copy lane) [] windows.items }
+    requires room { (room.items ≡ []) × (length windows.items ≤ vec_capacity room) }
+    ensures { AllNew lane result.items × (length result.items ≡ length windows.items) }
+{
+    let mut placed = room;
+    let mut windows = windows;
+    while let Some(window) = windows.pop() {
+        placed.push_reserved(Viewer::over(lane, window));
+    }
+    placed
+}
+
+impl<R: Wait + Drop> Blank<R> {
+    /// The ends, under the lane's number.
+    pub fn ends<Y: Yard>(
+        self,
+        alloc: Global,
+        lane: u64,
+    ) -> Result<Ends<Y, R>, (Blank<R>, AllocError)>
+        requires { (self.queue ≡ Y.queue lane) × (self.copy ≡ Y.copy lane) }
+        ensures reader { IfOk result (λ e. e.reader ≡ record { lane = lane; capacity = self.capacity; trace = []; put = [] }) }
+        ensures writer { IfOk result (λ e. e.writer ≡ record { lane = lane; viewers = self.viewers; taken = []; shown = []; held = []; kept = [] }) }
+        ensures viewers { IfOk result (λ e. AllNew lane e.viewers.items × (length e.viewers.items ≡ self.viewers)) }
+        ensures back { IfErr result (λ e. e.0 ≡ self) }
+    {
+        let Ok(theirs) = Arc::try_clone(&self.queue) else {
+            return Err((self, AllocError));
+        };
+        let Ok(room) = Vec::with_capacity(alloc, self.windows.len()) else {
+            return Err((self, AllocError));
+        };
+        let Blank {
+            session,
+            queue,
+            mut pass,
+            publisher,
+            windows,
+        } = self;
+        let viewers = windows.len();
+        let other = queue.another::<Roles>(&mut pass);
+        Ok(Ends {
+            reader: ReaderEnd::over(lane, session, queue, pass),
+            writer: WriterEnd::over(lane, viewers, theirs, other, publisher),
+            viewers: placed(windows, lane, room),
+        })
+    }
+}

@@ -1,0 +1,32 @@
+//! A lane for running threads: a reader's end that takes the events of a worker's connection, a writer's end that shows
+//! their items to viewers, and viewers that never wait. Each end is owned by one thread at a time.
+//!
+//! An event's item goes through a bounded queue from the reader's end to the writer's, which publishes the book of all
+//! that it showed; viewers read the published book without a lock. When the ends come together again, [`settle`] ties
+//! what each was shown to the one trace of the lane. A block's lines are shared by the trace, the queue and both copies
+//! of the book.
+#![tactic(auto)]
+
+mod blank;
+mod copy;
+mod history;
+mod pool;
+mod published;
+mod publisher;
+mod reader_end;
+mod refusals;
+mod relay;
+mod settling;
+mod viewer;
+mod window;
+mod writer_end;
+mod yard;
+
+pub use blank::{Blank, Ends, open};
+pub use pool::{Gate, Pass, PoolFault, PoolReport, writers};
+pub use reader_end::ReaderEnd;
+pub use refusals::{HearRefusal, OpenError};
+pub use settling::{Settled, same_lane, settle};
+pub use viewer::Viewer;
+pub use writer_end::{Drained, WriterEnd};
+pub use yard::Yard;

@@ -1,0 +1,189 @@
+// Threads that drain lanes.
+ghost use Rattle.std.specs.Prelude.{◌<◌, ◌≤◌, ◌+◌, ◌-◌, ◌^◌, IfSome};
+
+use crate::writer_end::{Drained, WriterEnd};
+use crate::yard::Yard;
+use std::alloc::{AllocError, Global};
+use std::sync::atomic::{AtomicBool, Ordering};
+use std::sync::{Mutex, Wait};
+use std::thread;
+use std::thread::{JoinHandle, Threads};
+use thiserror::Error;
+
+/// What a worker may do at its turn.
+#[derive(Clone, Copy, Debug, PartialEq, Eq)]
+pub enum Pass {
+    /// Drain the lane.
+    Go,
+    /// Leave the lane to the next turn at it.
+    Skip,
+    /// End.
+    Stop,
+}
+
+/// Who may drain which lane, and when. Workers call it while they hold no lock.
+pub trait Gate {
+    /// Asked before each drain, and before the lane's lock is taken.
+    fn pass(&self, worker: usize, lane: usize) -> Pass;
+
+    /// Told what each drain answered.
+    fn done(&self, worker: usize, lane: usize, answer: Result<Drained, AllocError>);
+}
+
+/// How many drains of all workers took an item, and how many met want of memory.
+#[derive(Clone, Copy, Debug, PartialEq, Eq)]
+pub struct PoolReport {
+    pub took: u128,
+    pub refused: u128,
+}
+
+/// Why a pool didn't run to its end.
+#[derive(Clone, Copy, Debug, PartialEq, Eq, Error)]
+pub enum PoolFault {
+    /// A thread could not be started. The others ended at their next turn, and what they drained stays drained.
+    #[error("no thread")]
+    Spawn,
+    /// Memory is wanting. No thread was started.
+    #[error("out of memory")]
+    Mem,
+}
+
+/// What the drains of one worker came to.
+#[derive(Clone, Copy)]
+struct Tally {
+    took: u64,
+    refused: u64,
+}
+
+impl Tally {
+    // With one answer more.
+    fn with(self, answer: &Result<Drained, AllocError>) -> Tally
+        requires { (self.took < 2 ^ 64 - 1) × (self.refused < 2 ^ 64 - 1) }
+        ensures { (result.took ≤ self.took + 1) × (result.refused ≤ self.refused + 1) }
+    {
+        let Tally { took, refused } = self;
+        match answer {
+            Ok(Drained::Took) => Tally {
+                took: took + 1,
+                refused,
+            },
+            Ok(Drained::Empty) => self,
+            Err(_) => Tally {
+                took,
+                refused: refused + 1,
+            },
+        }
+    }
+}
+
+// A worker's turn at a lane: what its drains came to then, or None where it ends.
+fn turn<Y: Yard, W: Wait + Drop, G: Gate, R: Wait>(
+    rt: &R,
+    end: &Mutex<WriterEnd<Y, W>>,
+    gate: &G,
+    worker: usize,
+    lane: usize,
+    tally: Tally,
+) -> Option<Tally>
+    requires { (tally.took < 2 ^ 64 - 1) × (tally.refused < 2 ^ 64 - 1) }
+    ensures { IfSome result (λ t. (t.took ≤ tally.took + 1) × (t.refused ≤ tally.refused + 1)) }
+{
+    match gate.pass(worker, lane) {
+        Pass::Stop => None,
+        Pass::Skip => Some(tally),
+        Pass::Go => {
+            let answer = end.lock(rt).drain();
+            let tally = tally.with(&answer);
+            gate.done(worker, lane, answer);
+            Some(tally)
+        }
+    }
+}
+
+// The lane after this one, going round.
+fn lane_after(lane: usize, lanes: usize) -> usize
+    requires { lane < lanes }
+    ensures { result < lanes }
+{
+    if lane + 1 < lanes { lane + 1 } else { 0 }
+}
+
+// Goes round the lanes, from lane `worker` on.
+fn work<Y: Yard, W: Wait + Drop, G: Gate, R: Wait>(
+    rt: &R,
+    lanes: &[Mutex<WriterEnd<Y, W>>],
+    gate: &G,
+    ended: &AtomicBool,
+    worker: usize,
+    turns: u64,
+) -> Tally {
+    let mut tally = Tally {
+        took: 0,
+        refused: 0,
+    };
+    if lanes.is_empty() {
+        return tally;
+    }
+    let mut lane = worker % lanes.len();
+    for _ in 0..turns {
+        if ended.load(Ordering::SeqCst) {
+            return tally;
+        }
+        let Some(more) = turn(rt, &lanes[lane], gate, worker, lane, tally) else {
+            return tally;
+        };
+        tally = more;
+        lane = lane_after(lane, lanes.len());
+    }
+    tally
+}
+
+// Waits for all workers, and adds up what their drains came to.
+fn report<R: Threads>(rt: &R, workers: Vec<JoinHandle<Tally>>) -> PoolReport {
+    let mut report = PoolReport {
+        took: 0,
+        refused: 0,
+    };
+    let mut workers = workers;
+    while let Some(worker) = workers.pop() {
+        let tally = worker.join(rt);
+        report.took += tally.took as u128;
+        report.refused += tally.refused as u128;
+    }
+    report
+}
+
+/// So many threads drain these lanes. Worker w begins at lane w, modulo the number of lanes, and goes round; it ends
+/// where its gate says so, or after so many turns.
+pub fn writers<
+    Y: Yard + Send + Sync,
+    W: Wait + Drop + Send,
+    G: Gate + Sync,
+    R: Threads + Wait + Sync,
+>(
+    rt: &R,
+    alloc: Global,
+    lanes: &[Mutex<WriterEnd<Y, W>>],
+    gate: &G,
+    threads: usize,
+    turns: u64,
+) -> Result<PoolReport, PoolFault> {
+    let ended = AtomicBool::new(false);
+    let flag = &ended;
+    thread::scope(thread::scope_env(), rt, |scope| {
+        let Ok(mut workers) = Vec::with_capacity(alloc, threads) else {
+            return Err(PoolFault::Mem);
+        };
+        for worker in 0..threads {
+            match scope.spawn(move || work(rt, lanes, gate, flag, worker, turns)) {
+                Ok(handle) => workers.push_reserved(handle),
+                Err(_) => {
+                    flag.store(true, Ordering::SeqCst);
+                    report(rt, workers);
+                    return Err(PoolFault::Spawn);
+                }
+            }
+        }
+        Ok(report(rt, workers))
+    })
+}

@@ -1,0 +1,215 @@
+ghost use Rattle.std.specs.Prelude.{◌≡◌, ◌≢◌, ◌≤◌, ◌++◌, ◌∷◌, [], length, IfErr, MatchBool, MatchResult, true, false};
+ghost use Rattle.std.specs.Arc.{arc_value};
+ghost use Rattle.crossbeam_queue.specs.Passes.{IsPassOf, IsSamePass, ruled_capacity};
+ghost use Rattle.bm_session.specs.Session.{IsPlanFor};
+ghost use Rattle.bm_session.specs.Trace.{items, reply, was_taken};
+ghost use Rattle.bm_lane.specs.Relay.{hand, known};
+ghost use Rattle.bm_lane.specs.Hearing.{Hears};
+
+use crate::publisher::Publisher;
+use crate::refusals::HearRefusal;
+use crate::relay::{ItemPass, ItemQueue, Puts, Roles, Whole};
+use crate::writer_end::WriterEnd;
+use crate::yard::Yard;
+use bm_session::{Event, Item, Plan, Refusal, Reply, Session};
+use std::marker::{Model, PhantomData};
+use std::sync::{Arc, Wait};
+
+/// The reader's end of a lane: it takes events and puts their items into the queue.
+///
+/// At all times what it put is the items of its trace.
+#[derive(Drop)]
+pub struct ReaderEnd<Y: Yard> {
+    lane: u64,
+    session: Session,
+    queue: Arc<ItemQueue>,
+    pass: ItemPass,
+    of: PhantomData<Y>,
+}
+
+impl<Y: Yard> Model for ReaderEnd<Y> {
+    ghost use Rattle.std.specs.Prelude.{◌≡◌, [], true, false};
+    ghost use Rattle.std.specs.Arc.{arc_value};
+    ghost use Rattle.crossbeam_queue.specs.Passes.{IsPassOf, ruled_capacity};
+    ghost use Rattle.bm_session.specs.Trace.{items};
+    ghost use Rattle.bm_lane.specs.Relay.{hand, known};
+    ghost use Rattle.bm_lane.specs.Ends.{Heard};
+
+    ghost Value = { Heard };
+
+    ghost view = { λ r. record { lane = r.lane; capacity = ruled_capacity (arc_value r.queue); trace = r.session.trace; put = (known r.pass).put } };
+
+    ghost invariant = { λ r. IsPassOf (arc_value r.queue) r.pass × (r.pass.table_id ≡ Y.queue r.lane) × (known r.pass ≡ hand true false (items r.session.trace) []) };
+}
+
+// Puts an item into the queue, where it has a place.
+fn put<R: Wait>(rt: &R, queue: &ItemQueue, pass: &mut ItemPass, item: Item) -> bool
+    requires own { IsPassOf queue.now pass.old }
+    requires puts { (known pass.old).puts ≡ true }
+    ensures own { IsSamePass pass.old pass.new }
+    ensures put { MatchBool result (known pass.new ≡ hand (known pass.old).puts (known pass.old).takes ((known pass.old).put ++ item ∷ []) (known pass.old).taken) ((known pass.new ≡ known pass.old) × (ruled_capacity queue.now ≤ length (known pass.old).put)) }
+{
+    match queue.push_as::<Puts, R>(rt, pass, item) {
+        Ok(()) => true,
+        Err(_) => false,
+    }
+}
+
+// Commits a plan whose item was taken, or gives none.
+fn commit(session: &mut Session, plan: Plan) -> Reply
+    requires { IsPlanFor session.old plan }
+    ensures trace { session.new.trace ≡ session.old.trace ++ plan.event ∷ [] }
+    ensures reply { result ≡ reply session.old.trace plan.event }
+{
+    let (reply, _) = session.commit(plan);
+    reply
+}
+
+impl<Y: Yard> ReaderEnd<Y> {
+    pub(crate) fn over(
+        lane: u64,
+        session: Session,
+        queue: Arc<ItemQueue>,
+        pass: ItemPass,
+    ) -> ReaderEnd<Y>
+        requires session { session.trace ≡ [] }
+        requires queue { IsPassOf (arc_value queue) pass × (pass.table_id ≡ Y.queue lane) }
+        requires fresh { known pass ≡ hand true false [] [] }
+        ensures { result ≡ record { lane = lane; capacity = ruled_capacity (arc_value queue); trace = []; put = [] } }
+    {
+        ReaderEnd {
+            lane,
+            session,
+            queue,
+            pass,
+            of: PhantomData,
+        }
+    }
+
+    // A plan is readied, its item pushed, and the plan committed; on a full queue it is withdrawn.
+    fn take<R: Wait>(&mut self, rt: &R, event: Event) -> Result<Reply, (Event, HearRefusal)>
+        ensures taken { Hears self.old event result self.new }
+        ensures spared { event ≡ Event.Down → IfErr result (λ r. r.1 ≢ HearRefusal.Session Refusal.Mem) }
+    {
+        let mut plan = match self.session.ready(event) {
+            Ok(plan) => plan,
+            Err((event, why)) => return Err((event, HearRefusal::Session(why))),
+        };
+        let Some(item) = plan.take_item() else {
+            return Ok(commit(&mut self.session, plan));
+        };
+        if put(rt, &self.queue, &mut self.pass, item) {
+            Ok(commit(&mut self.session, plan))
+        } else {
+            Err((self.session.withdraw(plan), HearRefusal::Busy))
+        }
+    }
+
+    /// A connection of the worker begins. It resumes the session where that was cut.
+    pub fn up<R: Wait>(&mut self, rt: &R) -> Result<Reply, (Event, HearRefusal)>
+        ensures { Hears self.old Event.Up result self.new }
+    {
+        self.take(rt, Event::Up)
+    }
+
+    /// A message of the worker was heard.
+    pub fn hear<R: Wait>(&mut self, rt: &R, event: Event) -> Result<Reply, (Event, HearRefusal)>
+        ensures { Hears self.old event result self.new }
+    {
+        self.take(rt, event)
+    }
+
+    /// The next command is ordered to start.
+    pub fn go<R: Wait>(&mut self, rt: &R) -> Result<Reply, (Event, HearRefusal)>
+        ensures { Hears self.old Event.Go result self.new }
+    {
+        self.take(rt, Event::Go)
+    }
+
+    /// A command is ordered to stop.
+    pub fn stop<R: Wait>(&mut self, rt: &R, command: u64) -> Result<Reply, (Event, HearRefusal)>
+        ensures { Hears self.old (Event.Stop command) result self.new }
+    {
+        self.take(rt, Event::Stop(command))
+    }
+
+    /// The connection is cut: commands stay open. It gives no item, so the lane is never busy.
+    pub fn cut<R: Wait>(&mut self, rt: &R) -> Result<Reply, (Event, HearRefusal)>
+        ensures heard { Hears self.old Event.Cut result self.new }
+        ensures free { IfErr result (λ r. r.1 ≢ HearRefusal.Busy) }
+    {
+        self.take(rt, Event::Cut)
+    }
+
+    /// The session is given up. It takes no memory.
+    pub fn down<R: Wait>(&mut self, rt: &R) -> Result<Reply, (Event, HearRefusal)>
+        ensures heard { Hears self.old Event.Down result self.new }
+        ensures spared { IfErr result (λ r. r.1 ≢ HearRefusal.Session Refusal.Mem) }
+    {
+        self.take(rt, Event::Down)
+    }
+
+    /// The events that were taken, in order.
+    pub fn trace(&self) -> &[Event]
+        ensures events { result.now ≡ self.now.trace }
+        ensures taken { was_taken self.now.trace ≡ true }
+        ensures put { self.now.put ≡ items self.now.trace }
+    {
+        self.session.trace()
+    }
+
+    /// The number of its lane.
+    pub fn lane(&self) -> u64
+        ensures { result ≡ self.now.lane }
+    {
+        self.lane
+    }
+}
+
+impl<Y: Yard> ReaderEnd<Y> {
+    /// The session and the publisher of the lane, where the queue is empty.
+    pub(crate) fn join<R: Wait + Drop>(
+        self,
+        writer: WriterEnd<Y, R>,
+    ) -> Result<(Session, Publisher<R>, u64), (ReaderEnd<Y>, WriterEnd<Y, R>)>
+        requires { (self.lane ≡ writer.lane) × (writer.held ≡ []) }
+        ensures { MatchResult result (λ s. (s.0.trace ≡ self.trace) × (s.1.shown ≡ items self.trace) × (s.1.held ≡ []) × (s.1.history ≡ Y.copy s.2) × (s.2 ≡ self.lane)) (λ e. (e.0 ≡ self) × (e.1 ≡ writer)) }
+    {
+        let ReaderEnd {
+            lane,
+            session,
+            queue,
+            mut pass,
+            of,
+        } = self;
+        let WriterEnd {
+            lane: number,
+            viewers,
+            queue: theirs,
+            pass: other,
+            publisher,
+            of: brand,
+        } = writer;
+        queue.absorb::<Roles>(&mut pass, other);
+        if queue.is_empty_as::<Whole>(&mut pass) {
+            return Ok((session, publisher, lane));
+        }
+        let other = queue.another::<Roles>(&mut pass);
+        let reader = ReaderEnd {
+            lane,
+            session,
+            queue,
+            pass,
+            of,
+        };
+        let writer = WriterEnd {
+            lane: number,
+            viewers,
+            queue: theirs,
+            pass: other,
+            publisher,
+            of: brand,
+        };
+        Err((reader, writer))
+    }
+}

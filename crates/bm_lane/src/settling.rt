@@ -1,0 +1,122 @@
+// The end of a lane: its ends come together, and what was drained and seen is what was heard.
+ghost use Rattle.std.specs.Prelude.{◌≡◌, ◌↔◌, ◌++◌, ◌≤◌, [], IsTrue, take, drop, length, IfOk, IfErr, vec_capacity};
+ghost use mathlib.Core.List.{IsPrefix};
+ghost use Rattle.bm_session.specs.Trace.{items};
+ghost use Rattle.bm_store.specs.Book.{book, logs};
+ghost use Rattle.bm_store.specs.Kept.{logs_in};
+ghost use Rattle.bm_lane.specs.Copies.{kept_book};
+ghost use Rattle.bm_lane.specs.Ends.{IsBack, AllOf, AllBegin, seen_counts};
+
+use crate::blank::Ends;
+use crate::publisher::Publisher;
+use crate::reader_end::ReaderEnd;
+use crate::viewer::Viewer;
+use crate::writer_end::{Drained, WriterEnd};
+use crate::yard::Yard;
+use bm_session::Event;
+use bm_store::Book;
+use std::alloc::{AllocError, Global};
+use std::sync::Wait;
+
+/// What is left of a lane.
+#[derive(Drop)]
+pub struct Settled {
+    /// The events that were taken, in order.
+    pub trace: Vec<Event>,
+    /// The logs of all of them.
+    pub book: Book,
+    /// For each viewer how many items it had seen.
+    pub seen: Vec<u64>,
+}
+
+// How much each viewer has seen, which was shown.
+fn count_seen<Y: Yard, R: Wait + Drop>(
+    publisher: &mut Publisher<R>,
+    lane: u64,
+    viewers: &[Viewer<Y>],
+    seen: &mut Vec<u64>,
+)
+    requires own { (publisher.old.history ≡ Y.copy lane) × (publisher.old.held ≡ []) × AllOf lane viewers.now }
+    requires room { (seen.old.items ≡ []) × (length viewers.now ≤ vec_capacity seen.old) }
+    ensures same { publisher.new ≡ publisher.old }
+    ensures seen { seen.new.items ≡ seen_counts viewers.now }
+    ensures begin { AllBegin publisher.old.shown viewers.now }
+{
+    for viewer in viewers {
+        viewer.check(publisher);
+        seen.push_reserved(viewer.count());
+    }
+}
+
+/// Whether the ends are of one lane, with all of its viewers.
+pub fn same_lane<Y: Yard, R: Wait + Drop>(
+    reader: &ReaderEnd<Y>,
+    writer: &WriterEnd<Y, R>,
+    viewers: &[Viewer<Y>],
+) -> bool
+    ensures { IsTrue result ↔ ((reader.now.lane ≡ writer.now.lane) × AllOf writer.now.lane viewers.now × (length viewers.now ≡ writer.now.viewers)) }
+{
+    let lane = writer.lane();
+    reader.lane() == lane
+        && viewers.len() == writer.viewers()
+        && viewers.iter().all(|viewer| viewer.lane() == lane)
+}
+
+/// Drains what is left, and ends the lane: its trace, the book of the whole trace, and how many of the trace's items
+/// each viewer had seen.
+///
+/// At want of memory the ends come back, and what was drained stays drained.
+#[tactic(auto, using(crate::proofs::Prefixes::prefix_self))]
+pub fn settle<Y: Yard, R: Wait + Drop>(
+    rt: &R,
+    alloc: Global,
+    ends: Ends<Y, R>,
+) -> Result<Settled, (Ends<Y, R>, AllocError)>
+    requires { (ends.reader.lane ≡ ends.writer.lane) × AllOf ends.writer.lane ends.viewers.items }
+    ensures trace { IfOk result (λ s. s.trace.items ≡ ends.reader.trace) }
+    ensures book { IfOk result (λ s. (logs_in s.book ≡ logs ends.reader.trace) × (logs_in s.book ≡ book (items ends.reader.trace))) }
+    ensures seen { IfOk result (λ s. (s.seen.items ≡ seen_counts ends.viewers.items) × AllBegin (items ends.reader.trace) ends.viewers.items) }
+    ensures back { IfErr result (λ e. (e.0.reader ≡ ends.reader) × IsBack ends.writer e.0.writer × (e.0.viewers.items ≡ ends.viewers.items)) }
+{
+    let Ends {
+        mut reader,
+        mut writer,
+        viewers,
+    } = ends;
+    let Ok(mut seen) = Vec::with_capacity(alloc, viewers.len()) else {
+        let ends = Ends {
+            reader,
+            writer,
+            viewers,
+        };
+        return Err((ends, AllocError));
+    };
+    for _ in rt.forever() {
+        match writer.drain() {
+            Ok(Drained::Took) => {}
+            Ok(Drained::Empty) => match reader.join(writer) {
+                Ok((session, mut publisher, lane)) => {
+                    count_seen(&mut publisher, lane, viewers.as_slice(), &mut seen);
+                    return Ok(Settled {
+                        trace: session.into_trace(),
+                        book: publisher.end(),
+                        seen,
+                    });
+                }
+                Err((back, other)) => {
+                    reader = back;
+                    writer = other;
+                }
+            },
+            Err(error) => {
+                let ends = Ends {
+                    reader,
+                    writer,
+                    viewers,
+                };
+                return Err((ends, error));
+            }
+        }
+    }
+    unreachable!()
+}

@@ -1,0 +1,110 @@
+ghost use Rattle.std.specs.Prelude.{◌≡◌, ◌⊎◌, ◌≢◌, length, Err, Ok, [], MatchOption};
+ghost use mathlib.Core.List.{IsPrefix};
+ghost use Rattle.bm_lane.specs.Answers.{Answered, told, lines_of_book, state_of_book};
+
+use crate::publisher::Publisher;
+use crate::window::{Asked, LogOf, Window};
+use crate::yard::Yard;
+use bm_store::{Chunk, LogState, ViewRefusal};
+use std::marker::{Model, PhantomData};
+use std::sync::Wait;
+
+/// A viewer of a lane's logs. Contracts see the items that it has seen: they are shown in order, and it never goes back.
+///
+/// A look enters the published copy and leaves it again. It never waits, and nobody waits for it but a drain.
+#[derive(Drop)]
+pub struct Viewer<Y: Yard> {
+    lane: u64,
+    window: Window,
+    of: PhantomData<Y>,
+}
+
+impl<Y: Yard> Model for Viewer<Y> {
+    ghost use Rattle.std.specs.Prelude.{◌≡◌};
+    ghost use Rattle.bm_lane.specs.Ends.{Watched};
+
+    ghost Value = { Watched };
+
+    ghost view = { λ v. record { lane = v.lane; seen = v.window.seen } };
+
+    ghost invariant = { λ v. v.window.history ≡ Y.copy v.lane };
+}
+
+impl<Y: Yard> Viewer<Y> {
+    pub(crate) fn over(lane: u64, window: Window) -> Viewer<Y>
+        requires { window.history ≡ Y.copy lane }
+        ensures { result ≡ record { lane = lane; seen = window.seen } }
+    {
+        Viewer {
+            lane,
+            window,
+            of: PhantomData,
+        }
+    }
+
+    /// The lines at the places from `offset` up to `offset` + `limit` of the log of a command under a name, as far as it
+    /// goes: of the book of what the viewer has then seen, which is no less than before.
+    ///
+    /// `NoLog` where that log isn't there. After `Mem` the viewer may have seen more; after `Closed`, where the copy
+    /// couldn't be entered, nothing changed.
+    pub fn chunk(
+        &mut self,
+        command: u64,
+        name: &str,
+        offset: u64,
+        limit: u64,
+    ) -> Result<Chunk, ViewRefusal>
+        ensures seen { (self.new.lane ≡ self.old.lane) × IsPrefix self.old.seen self.new.seen }
+        ensures answer { (result ≡ Err ViewRefusal.Closed) ⊎ Answered (lines_of_book self.new.seen command name.now offset limit) result }
+        ensures closed { result ≡ Err ViewRefusal.Closed → self.new ≡ self.old }
+    {
+        let asked = Asked {
+            command,
+            name,
+            offset,
+            limit,
+        };
+        match self.window.lines(&asked) {
+            Some(answer) => answer,
+            None => Err(ViewRefusal::Closed),
+        }
+    }
+
+    /// How many lines the log of a command under a name has, and how the command ended: in the book of what the viewer
+    /// has then seen, which is no less than before.
+    ///
+    /// `NoLog` where that log isn't there. After `Closed`, where the copy couldn't be entered, nothing changed.
+    pub fn state(&mut self, command: u64, name: &str) -> Result<LogState, ViewRefusal>
+        ensures seen { (self.new.lane ≡ self.old.lane) × IsPrefix self.old.seen self.new.seen }
+        ensures answer { (result ≡ Err ViewRefusal.Closed) ⊎ (result ≡ told (state_of_book self.new.seen command name.now)) }
+        ensures closed { result ≡ Err ViewRefusal.Closed → self.new ≡ self.old }
+    {
+        match self.window.state(&LogOf { command, name }) {
+            Some(answer) => answer,
+            None => Err(ViewRefusal::Closed),
+        }
+    }
+
+    /// The number of its lane.
+    pub fn lane(&self) -> u64
+        ensures { result ≡ self.now.lane }
+    {
+        self.lane
+    }
+
+    /// How many items it has seen.
+    pub fn count(&self) -> u64
+        ensures { result ≡ length self.now.seen }
+    {
+        self.window.count()
+    }
+
+    /// What was seen was shown.
+    pub(crate) fn check<R: Wait + Drop>(&self, publisher: &mut Publisher<R>)
+        requires { (publisher.old.history ≡ Y.copy self.now.lane) × (publisher.old.held ≡ []) }
+        ensures prefix { IsPrefix self.now.seen publisher.old.shown }
+        ensures same { publisher.new ≡ publisher.old }
+    {
+        publisher.has(self.window.front())
+    }
+}

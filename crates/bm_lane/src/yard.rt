@@ -1,0 +1,21 @@
+use std::marker::Brand;
+
+/// Names the queue and the copy of each lane, by the lane's number. It has no functions: it is picked once for all
+/// lanes, when their blanks are made, and each end's type keeps that its own are those.
+pub trait Yard {
+    ghost use Rattle.std.specs.Prelude.{ℕ};
+    ghost use Rattle.atomic_table.specs.Seated.{TableId};
+    ghost use Rattle.bm_lane.specs.Fronts.{HistoryId};
+
+    ghost queue: { ℕ → TableId };
+
+    ghost copy: { ℕ → HistoryId };
+}
+
+impl Yard for Brand {
+    ghost use Rattle.bm_lane.specs.Names.{no_queue, no_copy};
+
+    ghost queue = { λ lane. no_queue };
+
+    ghost copy = { λ lane. no_copy };
+}
