@@ -1,10 +1,10 @@
 -- A session after a commit.
-use Rattle.std.proofs.Common.{◌≡◌, refl, sym, ◌∙◌, ap, subst, ℕ, ◌+◌, ◌-◌, ◌≤◌, Bool, true, false, cond, ◌&&◌, ◌||◌, List, [], ◌∷◌, ◌++◌, Option, Some, None, arith}
+use Rattle.std.proofs.Common.{◌≡◌, sym, ◌∙◌, ap, ℕ, ◌+◌, ◌≤◌, true, false, ◌&&◌, ◌||◌, [], ◌∷◌, ◌++◌, None, arith}
 use Rattle.std.specs.Prelude.{is_none}
 use Rattle.bm_session.specs.declared.event.Event.{Event}
-use Rattle.bm_session.specs.declared.event.Event.TheVariants.{Up, In, Go, Stop, Cut, Down}
+use Rattle.bm_session.specs.declared.event.Event.TheVariants.{Up, Down}
 use Rattle.bm_session.specs.Trace.{Trace, is_up, is_cut, was_taken, refusal}
-use Rattle.bm_session.specs.Session.{Lane, IsLane, Planned, IsPlanFor, needed}
+use Rattle.bm_session.specs.Session.{IsLane, needed}
 use Rattle.bm_session.proofs.Pushed.{is_up-push, is_cut-push}
 use Rattle.bm_session.proofs.Taken.{was_taken-push}
 

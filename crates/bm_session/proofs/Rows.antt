@@ -4,14 +4,12 @@ use Rattle.std.proofs.Common.{arith}
 use Rattle.bm_lines.specs.Lines.{lines_of}
 use Rattle.bm_lines.specs.Names.{Name, stdio}
 use Rattle.bm_lines.specs.Parcels.{with_item}
-use Rattle.bm_lines.specs.declared.line.Letter.{Letter}
 use Rattle.bm_lines.specs.declared.line.Letter.TheVariants.{O, E, H}
 use Rattle.bm_lines.specs.declared.line.Line.{Line}
-use Rattle.bm_lines.specs.declared.parcel.Part.{Part}
 use Rattle.bm_session.specs.declared.event.Event.{Event}
 use Rattle.bm_session.specs.declared.event.Event.TheVariants.{Up, In, Go, Stop, Cut, Down}
 use Rattle.bm_session.specs.declared.event.Body.TheVariants.{Auth, Update, Complete, BadArgs, NoSuchOp, Answered}
-use Rattle.bm_session.specs.declared.item.Item.TheVariants.{Open, Lines, End, Gone}
+use Rattle.bm_session.specs.declared.item.Item.TheVariants.{Open, End, Gone}
 use Rattle.bm_session.specs.declared.refusal.Refusal.TheVariants.{NotUp, AlreadyUp, TooManyOpen, NoSuchCommand}
 use Rattle.bm_session.specs.declared.reply.Reply.{Reply}
 use Rattle.bm_session.specs.declared.reply.Reply.TheVariants.{Silent, Answer, Start, Interrupt}

@@ -1,7 +1,6 @@
 -- Runs of events, where one event comes after the others.
 use Rattle.std.proofs.Common.{◌≡◌, refl, ap, List, [], ◌∷◌, ◌++◌}
 use Rattle.bm_session.specs.declared.event.Event.{Event}
-use Rattle.bm_session.specs.declared.run.Ran.{Ran}
 use Rattle.bm_session.specs.Trace.{Trace, refusal}
 use Rattle.bm_session.specs.Session.{ran_as, trace_as, ran_after, trace_after}
 

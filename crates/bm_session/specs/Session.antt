@@ -1,5 +1,5 @@
 -- A session, a plan to take an event, and a whole run.
-use Rattle.std.specs.Prelude.{◌≡◌, ◌⊎◌, ℕ, ◌≤◌, Bool, true, ◌||◌, List, [], ◌∷◌, ◌++◌, Option, Some, None}
+use Rattle.std.specs.Prelude.{◌≡◌, ◌⊎◌, ℕ, ◌≤◌, true, ◌||◌, List, [], ◌∷◌, ◌++◌, Option, Some, None}
 use Rattle.bm_session.specs.declared.event.Event.{Event}
 use Rattle.bm_session.specs.declared.event.Event.TheVariants.{Down}
 use Rattle.bm_session.specs.declared.item.Item.{Item}

@@ -1,7 +1,6 @@
-use Rattle.std.proofs.Common.{rules, arith, ◌≡◌, ◌||◌, ◌∙◌, sym, ap, take}
+use Rattle.std.proofs.Common.{◌||◌, ◌∙◌, sym, ap, take}
 use Rattle.std.specs.Prelude.{is_some}
-use Rattle.bm_session.specs.Trace.{ending, ends_at}
-use Rattle.bm_session.proofs.Pushed.{next}
+use Rattle.bm_session.specs.Trace.{ending}
 use Rattle.bm_session.proofs.Snoc.{or-true, or-false}
 use Rattle.bm_session.proofs.Scanned.{ended_more}
 use Rattle.bm_session.proofs.scan.open.is_open.Goals as goal

@@ -1,4 +1,4 @@
-use Rattle.std.proofs.Common.{◌≡◌, ap, arith, ◌≤◌, ◌<◌, ◌+◌, ◌-◌, ◌++◌, ◌∷◌, [], vec_len}
+use Rattle.std.proofs.Common.{◌≡◌, arith, ◌≤◌, ◌<◌, ◌+◌, ◌-◌, ◌++◌, ◌∷◌, [], vec_len}
 use Rattle.std.specs.Prelude.{vec_capacity, IsOk}
 use Rattle.std.proofs.lemmas.Grind.{common_steps}
 use Rattle.bm_session.specs.Session.{needed}
