@@ -1,0 +1,62 @@
+//! Replays of recorded sessions, and input that is refused.
+
+ghost use Rattle.std.specs.Prelude.{◌≤◌};
+
+mod faults;
+mod memory;
+mod messages;
+mod rows;
+mod words;
+
+use crate::replay::replay_run;
+use std::alloc::Global;
+use std::test::Fail;
+
+/// What a replay printed, and its exit status.
+#[derive(Drop)]
+pub struct Replayed {
+    pub status: u8,
+    pub output: String,
+    pub faults: String,
+}
+
+/// Replays the input over a queue of `capacity` items.
+pub fn replay_bytes(alloc: Global, capacity: u32, input: &[u8]) -> Result<Replayed, Fail>
+    requires some { 1 ≤ capacity }
+    requires few { capacity ≤ 65536 }
+{
+    let mut output = Vec::new(alloc);
+    let mut faults = Vec::new(alloc);
+    let status = replay_run(alloc, capacity, input, &mut output, &mut faults);
+    Ok(Replayed {
+        status,
+        output: String::from_utf8(output)?,
+        faults: String::from_utf8(faults)?,
+    })
+}
+
+/// Replays the lines of a script. A message in hex stands for the line that takes it in.
+pub fn replay_script(alloc: Global, capacity: u32, script: &[&str]) -> Result<Replayed, Fail>
+    requires some { 1 ≤ capacity }
+    requires few { capacity ≤ 65536 }
+{
+    let mut text = String::new(alloc);
+    for line in script {
+        if line.starts_with('8') {
+            text.push_str("in ")?;
+        }
+        text.push_str(line)?;
+        text.push_str("\n")?;
+    }
+    replay_bytes(alloc, capacity, text.as_bytes())
+}
+
+/// The lines as a text, each with its line end.
+pub fn joined(alloc: Global, lines: &[&str]) -> Result<String, Fail> {
+    let mut text = String::new(alloc);
+    for line in lines {
+        text.push_str(line)?;
+        text.push_str("\n")?;
+    }
+    Ok(text)
+}
