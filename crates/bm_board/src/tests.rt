@@ -1,3 +1,5 @@
+ghost use Rattle.std.specs.Prelude.{◌≤◌, All};
+
 use super::*;
 use bm_lines::Text;
 use bm_session::Results;
@@ -50,12 +52,10 @@ fn make_build(
     }
 }
 
-// A board of ready workers with one slot each.
-fn make_board<const N: usize>(
-    alloc: Global,
-    slots: &[u8; N],
-    lock_max: &[u32],
-) -> Result<Board, AllocError> {
+fn make_board(alloc: Global, slots: &[u8], lock_max: &[u32]) -> Result<Board, AllocError>
+    requires slots { All (λ n. (1 ≤ n) × (n ≤ 4)) slots.now }
+    requires maxima { All (λ n. 1 ≤ n) lock_max.now }
+{
     match Board::new(alloc, slots, lock_max) {
         Err(_) => Board::new(alloc, slots, lock_max),
         board => board,
