@@ -2,7 +2,7 @@
 
 use super::vectors::{START_ZERO, UPDATE_ZERO, VECTORS};
 use super::{fault_in, rewritten, written};
-use crate::{DecodeError, EncodeError, decode, decode_whole, encode};
+use crate::{Bytes, DecodeError, EncodeError, Text, decode, decode_whole, encode};
 use linked_list_allocator::LocalHeap;
 use refusing::Refusing;
 use std::test::Fail;
@@ -111,5 +111,18 @@ fn each_refused_request_of_a_copy_is_want_of_memory(rt: HostRuntime) -> Result<(
         met = met.saturating_add(1);
     }
     assert!(rt; met >= 2);
+    Ok(())
+}
+
+#[test]
+fn texts_and_bytes_are_copied_or_refused(rt: HostRuntime) -> Result<(), Fail> {
+    let heap = Refusing::new(rt.alloc(), 2);
+    let text = Text::from_string(String::from_str(&heap, "ab")?);
+    assert!(rt; text.copy().is_err());
+    assert_eq!(rt; text.copy()?.as_str(), "ab");
+    let heap = Refusing::new(rt.alloc(), 2);
+    let bytes = Bytes::from_vec(Vec::from_slice(&heap, &[1, 2])?);
+    assert!(rt; bytes.copy().is_err());
+    assert_eq!(rt; bytes.copy()?.as_slice(), [1, 2].as_slice());
     Ok(())
 }
