@@ -1,3 +1,4 @@
 mod Keeping
+mod Later
 mod Refusals
 mod Steps
