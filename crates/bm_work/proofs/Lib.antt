@@ -1,3 +1,9 @@
-pub mod Ends
-pub mod Pieces
-pub mod TextLaws
+mod Ends
+mod Pieces
+mod TextLaws
+mod AnswerMaps
+mod Strs
+mod Streams
+mod Cores
+mod Examples
+mod Sizes

@@ -5,7 +5,7 @@ use Rattle.std.proofs.lemmas.List.Elements.{All-nil, All-cons, All-push}
 use Rattle.std.proofs.lemmas.Bool.Decides.{nat_tests}
 use Rattle.std.specs.List.{concat}
 use Rattle.bm_work.specs.Cuts.{ends_text, texts_after, left_after, texts_of, left_of}
-use Rattle.bm_work.specs.Laws.{IsPartOfLine, IsText, TextsAreTheBytes, TextsEndWhereTheyMust, PiecesPlayNoPart}
+use Rattle.bm_work.specs.TextLaws.{IsPartOfLine, IsText, TextsAreTheBytes, TextsEndWhereTheyMust, PiecesPlayNoPart}
 use Rattle.bm_work.proofs.Pieces.{texts_after-append, left_after-append, ends_text-short, or-first, length-push, unended-left, unended-empty, texts_of-kept, left_of-kept}
 
 joined : (line bytes : List ℕ) → concat (texts_after line bytes) ++ left_after line bytes ≡ line ++ bytes

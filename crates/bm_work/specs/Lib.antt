@@ -1,3 +1,10 @@
 pub mod Cuts
 pub mod Assembling
-pub mod Laws
+pub mod TextLaws
+pub mod Argv
+pub mod Answers
+pub mod Replies
+pub mod Stream
+pub mod Reports
+pub mod Core
+pub mod StreamLaws

@@ -2,7 +2,20 @@
 //! answers to its master, and the requests that it numbers, keeps and sends again.
 #![tactic(auto)]
 
+mod act;
+mod answer;
+mod answers;
+mod argv;
 mod assembler;
+mod hearing;
 pub mod laws;
+mod sent;
+mod wire;
+mod worker;
 
+pub use act::{WorkAct, WorkRefusal};
+pub use answer::Answer;
+pub use argv::Argv;
 pub use assembler::Assembler;
+pub use sent::{Finish, Sent};
+pub use worker::Worker;

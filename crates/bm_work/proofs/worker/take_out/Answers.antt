@@ -1,0 +1,6 @@
+use Rattle.std.proofs.Common.{ℕ, ◌==◌, not, rules}
+use Rattle.std.proofs.lemmas.Fn.{filter_same}
+use Rattle.bm_work.proofs.worker.take_out.Goals as goal
+
+pub returns : goal.returns
+returns c = filter_same _ (λ (j : ℕ). not (j == c.args.command)) _ (λ x b f h. search rules) _ _ c.retain.ensures.filtered

@@ -1,0 +1,350 @@
+ghost use Rattle.std.specs.Prelude.{◌<◌, ◌≤◌, ◌^◌, length};
+
+use crate::{Finish, Sent, WorkAct, WorkRefusal, Worker};
+use bm_lines::{Letter, Text};
+use bm_msg::{Message, Numbered, Request, Response, read};
+use bm_value::{Value, decode_whole};
+use std::alloc::{AllocError, Global};
+use std::test::Fail;
+
+/// The first update, of command 0, with standard output `a\n`.
+const UPDATE_ZERO: &[u8] =
+    b"\x84\xaaseq_number\x00\xa2op\xa6update\xaacommand_id\xa10\xa4args\x91\x92\xa6stdout\xa2a\n";
+
+/// The first update, with the exit code -1.
+const EXIT_CODE_ZERO: &[u8] =
+    b"\x84\xaaseq_number\x00\xa2op\xa6update\xaacommand_id\xa10\xa4args\x91\x92\xa2rc\xff";
+
+/// The second request: command 0 ended.
+const COMPLETE_ONE: &[u8] =
+    b"\x84\xaaseq_number\x01\xa2op\xa8complete\xaacommand_id\xa10\xa4args\xc0";
+
+/// The first order: start command 0 with the word `true`.
+const START_ZERO: &[u8] =
+    b"\x85\xaaseq_number\x00\xa2op\xadstart_command\xaacommand_id\xa10\xaccommand_name\xa5shell\xa4args\x81\xa7command\x91\xa4true";
+
+const DONE_ZERO: &[u8] = b"\x83\xaaseq_number\x00\xa2op\xa8response\xa6result\xc0";
+
+const NO_SUCH_COMMAND_ONE: &[u8] =
+    b"\x84\xaaseq_number\x01\xa2op\xa8response\xa6result\xafno such command\xacis_exception\xc3";
+
+const BAD_ARGUMENTS_SEVEN: &[u8] =
+    b"\x84\xaaseq_number\x07\xa2op\xa8response\xa6result\xadbad arguments\xacis_exception\xc3";
+
+const INFO_THREE: &[u8] =
+    b"\x83\xaaseq_number\x03\xa2op\xa8response\xa6result\x81\xa7version\xadbuildworker 1";
+
+fn message_of(alloc: Global, bytes: &[u8]) -> Option<Message> {
+    let value = decode_whole(alloc, bytes).ok()?;
+    read(alloc, &value).ok()
+}
+
+/// The message of the bytes, read a second time where memory was refused.
+fn message(alloc: Global, bytes: &[u8]) -> Result<Message, Fail> {
+    match message_of(alloc, bytes) {
+        Some(message) => Ok(message),
+        None => Ok(message_of(alloc, bytes).ok_or("no message")?),
+    }
+}
+
+fn response(seq: u64) -> Message
+    requires { seq < 2 ^ 63 }
+{
+    Message::Response(Response {
+        seq,
+        result: Value::Nil,
+        exception: false,
+    })
+}
+
+/// Hears the message, a second time where memory was refused, since that changed nothing and gave it back.
+fn hear(worker: &mut Worker, message: Message) -> Result<(WorkAct, Option<Vec<u8>>), WorkRefusal> {
+    match worker.hear(message) {
+        Ok(heard) => Ok(heard),
+        Err((message, _)) => match worker.hear(message) {
+            Ok(heard) => Ok(heard),
+            Err((_, refusal)) => Err(refusal),
+        },
+    }
+}
+
+fn say(worker: &mut Worker, command: u64, letter: Letter, text: &str) -> Result<Sent, WorkRefusal>
+    requires { length text.now ≤ 65536 }
+{
+    match worker.say(command, letter, text) {
+        Err(WorkRefusal::Mem) => worker.say(command, letter, text),
+        said => said,
+    }
+}
+
+fn finish(worker: &mut Worker, command: u64, code: i64) -> Result<Vec<Sent>, WorkRefusal> {
+    match worker.finish(command, Finish::Rc(code)) {
+        Err(WorkRefusal::Mem) => worker.finish(command, Finish::Rc(code)),
+        finished => finished,
+    }
+}
+
+fn resend(worker: &Worker) -> Result<Vec<Sent>, AllocError> {
+    match worker.resend() {
+        Ok(requests) => Ok(requests),
+        Err(_) => worker.resend(),
+    }
+}
+
+/// The order to start the command, with the value that the bytes spell as its arguments.
+fn start(alloc: Global, seq: u64, command: u64, args: &[u8]) -> Result<Message, Fail>
+    requires { seq < 2 ^ 63 }
+{
+    let name = Text::from_str(alloc, "shell")?;
+    let args = decode_whole(alloc, args)?;
+    Ok(Message::Request(Numbered {
+        seq,
+        request: Request::StartCommand {
+            command,
+            name,
+            args,
+        },
+    }))
+}
+
+/// A start with words.
+const WORDS: &[u8] = b"\x81\xa7command\x91\xa4true";
+
+fn is_answered(act: &WorkAct, seq: u64) -> bool {
+    matches!(act, WorkAct::Answered(n) if *n == seq)
+}
+
+/// The text of the exception that the response tells, if it is one.
+fn exception(alloc: Global, bytes: Option<Vec<u8>>) -> Result<String, Fail> {
+    let bytes = bytes.ok_or("no response")?;
+    let value = decode_whole(alloc, bytes.as_slice())?;
+    match (value.get("is_exception"), value.get("result")) {
+        (Some(Value::Bool(true)), Some(Value::Str(text))) => {
+            Ok(String::from_str(alloc, text.as_str())?)
+        }
+        _ => Ok(String::new(alloc)),
+    }
+}
+
+#[test]
+fn worker_runs_a_command_and_tells_of_it(rt: HostRuntime) -> Result<(), Fail> {
+    let alloc = rt.alloc();
+    let mut worker = Worker::new(alloc);
+
+    let (act, bytes) = hear(&mut worker, message(alloc, START_ZERO)?)?;
+    let WorkAct::Run { command, argv } = act else {
+        panic!(&rt; "the command is to run");
+    };
+    assert_eq!(rt; command, 0);
+    assert_eq!(rt; argv.as_slice().len(), 1);
+    assert_eq!(rt; argv.as_slice()[0].as_str(), "true");
+    assert_eq!(rt; bytes.ok_or("no response")?.as_slice(), DONE_ZERO);
+
+    let said = say(&mut worker, 0, Letter::O, "a\n")?;
+    assert_eq!(rt; said.seq, 0);
+    assert_eq!(rt; said.bytes.as_slice(), UPDATE_ZERO);
+
+    let ended = finish(&mut worker, 0, 0)?;
+    assert_eq!(rt; ended.len(), 2);
+    assert_eq!(rt; ended[0].seq, 1);
+    assert_eq!(rt; ended[1].seq, 2);
+
+    let refusal = say(&mut worker, 0, Letter::O, "b").err();
+    assert_eq!(rt; refusal, Some(WorkRefusal::NoSuchCommand));
+
+    for seq in 0..3 {
+        let (act, bytes) = hear(&mut worker, response(seq))?;
+        assert!(rt; is_answered(&act, seq), "request {seq} is answered");
+        assert!(rt; bytes.is_none());
+    }
+    assert_eq!(rt; resend(&worker)?.len(), 0);
+    Ok(())
+}
+
+#[test]
+fn exit_code_and_end_are_two_requests(rt: HostRuntime) -> Result<(), Fail> {
+    let alloc = rt.alloc();
+    let mut worker = Worker::new(alloc);
+    let _ = hear(&mut worker, message(alloc, START_ZERO)?)?;
+    let ended = finish(&mut worker, 0, -1)?;
+    assert_eq!(rt; ended.len(), 2);
+    assert_eq!(rt; ended[0].bytes.as_slice(), EXIT_CODE_ZERO);
+    assert_eq!(rt; ended[1].bytes.as_slice(), COMPLETE_ONE);
+    Ok(())
+}
+
+#[test]
+fn window_holds_sixty_four_requests(rt: HostRuntime) -> Result<(), Fail> {
+    let alloc = rt.alloc();
+    let mut worker = Worker::new(alloc);
+    let _ = hear(&mut worker, message(alloc, START_ZERO)?)?;
+    for seq in 0..64 {
+        assert_eq!(rt; say(&mut worker, 0, Letter::O, "x\n")?.seq, seq);
+    }
+    let refusal = say(&mut worker, 0, Letter::O, "x\n").err();
+    assert_eq!(rt; refusal, Some(WorkRefusal::Window));
+    let _ = hear(&mut worker, response(63))?;
+    let refusal = finish(&mut worker, 0, 0).err();
+    assert_eq!(rt; refusal, Some(WorkRefusal::Window));
+    assert_eq!(rt; say(&mut worker, 0, Letter::O, "x\n")?.seq, 64);
+    Ok(())
+}
+
+#[test]
+fn bad_arguments_are_answered_and_repeated(rt: HostRuntime) -> Result<(), Fail> {
+    let mut worker = Worker::new(rt.alloc());
+    for _ in 0..2 {
+        let (act, bytes) = match worker.bad_args(7) {
+            Ok(heard) => heard,
+            Err(_) => worker.bad_args(7)?,
+        };
+        assert!(rt; matches!(act, WorkAct::Nothing));
+        assert_eq!(rt; bytes.ok_or("no response")?.as_slice(), BAD_ARGUMENTS_SEVEN);
+    }
+    Ok(())
+}
+
+#[test]
+fn cut_connection_sends_unanswered_again(rt: HostRuntime) -> Result<(), Fail> {
+    let alloc = rt.alloc();
+    let mut worker = Worker::new(alloc);
+    let _ = hear(&mut worker, message(alloc, START_ZERO)?)?;
+    let _ = say(&mut worker, 0, Letter::O, "a\n")?;
+    let second = say(&mut worker, 0, Letter::E, "b\n")?;
+    let _ = hear(&mut worker, response(0))?;
+
+    let again = resend(&worker)?;
+    assert_eq!(rt; again.len(), 1);
+    assert_eq!(rt; again[0].seq, 1);
+    assert_eq!(rt; again[0].bytes.as_slice(), second.bytes.as_slice());
+
+    let (act, bytes) = hear(&mut worker, message(alloc, START_ZERO)?)?;
+    assert!(rt; matches!(act, WorkAct::Nothing));
+    assert_eq!(rt; bytes.ok_or("no response")?.as_slice(), DONE_ZERO);
+
+    worker.lost();
+    assert_eq!(rt; resend(&worker)?.len(), 0);
+    let (act, _) = hear(&mut worker, message(alloc, START_ZERO)?)?;
+    assert!(rt; matches!(act, WorkAct::Run { .. }));
+    assert_eq!(rt;
+        say(&mut worker, 0, Letter::O, "a\n")?.bytes.as_slice(),
+        UPDATE_ZERO
+    );
+    Ok(())
+}
+
+#[test]
+fn starts_are_tested_in_order(rt: HostRuntime) -> Result<(), Fail> {
+    let alloc = rt.alloc();
+    let mut worker = Worker::new(alloc);
+    let table: [(u64, &[u8], &str); 9] = [
+        (0, b"\xc0", "bad arguments"),
+        (0, b"\x81\xa7command\x90", "bad arguments"),
+        (0, b"\x81\xa7command\x92\xa1a\x01", "bad arguments"),
+        (0, WORDS, ""),
+        (0, WORDS, "command already runs"),
+        (1, WORDS, ""),
+        (2, WORDS, ""),
+        (3, b"\x81\xa7command\xa6echo a", ""),
+        (4, WORDS, "too many commands"),
+    ];
+    let mut seq = 0;
+    for (command, args, text) in table {
+        let (_, bytes) = hear(&mut worker, start(alloc, seq, command, args)?)?;
+        assert_eq!(rt; exception(alloc, bytes)?.as_str(), text, "order {seq}");
+        seq += 1;
+    }
+    Ok(())
+}
+
+#[test]
+fn line_is_run_by_a_shell(rt: HostRuntime) -> Result<(), Fail> {
+    let alloc = rt.alloc();
+    let mut worker = Worker::new(alloc);
+    let order = start(alloc, 0, 5, b"\x81\xa7command\xa6echo a")?;
+    let (WorkAct::Run { command, argv }, _) = hear(&mut worker, order)? else {
+        panic!(&rt; "the command is to run");
+    };
+    assert_eq!(rt; command, 5);
+    let argv = argv.copy()?;
+    let words = argv.as_slice();
+    assert_eq!(rt; words.len(), 3);
+    assert_eq!(rt; words[0].as_str(), "sh");
+    assert_eq!(rt; words[1].as_str(), "-c");
+    assert_eq!(rt; words[2].as_str(), "echo a");
+    Ok(())
+}
+
+#[test]
+fn other_requests_have_their_answers(rt: HostRuntime) -> Result<(), Fail> {
+    let alloc = rt.alloc();
+    let mut worker = Worker::new(alloc);
+    let _ = hear(&mut worker, message(alloc, START_ZERO)?)?;
+
+    let order =
+        b"\x84\xaaseq_number\x01\xa2op\xb1interrupt_command\xaacommand_id\xa11\xa3why\xa4stop";
+    let (act, bytes) = hear(&mut worker, message(alloc, order)?)?;
+    assert!(rt; matches!(act, WorkAct::Nothing));
+    assert_eq!(rt; bytes.ok_or("no response")?.as_slice(), NO_SUCH_COMMAND_ONE);
+
+    let order =
+        b"\x84\xaaseq_number\x02\xa2op\xb1interrupt_command\xaacommand_id\xa10\xa3why\xa4stop";
+    let (act, _) = hear(&mut worker, message(alloc, order)?)?;
+    assert!(rt; matches!(act.copy()?, WorkAct::Interrupt(0)));
+
+    let question = b"\x82\xaaseq_number\x03\xa2op\xafget_worker_info";
+    let (act, bytes) = hear(&mut worker, message(alloc, question)?)?;
+    assert!(rt; matches!(act, WorkAct::Info));
+    assert_eq!(rt; bytes.ok_or("no response")?.as_slice(), INFO_THREE);
+
+    let order = b"\x83\xaaseq_number\x04\xa2op\xa5print\xa7message\xa2hi";
+    let (act, bytes) = hear(&mut worker, message(alloc, order)?)?;
+    let WorkAct::Print(text) = act else {
+        panic!(&rt; "the text is to be shown");
+    };
+    assert_eq!(rt; text.as_str(), "hi");
+    assert_eq!(rt; exception(alloc, bytes)?.as_str(), "");
+
+    let order = b"\x82\xaaseq_number\x05\xa2op\xa6upload";
+    let (act, bytes) = hear(&mut worker, message(alloc, order)?)?;
+    assert!(rt; matches!(act, WorkAct::Nothing));
+    assert_eq!(rt; exception(alloc, bytes)?.as_str(), "no such operation");
+
+    let order = b"\x82\xaaseq_number\x06\xa2op\xa8shutdown";
+    let (act, bytes) = hear(&mut worker, message(alloc, order)?)?;
+    assert!(rt; matches!(act, WorkAct::Shutdown));
+    assert_eq!(rt; exception(alloc, bytes)?.as_str(), "");
+    Ok(())
+}
+
+#[test]
+fn fault_is_one_complete(rt: HostRuntime) -> Result<(), Fail> {
+    let alloc = rt.alloc();
+    let mut worker = Worker::new(alloc);
+    let _ = hear(&mut worker, message(alloc, START_ZERO)?)?;
+    let text = Text::from_str(alloc, "cannot start")?;
+    assert!(rt; text.as_str().len() <= 65_536);
+    let fault = Finish::Fault(text).copy()?;
+    let ended = worker.finish(0, fault)?;
+    assert_eq!(rt; ended.len(), 1);
+    let sent = ended[0].copy(alloc)?;
+    assert_eq!(rt; sent.seq, 0);
+    assert_eq!(rt;
+        sent.bytes.as_slice(),
+        b"\x84\xaaseq_number\x00\xa2op\xa8complete\xaacommand_id\xa10\xa4args\xaccannot start".as_slice()
+    );
+    Ok(())
+}
+
+#[test]
+fn refusals_have_their_texts(rt: HostRuntime) -> Result<(), Fail> {
+    let alloc = rt.alloc();
+    for (refusal, text) in [
+        (WorkRefusal::NoSuchCommand, "no such command"),
+        (WorkRefusal::Window, "window full"),
+        (WorkRefusal::Mem, "out of memory"),
+    ] {
+        assert_eq!(rt; format!(in alloc; "{refusal}")?.as_str(), text);
+    }
+    Ok(())
+}
