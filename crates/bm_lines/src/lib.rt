@@ -7,6 +7,8 @@ mod block;
 mod line;
 mod log_name;
 mod parcel;
+#[cfg(test)]
+mod tests;
 mod text;
 
 pub use block::{Block, append_content, content, cut};

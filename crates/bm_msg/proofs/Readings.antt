@@ -309,3 +309,7 @@ fault_from_reads t (Err Mem) h = λ never. absurd (never refl)
 
 pub reads_along : (r : Result Message MsgError) (a b : Result Meaning MsgError) → a ≡ b → Reads r a → Reads r b
 reads_along r a b e h = subst (λ x. Reads r x) e h
+
+-- no tree is two messages
+pub told_once : (t : Tree) (m n : Meaning) → IsMessage t m → IsMessage t n → m ≡ n
+told_once t m n p q = ok_is m n (sym (message_read t m p) ∙ message_read t n q)

@@ -1,11 +1,12 @@
 -- The tree of a message is that message.
-use Rattle.std.proofs.Common.{◌≡◌, refl, sym, ◌∙◌, ap, ℕ, ◌<◌, ◌≤◌, ◌^◌, Bool, true, false, cond, ◌&&◌, List, [], ◌∷◌, ◌++◌, map, length, Option, Some, None, arith}
+use Rattle.std.proofs.Common.{◌≡◌, refl, sym, ◌∙◌, ap, subst, take, ℕ, ◌<◌, ◌≤◌, ◌^◌, Bool, true, false, cond, ◌&&◌, List, [], ◌∷◌, ◌++◌, map, length, Option, Some, None, arith}
 use Rattle.std.specs.Prelude.{nat_le, codes, pos}
 use Rattle.std.specs.Option.{option_map, option_and_then}
 use Rattle.std.proofs.lemmas.Bool.Decides.{nat_tests}
 use Rattle.bm_value.specs.Tree.{Tree, int, str}
 use Rattle.bm_value.specs.Field.{field}
 use Rattle.bm_value.specs.View.{trees_of}
+use Rattle.bm_value.proofs.Unique.{spelled_once}
 use Rattle.bm_lines.specs.Names.{IsLogName}
 use Rattle.bm_lines.specs.declared.line.Letter.TheVariants.{O, E, H}
 use Rattle.bm_msg.specs.declared.field.Field.{Field}
@@ -14,7 +15,11 @@ use Rattle.bm_msg.specs.Items.{is_log_name, item_fields, fields_of}
 use Rattle.bm_msg.specs.Meaning.{Asked, auth, print, keepalive, get_worker_info, start_command, interrupt_command, shutdown, update, complete, unknown, Meaning, request, response}
 use Rattle.bm_msg.specs.Messages.{IsMessage, IsRequest, is_session, result_of}
 use Rattle.bm_msg.specs.Trees.{item_of, tree_of}
-use Rattle.bm_msg.specs.Laws.{AreNamed, IsPlain, IsPlainMessage, WrittenIsMessage}
+use Rattle.bm_msg.specs.Laws.{AreNamed, IsPlain, IsPlainMessage, WrittenIsMessage, WrittenIsRead}
+use Rattle.bm_value.specs.Spelling.{Spells}
+use Rattle.bm_value.specs.Writing.{written}
+use Rattle.bm_value.specs.Decoding.{IsReadBack}
+use Rattle.std.proofs.Math.Seq.{take-append_seam}
 
 both : (a b : Bool) → a ≡ true → b ≡ true → (a && b) ≡ true
 both true true p q = refl
@@ -74,3 +79,11 @@ pub message_back : WrittenIsMessage
 message_back (request n a) h = ((number_back n a, h.0), request_back n a h.1)
 message_back (response n r true) h = ((refl, h.0), refl, refl, ap (λ t. result_of true (Some t)) h.1.1 ∙ sym h.1.1)
 message_back (response n r false) h = ((refl, h.0), refl, refl, refl)
+
+-- what is written is read as one tree
+pub bytes_back : WrittenIsRead
+bytes_back m plain back t spelled =
+    let w : List ℕ = written (tree_of m) in
+    let front : take (length w) (w ++ []) ≡ w = take-append_seam w [] in
+    let own : Spells w (tree_of m) = subst (λ bytes. Spells bytes (tree_of m)) front (back []).spelled in
+    subst (λ u. IsMessage u m) (spelled_once w (tree_of m) t own spelled) (message_back m plain)

@@ -1,6 +1,9 @@
--- What is written reads back as the same message.
+-- No tree is two messages, and what is written reads back as the same message.
 use Rattle.std.specs.Prelude.{◌≡◌, ℕ, ◌<◌, ◌≤◌, ◌^◌, Bool, true, false, List, [], ◌∷◌, length, Option, Some, None}
 use Rattle.bm_value.specs.Tree.{Tree, str}
+use Rattle.bm_value.specs.Spelling.{Spells}
+use Rattle.bm_value.specs.Writing.{written}
+use Rattle.bm_value.specs.Decoding.{IsReadBack}
 use Rattle.bm_lines.specs.Names.{IsLogName}
 use Rattle.bm_msg.specs.declared.field.Field.{Field}
 use Rattle.bm_msg.specs.declared.field.Field.TheVariants.{Text, Named, Rc}
@@ -42,3 +45,11 @@ IsPlainMessage (response n result exception) = (n < 2 ^ 63) × IsPlainResult exc
 -- The tree that a message is written as is that message.
 abbrev pub WrittenIsMessage : Type 0
 WrittenIsMessage = (m : Meaning) → IsPlainMessage m → IsMessage (tree_of m) m
+
+-- No tree is two messages.
+abbrev pub ToldOnce : Type 0
+ToldOnce = (t : Tree) (m n : Meaning) → IsMessage t m → IsMessage t n → m ≡ n
+
+-- Whatever tree the bytes of a message spell is that message.
+abbrev pub WrittenIsRead : Type 0
+WrittenIsRead = (m : Meaning) → IsPlainMessage m → IsReadBack (tree_of m) → (t : Tree) → Spells (written (tree_of m)) t → IsMessage t m

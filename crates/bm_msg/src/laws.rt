@@ -1,9 +1,21 @@
 //! Laws of messages, as contracts.
 
-ghost use Rattle.bm_msg.specs.Laws.{WrittenIsMessage};
+ghost use Rattle.bm_msg.specs.Laws.{ToldOnce, WrittenIsMessage, WrittenIsRead};
 
-/// What is written reads back as the same message, where a command's number is below 2^63, an
-/// unknown operation is none of the protocol, an exception's result is a str, and a session has 1 to 64 bytes.
+/// No tree is two messages.
+pub fn told_once()
+    ensures { ToldOnce }
+{}
+
+/// The tree that a message is written as is that message, where a command's number is below 2^63,
+/// an unknown operation is none of the protocol, an exception's result is a str, and a session has
+/// 1 to 64 bytes.
 pub fn written_is_message()
     ensures { WrittenIsMessage }
+{}
+
+/// Whatever tree the bytes of a message spell is that message, under the same conditions. The calls
+/// that write a message answer that its bytes are read back.
+pub fn written_is_read()
+    ensures { WrittenIsRead }
 {}

@@ -14,6 +14,8 @@ mod limits;
 mod message;
 mod reading;
 mod request;
+#[cfg(test)]
+mod tests;
 mod writing;
 
 pub use fault::MsgError;

@@ -1,0 +1,120 @@
+//! What no clause says: worked examples, that calls succeed, and that copies keep what they had.
+
+use crate::{Block, Letter, Line, LogName, Parcel, Text, append_content, content, cut};
+use std::alloc::{AllocError, Global};
+use std::process::Abort;
+use std::test::Fail;
+
+/// The content of a block.
+fn told(alloc: Global, block: &Block) -> Result<String, AllocError> {
+    content(alloc, block.lines())
+}
+
+/// The log's name, which must be one.
+fn named(rt: &impl Abort, alloc: Global, name: &str) -> Result<LogName, AllocError> {
+    Ok(LogName::new(alloc, name)?.expect(rt, "a name of a log"))
+}
+
+/// The content of the block under a name, which must be there.
+fn told_under(
+    rt: &impl Abort,
+    alloc: Global,
+    parcel: &Parcel,
+    name: &str,
+) -> Result<String, AllocError> {
+    told(alloc, parcel.of(name).expect(rt, "a part of that name"))
+}
+
+#[test]
+fn texts_are_cut_at_line_ends_alone(rt: HostRuntime) -> Result<(), Fail> {
+    let alloc = rt.alloc();
+    let rows = [
+        (Letter::E, "x\n\ny", "ex\ne\ney\n"),
+        (Letter::O, "", ""),
+        (Letter::O, "\n", "o\n"),
+        (Letter::H, "a\r\nb\n", "ha\r\nhb\n"),
+        (Letter::O, "\n\n", "o\no\n"),
+    ];
+    for (letter, text, want) in rows {
+        assert_eq!(rt; told(alloc, &cut(alloc, letter, text)?)?.as_str(), want);
+        let mut block = Block::new(alloc);
+        block.add(letter, text)?;
+        assert_eq!(rt; told(alloc, &block)?.as_str(), want);
+    }
+    Ok(())
+}
+
+#[test]
+fn a_copy_keeps_its_lines_when_the_block_grows(rt: HostRuntime) -> Result<(), Fail> {
+    let alloc = rt.alloc();
+    let mut block = cut(alloc, Letter::O, "a\n")?;
+    let copy = block.copy()?;
+    block.add(Letter::E, "b")?;
+    assert_eq!(rt; told(alloc, &copy)?.as_str(), "oa\n");
+    assert_eq!(rt; told(alloc, &block)?.as_str(), "oa\neb\n");
+    block.add(Letter::H, "c")?;
+    assert_eq!(rt; told(alloc, &block)?.as_str(), "oa\neb\nhc\n");
+    Ok(())
+}
+
+#[test]
+fn lines_make_a_block_and_contents_join(rt: HostRuntime) -> Result<(), Fail> {
+    let alloc = rt.alloc();
+    let text = Text::from_str(alloc, "a")?;
+    let line = Line {
+        letter: Letter::O,
+        text,
+    };
+    let mut lines = Vec::new(alloc);
+    lines.push(line.copy()?)?;
+    assert!(rt; line.text.is(&line.text.copy()?));
+    lines.push(line)?;
+    let block = Block::from_lines(alloc, lines)?;
+    let mut out = String::from_str(alloc, ">")?;
+    append_content(&mut out, block.lines())?;
+    assert_eq!(rt; out.as_str(), ">oa\noa\n");
+    Ok(())
+}
+
+#[test]
+fn names_have_1_to_255_bytes(rt: HostRuntime) -> Result<(), Fail> {
+    let alloc = rt.alloc();
+    let mut long = String::new(alloc);
+    for _ in 0..127 {
+        long.push('ä')?;
+    }
+    long.push('x')?;
+    assert!(rt; named(&rt, alloc, long.as_str())?.is(long.as_str()));
+    long.push('y')?;
+    assert!(rt; LogName::new(alloc, long.as_str())?.is_none());
+    assert!(rt; LogName::new(alloc, "")?.is_none());
+    let name = named(&rt, alloc, "stdio")?;
+    assert_eq!(rt; name.copy()?.as_str(), "stdio");
+    assert!(rt; !name.is("std"));
+    Ok(())
+}
+
+#[test]
+fn items_join_under_their_names(rt: HostRuntime) -> Result<(), Fail> {
+    let alloc = rt.alloc();
+    let stdio = named(&rt, alloc, "stdio")?;
+    let other = named(&rt, alloc, "l")?;
+    let mut parcel = Parcel::new(alloc);
+    parcel.add(&stdio, Letter::O, "a\n")?;
+    parcel.add(&other, Letter::O, "")?;
+    parcel.add(&stdio, Letter::O, "s\n")?;
+    let copy = parcel.copy()?;
+    parcel.add(&stdio, Letter::E, "b\n")?;
+    assert_eq!(rt;
+        told_under(&rt, alloc, &parcel, "stdio")?.as_str(),
+        "oa\nos\neb\n"
+    );
+    assert_eq!(rt; told_under(&rt, alloc, &parcel, "l")?.as_str(), "");
+    assert!(rt; parcel.of("m").is_none());
+    assert_eq!(rt; parcel.parts().len(), 2);
+    assert_eq!(rt;
+        told_under(&rt, alloc, &copy, "stdio")?.as_str(),
+        "oa\nos\n"
+    );
+    Ok(())
+}
