@@ -3,13 +3,16 @@
 ghost use Rattle.std.specs.Prelude.{◌≤◌};
 
 mod faults;
+mod forms;
 mod memory;
 mod messages;
 mod rows;
+mod viewing;
 mod words;
 
 use crate::replay::replay_run;
 use std::alloc::Global;
+use std::process::Abort;
 use std::test::Fail;
 
 /// What a replay printed, and its exit status.
@@ -49,6 +52,24 @@ pub fn replay_script(alloc: Global, capacity: u32, script: &[&str]) -> Result<Re
         text.push_str("\n")?;
     }
     replay_bytes(alloc, capacity, text.as_bytes())
+}
+
+/// The replay of the script gives these answers and ends well.
+pub fn assert_answers(
+    rt: &(impl AllocGlobal + Abort),
+    capacity: u32,
+    script: &[&str],
+    answers: &[&str],
+) -> Result<(), Fail>
+    requires some { 1 ≤ capacity }
+    requires few { capacity ≤ 65536 }
+{
+    let replayed = replay_script(rt.alloc(), capacity, script)?;
+    let wanted = joined(rt.alloc(), answers)?;
+    assert_eq!(rt; replayed.output.as_str(), wanted.as_str());
+    assert_eq!(rt; replayed.faults.as_str(), "");
+    assert_eq!(rt; replayed.status, 0);
+    Ok(())
 }
 
 /// The lines as a text, each with its line end.
