@@ -8,3 +8,10 @@ mod Scanned
 mod Lanes
 mod Runs
 mod Fields
+mod Merged
+mod Inserted
+mod Listed
+mod Lookups
+mod Stepped
+mod Taking
+mod Hearing

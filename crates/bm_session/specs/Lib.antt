@@ -4,3 +4,5 @@ pub mod Seen
 pub mod Session
 pub mod Heard
 pub mod Texts
+pub mod Ranges
+pub mod Table

@@ -8,6 +8,7 @@ mod carried;
 mod event;
 mod item;
 mod plan;
+mod ranges;
 mod refusal;
 mod reply;
 mod results;
@@ -15,6 +16,7 @@ mod run;
 mod scan;
 mod seen;
 mod session;
+mod table;
 
 pub use event::{Body, Event};
 pub use item::Item;

@@ -1,5 +1,6 @@
 ghost use Rattle.std.specs.Prelude.{◌≡◌, ◌⊎◌, ◌++◌, ◌∷◌, ◌||◌, ◌≤◌, [], Some, None, true, IfOk, IfErr, IsOk, if◌then◌else◌};
 ghost use Rattle.bm_session.specs.Trace.{is_up as up_of, is_cut as cut_of, refusal as refusal_of, reply as reply_of, item as item_of, log as log_of, has_log as has_log_in, outcome as outcome_of, was_taken};
+ghost use Rattle.bm_session.specs.Seen.{HoldsSeen};
 ghost use Rattle.bm_session.specs.Session.{IsPlanFor, ran_as, trace_as, ran_after, trace_after};
 
 use crate::event::Event;
@@ -9,28 +10,32 @@ use crate::refusal::Refusal;
 use crate::reply::Reply;
 use crate::results::Results;
 use crate::run::Ran;
-use crate::scan::{answers, logs};
+use crate::scan::logs;
+use crate::seen::Seen;
+use crate::table::Table;
 use bm_lines::Block;
 use std::alloc::{AllocError, Global};
 use std::marker::Model;
 
-/// A lane's session: the events that it took.
+/// A lane's session: the events that it took, and the table of what they mean.
 ///
 /// While it is up or cut it has room for one event more, so that it can be given up without memory.
 #[derive(Drop)]
 pub struct Session {
     events: Vec<Event>,
+    table: Table,
 }
 
 impl Model for Session {
-    ghost use Rattle.std.specs.Prelude.{◌-◌, vec_len, vec_capacity};
-    ghost use Rattle.bm_session.specs.Session.{Lane, IsLane};
+    ghost use Rattle.std.specs.Prelude.{◌-◌, min, vec_len, vec_capacity};
+    ghost use Rattle.bm_session.specs.Session.{Lane};
+    ghost use Rattle.bm_session.specs.Table.{IsSession, table_room};
 
     ghost Value = { Lane };
 
-    ghost view = { λ s. record { trace = s.events.items; room = vec_capacity s.events - vec_len s.events } };
+    ghost view = { λ s. record { trace = s.events.items; room = min (vec_capacity s.events - vec_len s.events) (table_room s.table) } };
 
-    ghost invariant = { λ s. IsLane (record { trace = s.events.items; room = vec_capacity s.events - vec_len s.events }) };
+    ghost invariant = { λ s. IsSession (record { trace = s.events.items; room = min (vec_capacity s.events - vec_len s.events) (table_room s.table) }) s.table };
 }
 
 impl Session {
@@ -40,6 +45,7 @@ impl Session {
     {
         Ok(Session {
             events: Vec::with_capacity(alloc, 2)?,
+            table: Table::new(alloc)?,
         })
     }
 
@@ -56,7 +62,7 @@ impl Session {
         ensures events { result.items ≡ self.trace }
         ensures taken { was_taken self.trace ≡ true }
     {
-        let Session { events } = self;
+        let Session { events, .. } = self;
         events
     }
 
@@ -75,7 +81,15 @@ impl Session {
     pub fn outcome(&self, command: u64) -> Option<Results>
         ensures { result ≡ outcome_of self.now.trace command }
     {
-        logs::outcome(self.events.as_slice(), command)
+        self.table.outcome(command)
+    }
+
+    /// The numbers of the requests that the session had, with the first verdicts, as sorted ranges of which no two
+    /// overlap or could be one. While the session is neither up nor cut there are none.
+    pub fn seen(&self) -> &[Seen]
+        ensures { HoldsSeen result.now self.now.trace }
+    {
+        self.table.seen.as_slice()
     }
 
     /// Decides whether the event is taken next, and takes the memory that this needs. The session means the same
@@ -94,18 +108,18 @@ impl Session {
         ensures refused { IfErr result (λ r. (refusal_of self.old.trace event ≡ Some r.1) ⊎ ((refusal_of self.old.trace event ≡ None) × (r.1 ≡ Refusal.Mem))) }
         ensures down { event ≡ Event.Down → (up_of self.old.trace || cut_of self.old.trace) ≡ true → IsOk result }
     {
-        if let Some(reason) = answers::refusal(self.events.as_slice(), &event) {
+        if let Some(reason) = self.table.refusal(self.events.len(), &event) {
             return Err((event, reason));
         }
-        let reply = answers::reply(self.events.as_slice(), &event);
-        let Ok(item) = answers::item(self.events.as_slice(), &event) else {
+        let reply = self.table.reply(&event);
+        let Ok(item) = self.table.item(&event) else {
             return Err((event, Refusal::Mem));
         };
         let needed = match event {
             Event::Down => 1,
             _ => 2,
         };
-        if self.events.reserve(needed).is_err() {
+        if self.events.reserve(needed).is_err() || self.table.reserve(needed).is_err() {
             return Err((event, Refusal::Mem));
         }
         Ok(Plan::of(event, reply, item))
@@ -120,6 +134,7 @@ impl Session {
         ensures item { result.1 ≡ plan.given }
     {
         let (event, reply, item) = plan.into_parts();
+        self.table.take(&event);
         let _ = self.events.push(event);
         (reply, item)
     }
