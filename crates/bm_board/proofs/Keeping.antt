@@ -1,23 +1,20 @@
 -- Lemmas on what a board keeps, as one of its builds changes.
-use Rattle.std.proofs.Common.{◌≡◌, ℕ, ◌+◌, ◌<◌, ◌≤◌, ◌==◌, Bool, true, false, cond, ◌&&◌, nat_lt, List, [], ◌∷◌, ◌++◌, length, get_or, set, slice_index, map, count_by, replicate, All, IsTrue, refl, sym, ap, subst, ◌∙◌, arith, ◌⊎◌, inl, inr}
-use Rattle.std.specs.List.{list_any, list_all}
+use Rattle.std.proofs.Common.{◌≡◌, ℕ, ◌+◌, ◌<◌, ◌≤◌, ◌==◌, Bool, true, false, cond, ◌&&◌, nat_lt, List, [], ◌∷◌, ◌++◌, length, get_or, set, slice_index, map, count_by, replicate, All, IsTrue, refl, sym, ap, subst, ◌∙◌, arith, inl, inr}
+use Rattle.std.specs.List.{list_any}
 use Rattle.std.proofs.lemmas.Bool.{and_parts, and_from, cases_Bool, eqb-true, ltb-true, cond-true, cond-false, true≢false}
 use Rattle.std.proofs.lemmas.List.{length-set, length-append, length-replicate, get_or-replicate}
 use Rattle.std.proofs.Math.Seq.{map-set_same}
-use Rattle.std.proofs.lemmas.List.Folds.{list_any_at}
 use Rattle.std.proofs.lemmas.List.Sums.{sum_by-set, sum_by-append}
 use Rattle.std.proofs.lemmas.List.Elements.{All-set, All-push}
-use Rattle.std.proofs.lemmas.Bool.Decides.{nat_tests}
 use Rattle.bm_board.specs.declared.plan.Mode.{Mode}
 use Rattle.bm_board.specs.declared.plan.Mode.TheVariants.{Counting, Exclusive}
-use Rattle.bm_board.specs.declared.plan.LockUse.{LockUse}
 use Rattle.bm_board.specs.declared.plan.Build.{Build}
 use Rattle.bm_board.specs.declared.worker.Worker.{Worker}
-use Rattle.bm_board.specs.Locks.{is_mode, is_use, are_distinct, are_good, may_have}
+use Rattle.bm_board.specs.Locks.{is_use, are_distinct, are_good, may_have}
 use Rattle.bm_board.specs.Job.{Course, is_holding, waiting, IsSameHolder}
-use Rattle.bm_board.specs.Board.{Standing, occupies, holds_lock, occupied, holders, IsWithinLimits, most_builds}
-use Rattle.bm_board.specs.Kept.{Tally, place_share, lock_share, are_free, IsTaken, is_known, AreCounts, IsKept}
-use Rattle.bm_board.proofs.Uses.{each_passes, used_passes, one_mode}
+use Rattle.bm_board.specs.Board.{Standing, occupies, holds_lock, occupied, holders, most_builds}
+use Rattle.bm_board.specs.Kept.{Tally, place_share, lock_share, are_free, IsTaken, is_known, IsKept}
+use Rattle.bm_board.proofs.Uses.{used_passes, one_mode}
 use Rattle.bm_board.proofs.Places.{with_job}
 
 -- a change of one element changes a count by that element alone

@@ -1,11 +1,10 @@
 -- Lemmas on the start of a build.
-use Rattle.std.proofs.Common.{◌≡◌, ℕ, ◌+◌, ◌<◌, ◌≤◌, ◌==◌, ◌^◌, Bool, true, false, cond, ◌&&◌, nat_lt, List, length, get_or, map, slice_index, All, IsTrue, Ok, Err, refl, sym, ap, subst, ◌∙◌, arith, IsOk}
-use Rattle.std.specs.List.{list_any, list_all}
+use Rattle.std.proofs.Common.{◌≡◌, ℕ, ◌+◌, ◌<◌, ◌^◌, Bool, true, false, cond, ◌&&◌, nat_lt, List, length, get_or, map, slice_index, All, IsTrue, Ok, Err, refl, sym, ap, subst, ◌∙◌, arith}
+use Rattle.std.specs.List.{list_all}
 use Rattle.std.specs.Option.{option_map_or}
 use Rattle.std.proofs.lemmas.Bool.{and_parts, ltb-true, true≢false}
 use Rattle.std.proofs.lemmas.List.{get_or-map}
 use Rattle.std.proofs.lemmas.Option.{slice_get-get_or}
-use Rattle.bm_board.specs.declared.plan.Mode.{Mode}
 use Rattle.bm_board.specs.declared.plan.Mode.TheVariants.{Counting, Exclusive}
 use Rattle.bm_board.specs.declared.plan.LockUse.{LockUse}
 use Rattle.bm_board.specs.declared.plan.Build.{Build}
@@ -16,7 +15,7 @@ use Rattle.bm_board.specs.declared.job.Phase.TheVariants.{Waiting, Running, Over
 use Rattle.bm_board.specs.declared.worker.Worker.{Worker}
 use Rattle.bm_board.specs.declared.job.Started.{Started}
 use Rattle.bm_board.specs.declared.refusal.BoardRefusal.TheVariants.{NotWaiting, NoWorker, LockHeld}
-use Rattle.bm_board.specs.Locks.{is_mode, may_have, are_good, are_distinct}
+use Rattle.bm_board.specs.Locks.{may_have, are_good, are_distinct}
 use Rattle.bm_board.specs.Job.{Course, Outcome, is_waiting, is_holding, phase_of, started, first_of, answer_of}
 use Rattle.bm_board.specs.Board.{Standing, occupied, holders, has_place, is_free, start, on_build, board_after}
 use Rattle.bm_board.specs.Kept.{Tally, are_free, is_known, HasRoom, IsKept}

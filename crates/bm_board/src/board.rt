@@ -67,7 +67,7 @@ impl Board {
     pub fn workers(&self) -> usize
         ensures { result ≡ length self.now.workers }
     {
-        self.workers.len()
+        self.workers.as_slice().len()
     }
 
     /// What holds of every board: each lock has one exclusive holder, or at most its maximum of counting ones, and no

@@ -13,7 +13,7 @@ mod steps;
 mod worker;
 
 pub use board::Board;
-pub use job::{Job, Phase, Started};
+pub use job::{Phase, Started};
 pub use outcomes::Outcomes;
 pub use plan::{Build, LockUse, LockUses, Mode, StepPlan, StepPlans, Words};
 pub use refusal::BoardRefusal;

@@ -1,4 +1,4 @@
-use Rattle.std.proofs.Common.{◌≡◌, ◌<◌, ◌++◌, ◌∷◌, [], ◌∙◌, ap, sym, cond, is_ok, length, true, arith, rules}
+use Rattle.std.proofs.Common.{◌≡◌, ◌++◌, ◌∷◌, [], ◌∙◌, ap, cond, is_ok, length, true, arith, rules}
 use Rattle.std.proofs.lemmas.Bool.{lt-ltb}
 use Rattle.bm_board.specs.Job.{Course}
 use Rattle.bm_board.specs.Locks.{are_good}

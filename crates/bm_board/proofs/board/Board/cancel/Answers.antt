@@ -1,4 +1,4 @@
-use Rattle.std.proofs.Common.{◌<◌, ◌∙◌, length, arith}
+use Rattle.std.proofs.Common.{◌∙◌, arith}
 use Rattle.bm_board.specs.Job.{cancel}
 use Rattle.bm_board.proofs.Places.{answer_place, after_place}
 use Rattle.bm_board.proofs.Keeping.{kept_same}

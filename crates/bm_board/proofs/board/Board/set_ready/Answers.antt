@@ -1,4 +1,4 @@
-use Rattle.std.proofs.Common.{◌≡◌, ◌<◌, length, sym, subst}
+use Rattle.std.proofs.Common.{◌<◌, length, sym, subst}
 use Rattle.bm_board.specs.Board.{Standing}
 use Rattle.bm_board.proofs.Places.{ready_place}
 use Rattle.bm_board.proofs.Keeping.{kept_ready}
