@@ -1,6 +1,6 @@
 //! What an update carries.
 
-ghost use Rattle.std.specs.Prelude.{◌≡◌, [], ◌∷◌, ◌++◌, OnOk, OnErr};
+ghost use Rattle.std.specs.Prelude.{◌≡◌, [], ◌∷◌, ◌++◌, IfOk, OnOk, OnErr};
 
 use bm_lines::{Letter, LogName, Text};
 use bm_value::Num;
@@ -16,6 +16,19 @@ pub enum Field {
     Named(LogName, Text),
     /// The exit code.
     Rc(Num),
+}
+
+impl Field {
+    /// An equal item.
+    pub fn copy(&self) -> Result<Field, AllocError>
+        ensures { IfOk result (λ f. f ≡ self.now) }
+    {
+        match self {
+            Field::Text(letter, text) => Ok(Field::Text(*letter, text.copy()?)),
+            Field::Named(name, text) => Ok(Field::Named(name.copy()?, text.copy()?)),
+            Field::Rc(n) => Ok(Field::Rc(*n)),
+        }
+    }
 }
 
 /// The items of an update, in order.
@@ -68,5 +81,16 @@ impl Fields {
     {
         self.vec.push(field)?;
         Ok(())
+    }
+
+    /// Equal items.
+    pub fn copy(&self) -> Result<Fields, AllocError>
+        ensures { IfOk result (λ f. f ≡ self.now) }
+    {
+        let mut vec = Vec::with_capacity(*self.vec.allocator(), self.vec.len())?;
+        for field in &self.vec {
+            vec.push(field.copy()?)?;
+        }
+        Ok(Fields { vec })
     }
 }

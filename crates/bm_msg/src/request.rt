@@ -1,9 +1,12 @@
 //! What a request asks.
 
+ghost use Rattle.std.specs.Prelude.{◌≡◌, IfOk};
+ghost use Rattle.bm_msg.specs.Meaning.{asked};
+
 use crate::field::Fields;
 use bm_lines::Text;
 use bm_value::Value;
-use std::alloc::Global;
+use std::alloc::{AllocError, Global};
 
 /// A request, by its `op`.
 #[derive(Drop)]
@@ -43,4 +46,60 @@ pub enum Request {
     Unknown {
         op: Text,
     },
+}
+
+fn option_copied(text: &Option<Text>) -> Result<Option<Text>, AllocError>
+    ensures { IfOk result (λ t. t ≡ text.now) }
+{
+    match text {
+        Some(text) => Ok(Some(text.copy()?)),
+        None => Ok(None),
+    }
+}
+
+impl Request {
+    /// An equal request.
+    pub fn copy(&self, alloc: Global) -> Result<Request, AllocError>
+        ensures { IfOk result (λ r. asked r ≡ asked self.now) }
+    {
+        match self {
+            Request::Auth {
+                username,
+                password,
+                session,
+            } => Ok(Request::Auth {
+                username: username.copy()?,
+                password: password.copy()?,
+                session: option_copied(session)?,
+            }),
+            Request::Print { message } => Ok(Request::Print {
+                message: message.copy()?,
+            }),
+            Request::Keepalive => Ok(Request::Keepalive),
+            Request::GetWorkerInfo => Ok(Request::GetWorkerInfo),
+            Request::StartCommand {
+                command,
+                name,
+                args,
+            } => Ok(Request::StartCommand {
+                command: *command,
+                name: name.copy()?,
+                args: args.copy_into(alloc)?,
+            }),
+            Request::InterruptCommand { command, why } => Ok(Request::InterruptCommand {
+                command: *command,
+                why: why.copy()?,
+            }),
+            Request::Shutdown => Ok(Request::Shutdown),
+            Request::Update { command, fields } => Ok(Request::Update {
+                command: *command,
+                fields: fields.copy()?,
+            }),
+            Request::Complete { command, fault } => Ok(Request::Complete {
+                command: *command,
+                fault: option_copied(fault)?,
+            }),
+            Request::Unknown { op } => Ok(Request::Unknown { op: op.copy()? }),
+        }
+    }
 }
