@@ -1,16 +1,14 @@
 -- Items of an update as trees.
-use Rattle.std.proofs.Common.{◌≡◌, ◌≢◌, refl, sym, ◌∙◌, ap, ℕ, zero, suc, ◌+◌, ◌<◌, ◌≤◌, Bool, true, false, cond, ◌&&◌, List, [], ◌∷◌, ◌++◌, length, get_or, drop, map, Option, Some, None, Result, subst, arith}
-use Rattle.std.specs.Prelude.{IfOk, slice_get, if◌then◌else◌, nat_le}
-use Rattle.std.specs.Option.{option_map, option_and_then}
+use Rattle.std.proofs.Common.{◌≡◌, ◌≢◌, refl, sym, ◌∙◌, ap, ◌<◌, ◌≤◌, List, [], ◌∷◌, length, get_or, drop, map, Option, Some, None, Result, subst, arith}
+use Rattle.std.specs.Prelude.{IfOk, slice_get}
 use Rattle.bm_value.specs.declared.value.Value.{Value, Array}
 use Rattle.bm_value.specs.declared.value.Items.{Items}
 use Rattle.bm_value.specs.Tree.{Tree, nil, bool, int, bits32, bits64, str, bin, array, dict, ext, Trees, none, item}
-use Rattle.bm_value.specs.View.{tree, trees_of, items_tree, values_in}
+use Rattle.bm_value.specs.View.{tree, trees_of, values_in}
 use Rattle.bm_value.proofs.Values.{tree-Array}
 use Rattle.bm_value.proofs.Written.{items_out}
 use Rattle.bm_msg.specs.declared.field.Field.{Field}
-use Rattle.bm_msg.specs.declared.field.Field.TheVariants.{Named}
-use Rattle.bm_msg.specs.Items.{text_of, named, carried_by, item_fields, fields_of, is_log_name}
+use Rattle.bm_msg.specs.Items.{text_of, named, item_fields}
 use Rattle.bm_msg.specs.declared.items.Told.{Told}
 use Rattle.bm_msg.specs.Reading.{told, str_of, log_item, item_parts}
 

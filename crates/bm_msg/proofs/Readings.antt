@@ -1,9 +1,9 @@
 -- Reading key by key finds the message that a tree is, or the first reason why it is none.
-use Rattle.std.proofs.Common.{◌≡◌, ◌≢◌, refl, sym, ◌∙◌, ap, subst, ℕ, ◌<◌, ◌^◌, pos, Bool, true, false, cond, List, [], ◌∷◌, Option, Some, None, Result, Ok, Err}
-use Rattle.std.specs.Prelude.{codes, IfOk, IfErr, bytes_eq, if◌then◌else◌}
+use Rattle.std.proofs.Common.{◌≡◌, ◌≢◌, refl, sym, ◌∙◌, ap, subst, ℕ, pos, false, cond, List, Option, Some, None, Result, Ok, Err}
+use Rattle.std.specs.Prelude.{codes, IfOk, IfErr, bytes_eq}
 use Rattle.std.specs.Option.{option_map, option_and_then}
 use Rattle.std.proofs.lemmas.Slice.Eq.{bytes_eq-Decides}
-use Rattle.bm_value.specs.Tree.{Tree, nil, bool, int, bits32, bits64, str, bin, array, dict, ext, Trees, Pairs}
+use Rattle.bm_value.specs.Tree.{Tree, nil, bool, int, bits32, bits64, str, bin, array, dict, ext}
 use Rattle.bm_value.specs.Field.{field}
 use Rattle.bm_msg.specs.declared.field.Field.{Field}
 use Rattle.bm_msg.specs.declared.fault.MsgError.{MsgError}
@@ -13,7 +13,7 @@ use Rattle.bm_msg.specs.declared.kind.Kind.{Kind}
 use Rattle.bm_msg.specs.declared.kind.Kind.TheVariants as kind
 use Rattle.bm_msg.specs.Meaning.{Asked, auth, print, keepalive, get_worker_info, start_command, interrupt_command, shutdown, update, complete, unknown, Meaning, meaning, request, response}
 use Rattle.bm_msg.specs.Answers.{Reads}
-use Rattle.bm_msg.specs.Messages.{HasText, HasNumber, HasOp, HasCommand, HasItems, HasFault, IsRequest, IsMessage, IsFaulty, session_of, is_exception, result_of, is_op}
+use Rattle.bm_msg.specs.Messages.{HasNumber, HasOp, IsRequest, IsMessage, IsFaulty, session_of, result_of}
 use Rattle.bm_msg.specs.Reading.{kind_of, text_at, number_at, command_at, items_at, fault_at, auth_at, update_at, complete_at, print_at, start_at, interrupt_at, asked_at, response_at, asked_or, op_read, with_number, reading}
 use Rattle.bm_msg.proofs.KeyValues.{IsMap, map_from_field, text_to, text_from, number_to, number_from, command_to, command_from, items_to, items_from, fault_to, fault_from}
 use Rattle.bm_msg.proofs.KindNames.{IsNamed, is_named, other_kind, choice}

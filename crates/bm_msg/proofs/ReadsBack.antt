@@ -1,9 +1,9 @@
 -- The tree of a message is that message.
-use Rattle.std.proofs.Common.{◌≡◌, refl, sym, ◌∙◌, ap, subst, take, ℕ, ◌<◌, ◌≤◌, ◌^◌, Bool, true, false, cond, ◌&&◌, List, [], ◌∷◌, ◌++◌, map, length, Option, Some, None, arith}
+use Rattle.std.proofs.Common.{◌≡◌, refl, sym, ◌∙◌, ap, subst, take, ℕ, ◌≤◌, Bool, true, false, cond, ◌&&◌, List, [], ◌∷◌, ◌++◌, map, length, Option, Some, None, arith}
 use Rattle.std.specs.Prelude.{nat_le, codes, pos}
 use Rattle.std.specs.Option.{option_map, option_and_then}
 use Rattle.std.proofs.lemmas.Bool.Decides.{nat_tests}
-use Rattle.bm_value.specs.Tree.{Tree, int, str}
+use Rattle.bm_value.specs.Tree.{int}
 use Rattle.bm_value.specs.Field.{field}
 use Rattle.bm_value.specs.View.{trees_of}
 use Rattle.bm_value.proofs.Unique.{spelled_once}
@@ -11,14 +11,13 @@ use Rattle.bm_lines.specs.Names.{IsLogName}
 use Rattle.bm_lines.specs.declared.line.Letter.TheVariants.{O, E, H}
 use Rattle.bm_msg.specs.declared.field.Field.{Field}
 use Rattle.bm_msg.specs.declared.field.Field.TheVariants.{Text, Named, Rc}
-use Rattle.bm_msg.specs.Items.{is_log_name, item_fields, fields_of}
-use Rattle.bm_msg.specs.Meaning.{Asked, auth, print, keepalive, get_worker_info, start_command, interrupt_command, shutdown, update, complete, unknown, Meaning, request, response}
+use Rattle.bm_msg.specs.Items.{is_log_name, fields_of}
+use Rattle.bm_msg.specs.Meaning.{Asked, auth, print, keepalive, get_worker_info, start_command, interrupt_command, shutdown, update, complete, unknown, request, response}
 use Rattle.bm_msg.specs.Messages.{IsMessage, IsRequest, is_session, result_of}
 use Rattle.bm_msg.specs.Trees.{item_of, tree_of}
-use Rattle.bm_msg.specs.Laws.{AreNamed, IsPlain, IsPlainMessage, WrittenIsMessage, WrittenIsRead}
+use Rattle.bm_msg.specs.Laws.{AreNamed, IsPlain, WrittenIsMessage, WrittenIsRead}
 use Rattle.bm_value.specs.Spelling.{Spells}
 use Rattle.bm_value.specs.Writing.{written}
-use Rattle.bm_value.specs.Decoding.{IsReadBack}
 use Rattle.std.proofs.Math.Seq.{take-append_seam}
 
 both : (a b : Bool) → a ≡ true → b ≡ true → (a && b) ≡ true

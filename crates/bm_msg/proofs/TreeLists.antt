@@ -1,6 +1,5 @@
 -- Trees that are built of values, and keys that are put one after another.
-use Rattle.std.proofs.Common.{◌≡◌, refl, sym, ◌∙◌, ap, subst, Bool, ℕ, ◌≤◌, List, [], ◌∷◌, ◌++◌, map, take, length, Vec, Global, Result, append_assoc}
-use Rattle.std.specs.Prelude.{OnOk}
+use Rattle.std.proofs.Common.{◌≡◌, sym, ◌∙◌, ap, Bool, ℕ, List, [], ◌∷◌, ◌++◌, map, Vec, Global, append_assoc}
 use Rattle.bm_value.specs.declared.value.Value.{Value, Str, Array, Map, Bool as Bool_value}
 use Rattle.bm_value.specs.declared.value.Pair.{Pair}
 use Rattle.bm_value.specs.declared.value.Value.TheViews.{roll-Items, roll-Pairs}

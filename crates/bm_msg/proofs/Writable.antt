@@ -1,10 +1,10 @@
 -- Which messages can be written, by their parts.
-use Rattle.std.proofs.Common.{◌≡◌, refl, sym, ◌∙◌, ap, ℕ, zero, suc, ◌+◌, ◌<◌, ◌≤◌, ◌^◌, ◌/◌, ◌%◌, max, Bool, true, false, cond, List, [], ◌∷◌, ◌++◌, length, map, Option, Some, None, arith, lit<}
-use Rattle.std.specs.Prelude.{◌==◌, codes}
+use Rattle.std.proofs.Common.{◌≡◌, refl, ap, ℕ, zero, suc, ◌+◌, ◌<◌, ◌≤◌, ◌^◌, ◌/◌, ◌%◌, Bool, true, false, cond, List, [], ◌∷◌, length, map, Option, Some, None, arith, lit<}
+use Rattle.std.specs.Prelude.{◌==◌}
 use Rattle.std.specs.Fmt.{decimal, digits, digits_onto, digit_glyph}
-use Rattle.bm_value.specs.Tree.{Tree, nil, bool, int, str, array, dict, Trees, none, item, depth, depth_of_items, depth_of_pairs, count, count_of_pairs}
-use Rattle.bm_value.specs.View.{trees_of, pairs_of}
-use Rattle.bm_value.specs.Limits.{IsShort, AreShort, PairsAreShort}
+use Rattle.bm_value.specs.Tree.{Tree, depth, depth_of_items, count}
+use Rattle.bm_value.specs.View.{trees_of}
+use Rattle.bm_value.specs.Limits.{IsShort, AreShort}
 use Rattle.bm_lines.specs.declared.line.Letter.{Letter}
 use Rattle.bm_lines.specs.declared.line.Letter.TheVariants.{O, E, H}
 use Rattle.bm_msg.specs.declared.field.Field.{Field}

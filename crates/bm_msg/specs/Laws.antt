@@ -7,7 +7,7 @@ use Rattle.bm_value.specs.Decoding.{IsReadBack}
 use Rattle.bm_lines.specs.Names.{IsLogName}
 use Rattle.bm_msg.specs.declared.field.Field.{Field}
 use Rattle.bm_msg.specs.declared.field.Field.TheVariants.{Text, Named, Rc}
-use Rattle.bm_msg.specs.Meaning.{Asked, auth, print, keepalive, get_worker_info, start_command, interrupt_command, shutdown, update, complete, unknown, Meaning, request, response}
+use Rattle.bm_msg.specs.Meaning.{Asked, auth, start_command, interrupt_command, update, complete, unknown, Meaning, request, response}
 use Rattle.bm_msg.specs.Messages.{IsMessage, is_op}
 use Rattle.bm_msg.specs.Trees.{tree_of}
 

@@ -1,5 +1,5 @@
 -- Reading a message key by key, as the code does.
-use Rattle.std.specs.Prelude.{◌≡◌, ℕ, ◌^◌, pos, Bool, true, false, not, ◌&&◌, ◌||◌, ◌==◌, List, [], ◌∷◌, length, codes, Option, Some, None, Result, Ok, Err, bytes_eq, nat_lt, slice_index, if◌then◌else◌}
+use Rattle.std.specs.Prelude.{ℕ, ◌^◌, pos, Bool, not, ◌&&◌, ◌||◌, ◌==◌, List, [], ◌∷◌, length, codes, Option, Some, None, Result, Ok, Err, bytes_eq, nat_lt, slice_index, if◌then◌else◌}
 use Rattle.std.specs.Option.{option_map, option_and_then}
 use Rattle.std.specs.Str.{all_ascii_digits}
 use Rattle.std.specs.Str.Parse.{digits_value}
@@ -7,8 +7,7 @@ use Rattle.bm_value.specs.Tree.{Tree, nil, int, str, array, dict}
 use Rattle.bm_value.specs.Field.{field}
 use Rattle.bm_msg.specs.declared.field.Field.{Field}
 use Rattle.bm_msg.specs.declared.fault.MsgError.{MsgError}
-use Rattle.bm_msg.specs.declared.fault.MsgError.TheVariants.{NotMap, NoSeq, NoOp, BadArgs, Mem}
-use Rattle.bm_msg.specs.declared.message.Message.{Message}
+use Rattle.bm_msg.specs.declared.fault.MsgError.TheVariants.{NotMap, NoSeq, NoOp, BadArgs}
 use Rattle.bm_msg.specs.declared.kind.Kind.{Kind}
 use Rattle.bm_msg.specs.declared.kind.Kind.TheVariants as kind
 use Rattle.bm_msg.specs.declared.items.Told.{Told}
@@ -16,7 +15,7 @@ use Rattle.bm_msg.specs.declared.items.Told.TheVariants.{Carries, Nothing, Wrong
 use Rattle.bm_msg.specs.declared.field.Field.TheVariants.{Named}
 use Rattle.bm_msg.specs.Items.{text_of, is_log_name, carried_by, fields_of}
 use Rattle.bm_msg.specs.Messages.{session_of, is_exception, result_of}
-use Rattle.bm_msg.specs.Meaning.{Asked, auth, print, keepalive, get_worker_info, start_command, interrupt_command, shutdown, update, complete, unknown, Meaning, request, response, meaning}
+use Rattle.bm_msg.specs.Meaning.{Asked, auth, print, keepalive, get_worker_info, start_command, interrupt_command, shutdown, update, complete, unknown, Meaning, request, response}
 
 -- what the code says of an item
 abbrev pub told : Told → Option (List Field)

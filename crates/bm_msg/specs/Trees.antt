@@ -1,7 +1,7 @@
 -- The trees that messages are written as: the number and the operation first, then the keys of the operation.
-use Rattle.std.specs.Prelude.{ℕ, pos, Bool, true, false, List, [], ◌∷◌, ◌++◌, map, codes, Option, Some, None}
+use Rattle.std.specs.Prelude.{ℕ, pos, Bool, true, false, List, [], ◌∷◌, map, codes, Option, Some, None}
 use Rattle.std.specs.Fmt.{decimal}
-use Rattle.bm_value.specs.Tree.{Tree, nil, bool, int, str, array, dict, Trees, none, item, TreePair}
+use Rattle.bm_value.specs.Tree.{Tree, nil, bool, int, str, array, dict, none, item, TreePair}
 use Rattle.bm_value.specs.View.{trees_of, pairs_of}
 use Rattle.bm_lines.specs.declared.line.Letter.{Letter}
 use Rattle.bm_lines.specs.declared.line.Letter.TheVariants.{O, E, H}

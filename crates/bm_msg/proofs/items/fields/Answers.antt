@@ -1,4 +1,4 @@
-use Rattle.std.proofs.Common.{◌≡◌, sym, ◌∙◌, ap, ◌+◌, ◌++◌, ◌∷◌, [], drop, append-nil, Some, None, Vec, Global}
+use Rattle.std.proofs.Common.{◌≡◌, sym, ◌∙◌, ap, ◌+◌, ◌∷◌, [], drop, append-nil, Some, None, Vec, Global}
 use Rattle.bm_msg.specs.declared.field.Field.{Field}
 use Rattle.bm_value.specs.View.{tree, items_tree}
 use Rattle.bm_msg.specs.Items.{item_fields, fields_of}

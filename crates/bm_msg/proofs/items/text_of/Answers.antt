@@ -1,10 +1,9 @@
-use Rattle.std.proofs.Common.{◌≡◌, sym, ◌∙◌, ap, map, List, ℕ, Some}
+use Rattle.std.proofs.Common.{◌≡◌, sym, ◌∙◌, ap, map, Some}
 use Rattle.std.specs.Prelude.{slice_get}
 use Rattle.std.specs.Option.{option_copied}
-use Rattle.bm_value.specs.Tree.{Tree, Trees, array, item, none}
-use Rattle.bm_value.specs.View.{tree, trees_of, values_in}
+use Rattle.bm_value.specs.Tree.{array}
+use Rattle.bm_value.specs.View.{tree, trees_of}
 use Rattle.bm_msg.specs.Items.{text_of}
-use Rattle.bm_msg.specs.Reading.{str_of}
 use Rattle.bm_msg.proofs.ItemTrees.{array_is, text_of-first, first_is, no_first}
 use Rattle.bm_msg.proofs.items.text_of.Goals as goal
 

@@ -1,6 +1,5 @@
-use Rattle.std.proofs.Common.{◌≡◌, ◌≢◌, sym, ◌∙◌, ap, length, get_or, ◌≤◌, arith, lit<, Bool, false, true}
+use Rattle.std.proofs.Common.{◌≡◌, sym, length, get_or, ◌≤◌, arith, lit<}
 use Rattle.std.proofs.lemmas.Str.Pattern.{starts_char}
-use Rattle.bm_msg.specs.Reading.{command_number}
 use Rattle.bm_msg.proofs.Numerals.{no_sign, no_zeros, not_either, number_parsed, too_large, not_parsed}
 use Rattle.bm_msg.proofs.keys.command_number.Goals.{else-text-gt1-via-then-text-gt1+else-starts_with-2, else-text-gt1-via-else-text-gt1}
 use Rattle.bm_msg.proofs.keys.command_number.Goals as goal

@@ -1,4 +1,4 @@
-use Rattle.std.proofs.Common.{sym, Ok, Err}
+use Rattle.std.proofs.Common.{Ok, Err}
 use Rattle.bm_value.specs.View.{tree}
 use Rattle.bm_msg.proofs.Readings.{message_read, fault_read, found_from, fault_from_reads, reads_along}
 use Rattle.bm_msg.proofs.reading.read.Goals as goal

@@ -1,7 +1,6 @@
-use Rattle.std.proofs.Common.{codes, map}
+use Rattle.std.proofs.Common.{codes}
 use Rattle.std.proofs.lemmas.Result.{IfOk-equal}
 use Rattle.bm_value.specs.Tree.{str}
-use Rattle.bm_value.specs.View.{pair_tree}
 use Rattle.bm_msg.specs.Trees.{at, session_key}
 use Rattle.bm_msg.proofs.TreeLists.{then_keys}
 use Rattle.bm_msg.proofs.writing.auth_keys.Goals as goal

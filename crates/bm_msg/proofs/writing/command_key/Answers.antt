@@ -1,4 +1,4 @@
-use Rattle.std.proofs.Common.{◌≡◌, ◌∙◌, ap, ◌++◌, ◌∷◌, [], map, codes, List}
+use Rattle.std.proofs.Common.{◌∙◌, ap, ◌++◌, ◌∷◌, [], map, codes}
 use Rattle.std.proofs.lemmas.Result.{IfOk-equal}
 use Rattle.bm_value.specs.Tree.{Tree, str}
 use Rattle.bm_value.specs.View.{pair_tree}

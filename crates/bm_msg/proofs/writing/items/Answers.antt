@@ -1,7 +1,7 @@
-use Rattle.std.proofs.Common.{◌≡◌, sym, ◌∙◌, ap, map, take}
+use Rattle.std.proofs.Common.{◌∙◌, ap, map}
 use Rattle.std.proofs.lemmas.List.{take_all}
 use Rattle.bm_value.specs.Tree.{array}
-use Rattle.bm_value.specs.View.{tree, trees_of}
+use Rattle.bm_value.specs.View.{trees_of}
 use Rattle.bm_msg.specs.Trees.{item_of}
 use Rattle.bm_msg.proofs.TreeLists.{array_of}
 use Rattle.bm_msg.proofs.writing.items.Goals as goal

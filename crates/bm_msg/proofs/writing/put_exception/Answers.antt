@@ -1,4 +1,4 @@
-use Rattle.std.proofs.Common.{◌≡◌, sym, ap, ◌∙◌, ◌++◌, ◌∷◌, [], map, codes, true, List}
+use Rattle.std.proofs.Common.{sym, ap, ◌∙◌, ◌++◌, ◌∷◌, [], map, codes, true}
 use Rattle.bm_value.specs.Tree.{Tree}
 use Rattle.bm_value.specs.View.{pair_tree}
 use Rattle.bm_msg.specs.Trees.{at, exception_key}

@@ -1,5 +1,5 @@
-use Rattle.std.proofs.Common.{◌≡◌, ◌≤◌, sym, subst, ap, ◌∙◌, Vec, Global, Result}
-use Rattle.std.specs.Prelude.{IfOk, ℕ}
+use Rattle.std.proofs.Common.{◌≡◌, ◌≤◌, sym, subst}
+use Rattle.std.specs.Prelude.{IfOk}
 use Rattle.bm_value.specs.Tree.{Tree, depth}
 use Rattle.bm_value.specs.Limits.{IsShort}
 use Rattle.bm_value.specs.Writing.{written}

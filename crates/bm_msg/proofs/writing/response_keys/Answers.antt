@@ -1,6 +1,6 @@
-use Rattle.std.proofs.Common.{◌≡◌, sym, ap, ◌∙◌, ◌++◌, ◌∷◌, [], map, codes, pos, List}
-use Rattle.bm_value.specs.Tree.{Tree, int, str, dict, TreePair}
-use Rattle.bm_value.specs.View.{tree, pairs_of, pair_tree}
+use Rattle.std.proofs.Common.{ap, ◌∙◌, ◌++◌, ◌∷◌, [], codes, pos, List}
+use Rattle.bm_value.specs.Tree.{int, str, dict, TreePair}
+use Rattle.bm_value.specs.View.{tree, pairs_of}
 use Rattle.bm_msg.specs.Limits.{response_tree}
 use Rattle.bm_msg.specs.Trees.{at, exception_key}
 use Rattle.bm_msg.proofs.writing.response_keys.Goals as goal

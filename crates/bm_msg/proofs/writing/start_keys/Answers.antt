@@ -1,6 +1,6 @@
-use Rattle.std.proofs.Common.{◌≡◌, ◌∙◌, ap, ◌++◌, ◌∷◌, [], codes, map, List}
+use Rattle.std.proofs.Common.{◌∙◌, ap, ◌++◌, ◌∷◌, [], codes, map}
 use Rattle.std.proofs.lemmas.Result.{IfOk-equal}
-use Rattle.bm_value.specs.Tree.{str, TreePair}
+use Rattle.bm_value.specs.Tree.{str}
 use Rattle.bm_value.specs.View.{tree, pair_tree}
 use Rattle.bm_msg.specs.Trees.{at, command_key}
 use Rattle.bm_msg.proofs.TreeLists.{then_keys}

@@ -1,4 +1,4 @@
-use Rattle.std.proofs.Common.{◌≡◌, sym, ◌∙◌, ap, map, ◌++◌, ◌∷◌, []}
+use Rattle.std.proofs.Common.{◌∙◌, ap, map, ◌++◌, ◌∷◌, []}
 use Rattle.bm_value.specs.Tree.{array}
 use Rattle.bm_value.specs.View.{tree, trees_of}
 use Rattle.bm_msg.proofs.TreeLists.{array_of}
