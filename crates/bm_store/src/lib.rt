@@ -12,3 +12,6 @@ mod placed;
 pub use book::Book;
 pub use chunk::{Chunk, LogState, ViewRefusal};
 pub use placed::Placed;
+
+#[cfg(test)]
+mod tests;
