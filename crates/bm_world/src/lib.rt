@@ -10,3 +10,6 @@ mod world;
 pub use answer::Answer;
 pub use step::Step;
 pub use world::World;
+
+#[cfg(test)]
+mod tests;

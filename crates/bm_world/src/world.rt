@@ -57,8 +57,8 @@ impl World {
         &self.session
     }
 
-    /// Does one step. Out of memory, the step comes back and nothing has changed; an event comes back so too where
-    /// the queue is full.
+    /// Does one step. Out of memory, the step comes back and nothing has changed; so it may be where the queue is full,
+    /// too, since a plan takes its memory first.
     pub fn step(&mut self, step: Step) -> Result<Answer, (Step, AllocError)>
         ensures answer { IfOk result (λ a. a ≡ (stepped self.old step).0) }
         ensures after { OnOk result (self.new ≡ (stepped self.old step).1) }

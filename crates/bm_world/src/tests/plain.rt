@@ -1,0 +1,179 @@
+//! A lane by its definition: the trace is cut, and each look walks the events that viewers see.
+
+use super::super::*;
+use bm_lines::{Letter, LogName, Parcel, Text, content};
+use bm_session::{Body, Event, Refusal, Reply, Session};
+use bm_store::Chunk;
+use std::alloc::{AllocError, Global};
+
+pub const NAMES: [&str; 3] = ["stdio", "l", "m"];
+
+pub const TEXTS: [&str; 4] = ["a\n", "b\nc", "", "d\n\n"];
+
+/// A step that can be made twice.
+#[derive(Clone, Copy)]
+pub enum Script {
+    Up,
+    Go,
+    Stop(u64),
+    Cut,
+    Down,
+    Update(u64, u64, usize, usize),
+    Complete(u64, u64, bool),
+    Answered(u64, bool),
+    BadArgs(u64),
+    Drain,
+    Look(u64, usize, u64, u64),
+}
+
+fn parcel(alloc: Global, name: usize, text: usize) -> Result<Parcel, AllocError> {
+    let mut parcel = Parcel::new(alloc);
+    let Some(name) = LogName::new(alloc, NAMES[name % 3])? else {
+        return Err(AllocError);
+    };
+    parcel.add(&name, Letter::E, TEXTS[text % 4])?;
+    Ok(parcel)
+}
+
+fn event(alloc: Global, script: Script) -> Result<Option<Event>, AllocError> {
+    Ok(Some(match script {
+        Script::Up => Event::Up,
+        Script::Go => Event::Go,
+        Script::Stop(k) => Event::Stop(k),
+        Script::Cut => Event::Cut,
+        Script::Down => Event::Down,
+        Script::Update(seq, command, name, text) => {
+            let parcel = parcel(alloc, name, text)?;
+            let rc = None;
+            Event::In(
+                seq,
+                Body::Update {
+                    command,
+                    parcel,
+                    rc,
+                },
+            )
+        }
+        Script::Complete(seq, command, fault) => Event::In(seq, Body::Complete { command, fault }),
+        Script::Answered(seq, fault) => Event::In(seq, Body::Answered { fault }),
+        Script::BadArgs(seq) => Event::bad_args(seq),
+        Script::Drain | Script::Look(_, _, _, _) => return Ok(None),
+    }))
+}
+
+pub fn step(alloc: Global, script: Script) -> Result<Step, AllocError> {
+    if let Some(event) = event(alloc, script)? {
+        return Ok(Step::Hear(event));
+    }
+    match script {
+        Script::Look(k, name, offset, limit) => {
+            let name = Text::from_str(alloc, NAMES[name % 3])?;
+            Ok(Step::Look(k, name, offset, limit))
+        }
+        _ => Ok(Step::Drain),
+    }
+}
+
+/// The events that were taken, how many of them stood when each item came, and how many items viewers see.
+#[derive(Drop)]
+pub struct Plain {
+    capacity: usize,
+    session: Session,
+    taken: Vec<Script>,
+    productive: Vec<usize>,
+    shown: usize,
+}
+
+impl Plain {
+    pub fn new(alloc: Global, capacity: usize) -> Result<Plain, AllocError> {
+        Ok(Plain {
+            capacity,
+            session: Session::new(alloc)?,
+            taken: Vec::new(alloc),
+            productive: Vec::new(alloc),
+            shown: 0,
+        })
+    }
+
+    pub fn answer(&mut self, alloc: Global, script: Script) -> Result<Answer, AllocError> {
+        if let Some(event) = event(alloc, script)? {
+            return self.hear(event, script);
+        }
+        match script {
+            Script::Look(k, name, offset, limit) => {
+                self.look(alloc, k, NAMES[name % 3], offset, limit)
+            }
+            _ => Ok(self.drain()),
+        }
+    }
+
+    fn hear(&mut self, event: Event, script: Script) -> Result<Answer, AllocError> {
+        let mut plan = match self.session.ready(event) {
+            Ok(plan) => plan,
+            Err((_, Refusal::Mem)) => return Err(AllocError),
+            Err((_, reason)) => return Ok(Answer::Refused(reason)),
+        };
+        let item = plan.take_item();
+        if item.is_some()
+            && self.productive.len() - self.shown.min(self.productive.len()) >= self.capacity
+        {
+            let _ = self.session.withdraw(plan);
+            return Ok(Answer::Busy);
+        }
+        let (reply, _): (Reply, _) = self.session.commit(plan);
+        self.taken.push(script)?;
+        if item.is_some() {
+            self.productive.push(self.taken.len())?;
+        }
+        Ok(Answer::Heard(reply))
+    }
+
+    fn drain(&mut self) -> Answer {
+        if self.shown < self.productive.len() {
+            self.shown += 1;
+            Answer::Took
+        } else {
+            Answer::Empty
+        }
+    }
+
+    /// A session that took the shortest front of the events that has as many items as viewers see.
+    fn visible(&self, alloc: Global) -> Result<Session, AllocError> {
+        let count = match self.shown {
+            0 => 0,
+            shown => self.productive.get(shown - 1).copied().unwrap_or(0),
+        };
+        let mut session = Session::new(alloc)?;
+        for script in self.taken.iter().take(count) {
+            if let Some(event) = event(alloc, *script)? {
+                let Ok(plan) = session.ready(event) else {
+                    return Err(AllocError);
+                };
+                let _ = session.commit(plan);
+            }
+        }
+        Ok(session)
+    }
+
+    fn look(
+        &self,
+        alloc: Global,
+        k: u64,
+        name: &str,
+        offset: u64,
+        limit: u64,
+    ) -> Result<Answer, AllocError> {
+        let Some(block) = self.visible(alloc)?.log(alloc, k, name)? else {
+            return Ok(Answer::NoLog);
+        };
+        let lines = block.lines();
+        let from = lines.len().min(offset as usize);
+        let rest = &lines[from..];
+        let asked = &rest[..rest.len().min(limit as usize)];
+        Ok(Answer::Chunk(Chunk {
+            first_line: offset,
+            lines: asked.len() as u64,
+            content: Text::from_string(content(alloc, asked)?),
+        }))
+    }
+}

@@ -1,0 +1,101 @@
+//! Random scripts through a world and through a plain one, answer by answer.
+
+ghost use Rattle.std.specs.Prelude.{◌≤◌, ◌<◌};
+
+use super::super::*;
+use super::plain::{Plain, Script, step};
+use rand_core::utils::NextWord;
+use rand_pcg::Pcg32;
+use std::alloc::{AllocError, Global};
+use std::test::Fail;
+
+const SCRIPTS: u64 = 320;
+
+const STEPS: u64 = 60;
+
+fn agree(a: &Answer, b: &Answer) -> bool {
+    match (a, b) {
+        (Answer::Heard(x), Answer::Heard(y)) => x == y,
+        (Answer::Refused(x), Answer::Refused(y)) => x == y,
+        (Answer::Busy, Answer::Busy)
+        | (Answer::Took, Answer::Took)
+        | (Answer::Empty, Answer::Empty)
+        | (Answer::NoLog, Answer::NoLog) => true,
+        (Answer::Chunk(x), Answer::Chunk(y)) => {
+            x.first_line == y.first_line && x.lines == y.lines && x.content.is(&y.content)
+        }
+        _ => false,
+    }
+}
+
+/// A number below `n`.
+fn below(random: &mut Pcg32, n: u64) -> u64
+    requires { 1 ≤ n }
+    ensures { result < n }
+{
+    u64::from(random.next_word()) % n
+}
+
+fn script(random: &mut Pcg32) -> Script {
+    let seq = below(random, 40);
+    let k = below(random, 8).saturating_sub(4);
+    let name = below(random, 3) as usize;
+    let text = below(random, 4) as usize;
+    let fault = below(random, 2) == 0;
+    match below(random, 64) {
+        0..=2 => Script::Up,
+        3 => Script::Down,
+        4 | 5 => Script::Cut,
+        6..=10 => Script::Go,
+        11 => Script::Stop(k),
+        12..=31 => Script::Update(seq, k, name, text),
+        32 => Script::Complete(seq, k, fault),
+        33 => Script::Answered(k, fault),
+        34 => Script::BadArgs(seq),
+        35..=49 => Script::Drain,
+        _ => Script::Look(k, name, below(random, 4), below(random, 9)),
+    }
+}
+
+/// Whether both give the same answers; how many of them were lines counts in `seen`.
+fn plays(alloc: Global, seed: u64, seen: &mut u64) -> Result<bool, AllocError> {
+    let mut random = Pcg32::new(seed, 54);
+    let capacity = 1 + below(&mut random, 6) as usize;
+    let mut world = World::new(alloc, capacity)?;
+    let mut plain = Plain::new(alloc, capacity)?;
+    for turn in 0..STEPS {
+        let script = match turn {
+            0 => Script::Up,
+            1 => Script::Go,
+            _ => script(&mut random),
+        };
+        let wanted = plain.answer(alloc, script)?;
+        match world.step(step(alloc, script)?) {
+            Ok(answer) => {
+                if !agree(&answer, &wanted) {
+                    return Ok(false);
+                }
+                if let Answer::Chunk(chunk) = &answer {
+                    *seen = seen.saturating_add(chunk.lines);
+                }
+            }
+            Err((_, error)) => return Err(error),
+        }
+    }
+    Ok(true)
+}
+
+#[test]
+fn random_scripts_have_the_plain_answers(rt: HostRuntime) -> Result<(), Fail> {
+    let alloc = rt.alloc();
+    let mut seen = 0;
+    for seed in 0..SCRIPTS {
+        let same = match plays(alloc, seed, &mut seen) {
+            Ok(same) => same,
+            Err(_) => plays(alloc, seed, &mut seen)?,
+        };
+        assert!(rt; same, "script {seed}");
+    }
+    assert!(rt; seen > SCRIPTS, "too few lines were looked at");
+    Ok(())
+}
