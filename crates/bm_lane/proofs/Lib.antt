@@ -7,4 +7,5 @@ mod Kept
 mod Prefixes
 mod Relays
 mod Counting
+mod Served
 mod Writing

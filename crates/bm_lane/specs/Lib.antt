@@ -6,6 +6,7 @@ pub mod Ends
 pub mod Fronts
 pub mod Hearing
 pub mod Histories
+pub mod Laws
 pub mod Names
 pub mod Relay
 pub mod Windows

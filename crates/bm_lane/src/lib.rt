@@ -10,6 +10,7 @@
 mod blank;
 mod copy;
 mod history;
+pub mod laws;
 mod pool;
 mod published;
 mod publisher;
@@ -17,6 +18,8 @@ mod reader_end;
 mod refusals;
 mod relay;
 mod settling;
+#[cfg(test)]
+mod tests;
 mod viewer;
 mod window;
 mod writer_end;

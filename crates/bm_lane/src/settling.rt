@@ -67,11 +67,11 @@ pub fn same_lane<Y: Yard, R: Wait + Drop>(
 ///
 /// At want of memory the ends come back, and what was drained stays drained.
 #[tactic(auto, using(crate::proofs::Prefixes::prefix_self))]
-pub fn settle<Y: Yard, R: Wait + Drop>(
+pub fn settle<Y: Yard, W: Wait + Drop, R: Wait>(
     rt: &R,
     alloc: Global,
-    ends: Ends<Y, R>,
-) -> Result<Settled, (Ends<Y, R>, AllocError)>
+    ends: Ends<Y, W>,
+) -> Result<Settled, (Ends<Y, W>, AllocError)>
     requires { (ends.reader.lane ≡ ends.writer.lane) × AllOf ends.writer.lane ends.viewers.items }
     ensures trace { IfOk result (λ s. s.trace.items ≡ ends.reader.trace) }
     ensures book { IfOk result (λ s. (logs_in s.book ≡ logs ends.reader.trace) × (logs_in s.book ≡ book (items ends.reader.trace))) }

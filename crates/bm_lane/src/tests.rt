@@ -1,0 +1,6 @@
+//! Worked scripts on a lane: in one thread, in many, and under a pool.
+
+mod hand;
+mod many;
+mod one;
+mod pooled;

@@ -1,0 +1,168 @@
+// What the scripts share. Each call is made again where it met want of memory.
+ghost use Rattle.std.specs.Prelude.{◌≡◌, ◌<◌, ◌≤◌};
+
+use crate::*;
+use bm_lines::{Letter, LogName, Parcel};
+use bm_session::{Body, Event, Refusal, Reply};
+use bm_store::{Chunk, ViewRefusal};
+use std::alloc::{AllocError, Global};
+use std::process::Abort;
+use std::sync::Wait;
+use std::test::Fail;
+
+/// How often a call is made where one request for memory is refused.
+const TRIES: usize = 2;
+
+fn try_parcel(alloc: Global, text: &str) -> Result<Parcel, AllocError> {
+    let mut parcel = Parcel::new(alloc);
+    let Some(name) = LogName::new(alloc, "stdio")? else {
+        return Err(AllocError);
+    };
+    parcel.add(&name, Letter::O, text)?;
+    Ok(parcel)
+}
+
+/// The request with this number, which updates command 0 by a text of standard output.
+pub fn update(alloc: Global, seq: u64, text: &str) -> Result<Event, AllocError> {
+    for _ in 0..TRIES {
+        if let Ok(parcel) = try_parcel(alloc, text) {
+            let update = Body::Update {
+                command: 0,
+                parcel,
+                rc: None,
+            };
+            return Ok(Event::In(seq, update));
+        }
+    }
+    Err(AllocError)
+}
+
+/// A lane that isn't named yet.
+pub fn blank<W: Wait + Copy + Drop>(
+    rt: W,
+    alloc: Global,
+    capacity: usize,
+    viewers: usize,
+) -> Result<Blank<W>, OpenError>
+    requires { (0 < capacity) × (capacity ≤ 65536) × (0 < viewers) × (viewers ≤ 64) }
+{
+    for _ in 0..TRIES {
+        if let Ok(blank) = open(rt, alloc, capacity, viewers) {
+            return Ok(blank);
+        }
+    }
+    open(rt, alloc, capacity, viewers)
+}
+
+/// Hears the event.
+pub fn hear<Y: Yard, R: Wait>(
+    rt: &R,
+    reader: &mut ReaderEnd<Y>,
+    event: Event,
+) -> Result<Reply, HearRefusal> {
+    let mut event = event;
+    for _ in 0..TRIES {
+        match reader.hear(rt, event) {
+            Ok(reply) => return Ok(reply),
+            Err((back, HearRefusal::Session(Refusal::Mem))) => event = back,
+            Err((_, reason)) => return Err(reason),
+        }
+    }
+    Err(HearRefusal::Session(Refusal::Mem))
+}
+
+/// Drains once.
+pub fn drain<Y: Yard, W: Wait + Drop>(writer: &mut WriterEnd<Y, W>) -> Result<Drained, AllocError> {
+    match writer.drain() {
+        Ok(drained) => Ok(drained),
+        Err(_) => writer.drain(),
+    }
+}
+
+fn is_mem<T: Drop>(answer: &Result<T, ViewRefusal>) -> bool {
+    matches!(answer, Err(ViewRefusal::Mem))
+}
+
+/// Asks for lines of command 0.
+pub fn chunk<Y: Yard>(
+    viewer: &mut Viewer<Y>,
+    offset: u64,
+    limit: u64,
+) -> Result<Chunk, ViewRefusal> {
+    let answer = viewer.chunk(0, "stdio", offset, limit);
+    if is_mem(&answer) {
+        viewer.chunk(0, "stdio", offset, limit)
+    } else {
+        answer
+    }
+}
+
+/// Whether these lines were answered.
+pub fn is_text(answer: &Result<Chunk, ViewRefusal>, text: &str) -> bool {
+    match answer {
+        Ok(chunk) => chunk.content.as_str() == text,
+        Err(_) => false,
+    }
+}
+
+/// How many lines command 0 has, as far as this viewer sees, and whether it is open.
+pub fn open_lines<Y: Yard>(viewer: &mut Viewer<Y>) -> Option<u64> {
+    match viewer.state(0, "stdio") {
+        Ok(state) if state.ended.is_none() => Some(state.lines),
+        _ => None,
+    }
+}
+
+/// The answer of a call of the reader's end, which is made again where it met want of memory.
+pub fn again<Y: Yard, R: Wait>(
+    rt: &R,
+    reader: &mut ReaderEnd<Y>,
+    answer: Result<Reply, (Event, HearRefusal)>,
+) -> Result<Reply, HearRefusal> {
+    match answer {
+        Ok(reply) => Ok(reply),
+        Err((event, HearRefusal::Session(Refusal::Mem))) => hear(rt, reader, event),
+        Err((_, reason)) => Err(reason),
+    }
+}
+
+/// The ends of a lane.
+pub fn ends_of<Y: Yard, W: Wait + Drop>(
+    alloc: Global,
+    blank: Blank<W>,
+    lane: u64,
+) -> Result<Ends<Y, W>, AllocError>
+    requires { (blank.queue ≡ Y.queue lane) × (blank.copy ≡ Y.copy lane) }
+{
+    match blank.ends::<Y>(alloc, lane) {
+        Ok(ends) => Ok(ends),
+        Err((blank, _)) => match blank.ends::<Y>(alloc, lane) {
+            Ok(ends) => Ok(ends),
+            Err((_, error)) => Err(error),
+        },
+    }
+}
+
+/// What is left of a lane whose ends are all there.
+pub fn settled<Y: Yard, W: Wait + Drop, R: Wait + Abort>(
+    rt: &R,
+    alloc: Global,
+    ends: Ends<Y, W>,
+) -> Result<Settled, Fail> {
+    assert!(rt; same_lane(&ends.reader, &ends.writer, ends.viewers.as_slice()));
+    if !same_lane(&ends.reader, &ends.writer, ends.viewers.as_slice()) {
+        return Err(Fail::from(AllocError));
+    }
+    match settle(rt, alloc, ends) {
+        Ok(settled) => Ok(settled),
+        Err((ends, _)) => {
+            if !same_lane(&ends.reader, &ends.writer, ends.viewers.as_slice()) {
+                return Err(Fail::from(AllocError));
+            }
+            match settle(rt, alloc, ends) {
+                Ok(settled) => Ok(settled),
+                Err(_) => Err(Fail::from(AllocError)),
+            }
+        }
+    }
+}
