@@ -31,12 +31,12 @@ pub enum Finish {
 
 impl Sent {
     /// An equal request.
-    pub fn copy(&self, alloc: Global) -> Result<Sent, AllocError>
+    pub fn copy(&self) -> Result<Sent, AllocError>
         ensures { IfOk result (λ s. s ≡ self.now) }
     {
         Ok(Sent {
             seq: self.seq,
-            bytes: Bytes::from_vec(Vec::from_slice(alloc, self.bytes.as_slice())?),
+            bytes: self.bytes.copy()?,
         })
     }
 }
@@ -59,7 +59,7 @@ pub(crate) fn copies(alloc: Global, requests: &[Sent]) -> Result<Vec<Sent>, Allo
 {
     let mut all = Vec::with_capacity(alloc, requests.len())?;
     for request in requests {
-        all.push(request.copy(alloc)?)?;
+        all.push(request.copy()?)?;
     }
     Ok(all)
 }

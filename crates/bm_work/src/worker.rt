@@ -138,7 +138,7 @@ impl Worker {
         }
         let alloc = *self.unanswered.allocator();
         let sent = said(alloc, self.next, command, letter, text)?;
-        self.unanswered.push(sent.copy(alloc)?)?;
+        self.unanswered.push(sent.copy()?)?;
         self.next += 1;
         Ok(sent)
     }

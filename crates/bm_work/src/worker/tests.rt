@@ -34,6 +34,12 @@ const BAD_ARGUMENTS_SEVEN: &[u8] =
 const INFO_THREE: &[u8] =
     b"\x83\xaaseq_number\x03\xa2op\xa8response\xa6result\x81\xa7version\xadbuildworker 1";
 
+const INTERRUPT_OF_ONE: &[u8] =
+    b"\x84\xaaseq_number\x01\xa2op\xb1interrupt_command\xaacommand_id\xa11\xa3why\xa4stop";
+
+const INTERRUPT_OF_ZERO: &[u8] =
+    b"\x84\xaaseq_number\x02\xa2op\xb1interrupt_command\xaacommand_id\xa10\xa3why\xa4stop";
+
 fn message_of(alloc: Global, bytes: &[u8]) -> Option<Message> {
     let value = decode_whole(alloc, bytes).ok()?;
     read(alloc, &value).ok()
@@ -92,13 +98,11 @@ fn resend(worker: &Worker) -> Result<Vec<Sent>, AllocError> {
 }
 
 /// The order to start the command, with the value that the bytes spell as its arguments.
-fn start(alloc: Global, seq: u64, command: u64, args: &[u8]) -> Result<Message, Fail>
-    requires { seq < 2 ^ 63 }
-{
+fn start(alloc: Global, seq: u32, command: u64, args: &[u8]) -> Result<Message, Fail> {
     let name = Text::from_str(alloc, "shell")?;
     let args = decode_whole(alloc, args)?;
     Ok(Message::Request(Numbered {
-        seq,
+        seq: u64::from(seq),
         request: Request::StartCommand {
             command,
             name,
@@ -237,22 +241,20 @@ fn cut_connection_sends_unanswered_again(rt: HostRuntime) -> Result<(), Fail> {
 fn starts_are_tested_in_order(rt: HostRuntime) -> Result<(), Fail> {
     let alloc = rt.alloc();
     let mut worker = Worker::new(alloc);
-    let table: [(u64, &[u8], &str); 9] = [
-        (0, b"\xc0", "bad arguments"),
-        (0, b"\x81\xa7command\x90", "bad arguments"),
-        (0, b"\x81\xa7command\x92\xa1a\x01", "bad arguments"),
-        (0, WORDS, ""),
-        (0, WORDS, "command already runs"),
-        (1, WORDS, ""),
-        (2, WORDS, ""),
-        (3, b"\x81\xa7command\xa6echo a", ""),
-        (4, WORDS, "too many commands"),
+    let table: [(u32, u64, &[u8], &str); 9] = [
+        (0, 0, b"\xc0", "bad arguments"),
+        (1, 0, b"\x81\xa7command\x90", "bad arguments"),
+        (2, 0, b"\x81\xa7command\x92\xa1a\x01", "bad arguments"),
+        (3, 0, WORDS, ""),
+        (4, 0, WORDS, "command already runs"),
+        (5, 1, WORDS, ""),
+        (6, 2, WORDS, ""),
+        (7, 3, b"\x81\xa7command\xa6echo a", ""),
+        (8, 4, WORDS, "too many commands"),
     ];
-    let mut seq = 0;
-    for (command, args, text) in table {
+    for (seq, command, args, text) in table {
         let (_, bytes) = hear(&mut worker, start(alloc, seq, command, args)?)?;
         assert_eq!(rt; exception(alloc, bytes)?.as_str(), text, "order {seq}");
-        seq += 1;
     }
     Ok(())
 }
@@ -262,7 +264,8 @@ fn line_is_run_by_a_shell(rt: HostRuntime) -> Result<(), Fail> {
     let alloc = rt.alloc();
     let mut worker = Worker::new(alloc);
     let order = start(alloc, 0, 5, b"\x81\xa7command\xa6echo a")?;
-    let (WorkAct::Run { command, argv }, _) = hear(&mut worker, order)? else {
+    let (act, _) = hear(&mut worker, order)?;
+    let WorkAct::Run { command, argv } = act else {
         panic!(&rt; "the command is to run");
     };
     assert_eq!(rt; command, 5);
@@ -276,27 +279,35 @@ fn line_is_run_by_a_shell(rt: HostRuntime) -> Result<(), Fail> {
 }
 
 #[test]
-fn other_requests_have_their_answers(rt: HostRuntime) -> Result<(), Fail> {
+fn interrupt_is_for_a_running_command(rt: HostRuntime) -> Result<(), Fail> {
     let alloc = rt.alloc();
     let mut worker = Worker::new(alloc);
     let _ = hear(&mut worker, message(alloc, START_ZERO)?)?;
-
-    let order =
-        b"\x84\xaaseq_number\x01\xa2op\xb1interrupt_command\xaacommand_id\xa11\xa3why\xa4stop";
-    let (act, bytes) = hear(&mut worker, message(alloc, order)?)?;
+    let (act, bytes) = hear(&mut worker, message(alloc, INTERRUPT_OF_ONE)?)?;
     assert!(rt; matches!(act, WorkAct::Nothing));
     assert_eq!(rt; bytes.ok_or("no response")?.as_slice(), NO_SUCH_COMMAND_ONE);
+    let (act, _) = hear(&mut worker, message(alloc, INTERRUPT_OF_ZERO)?)?;
+    assert!(rt; matches!(act, WorkAct::Interrupt(0)));
+    let copy = act.copy()?;
+    assert!(rt; matches!(copy, WorkAct::Interrupt(0)));
+    Ok(())
+}
 
-    let order =
-        b"\x84\xaaseq_number\x02\xa2op\xb1interrupt_command\xaacommand_id\xa10\xa3why\xa4stop";
-    let (act, _) = hear(&mut worker, message(alloc, order)?)?;
-    assert!(rt; matches!(act.copy()?, WorkAct::Interrupt(0)));
-
+#[test]
+fn worker_tells_of_itself(rt: HostRuntime) -> Result<(), Fail> {
+    let alloc = rt.alloc();
+    let mut worker = Worker::new(alloc);
     let question = b"\x82\xaaseq_number\x03\xa2op\xafget_worker_info";
     let (act, bytes) = hear(&mut worker, message(alloc, question)?)?;
     assert!(rt; matches!(act, WorkAct::Info));
     assert_eq!(rt; bytes.ok_or("no response")?.as_slice(), INFO_THREE);
+    Ok(())
+}
 
+#[test]
+fn text_is_to_be_shown(rt: HostRuntime) -> Result<(), Fail> {
+    let alloc = rt.alloc();
+    let mut worker = Worker::new(alloc);
     let order = b"\x83\xaaseq_number\x04\xa2op\xa5print\xa7message\xa2hi";
     let (act, bytes) = hear(&mut worker, message(alloc, order)?)?;
     let WorkAct::Print(text) = act else {
@@ -304,16 +315,26 @@ fn other_requests_have_their_answers(rt: HostRuntime) -> Result<(), Fail> {
     };
     assert_eq!(rt; text.as_str(), "hi");
     assert_eq!(rt; exception(alloc, bytes)?.as_str(), "");
+    Ok(())
+}
 
-    let order = b"\x82\xaaseq_number\x05\xa2op\xa6upload";
-    let (act, bytes) = hear(&mut worker, message(alloc, order)?)?;
-    assert!(rt; matches!(act, WorkAct::Nothing));
-    assert_eq!(rt; exception(alloc, bytes)?.as_str(), "no such operation");
-
-    let order = b"\x82\xaaseq_number\x06\xa2op\xa8shutdown";
-    let (act, bytes) = hear(&mut worker, message(alloc, order)?)?;
-    assert!(rt; matches!(act, WorkAct::Shutdown));
-    assert_eq!(rt; exception(alloc, bytes)?.as_str(), "");
+#[test]
+fn other_operations_have_their_answers(rt: HostRuntime) -> Result<(), Fail> {
+    let alloc = rt.alloc();
+    let table: [(&[u8], &str); 4] = [
+        (b"\x82\xaaseq_number\x05\xa2op\xa9keepalive", ""),
+        (b"\x82\xaaseq_number\x05\xa2op\xa8shutdown", ""),
+        (
+            b"\x82\xaaseq_number\x05\xa2op\xa6upload",
+            "no such operation",
+        ),
+        (UPDATE_ZERO, "no such operation"),
+    ];
+    for (order, text) in table {
+        let mut worker = Worker::new(alloc);
+        let (_, bytes) = hear(&mut worker, message(alloc, order)?)?;
+        assert_eq!(rt; exception(alloc, bytes)?.as_str(), text);
+    }
     Ok(())
 }
 
@@ -327,7 +348,7 @@ fn fault_is_one_complete(rt: HostRuntime) -> Result<(), Fail> {
     let fault = Finish::Fault(text).copy()?;
     let ended = worker.finish(0, fault)?;
     assert_eq!(rt; ended.len(), 1);
-    let sent = ended[0].copy(alloc)?;
+    let sent = ended[0].copy()?;
     assert_eq!(rt; sent.seq, 0);
     assert_eq!(rt;
         sent.bytes.as_slice(),
