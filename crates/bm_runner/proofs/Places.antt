@@ -1,5 +1,5 @@
 -- Lemmas on lists at a place, and on the step that is next there.
-use Rattle.std.proofs.Common.{◌≡◌, ◌≢◌, ℕ, zero, suc, ◌+◌, ◌<◌, ◌≤◌, Bool, true, false, cond, List, [], ◌∷◌, ◌++◌, length, take, drop, get_or, set, replicate, Option, Some, None, refl, sym, ap, subst, ◌∙◌, arith, add-one, ◌==◌, ◌⊎◌, inl, inr}
+use Rattle.std.proofs.Common.{◌≡◌, ℕ, zero, suc, ◌+◌, ◌<◌, ◌≤◌, Bool, true, false, cond, List, [], ◌∷◌, ◌++◌, length, take, drop, get_or, set, replicate, Option, Some, None, refl, sym, ap, subst, ◌∙◌, arith, ◌==◌, inl, inr}
 use Rattle.std.specs.List.{slice_get, position, position_from}
 use Rattle.std.specs.Option.{option_map_or}
 use Rattle.std.proofs.lemmas.Bool.{cases_Bool, false_from_ne_true, eqb-true, eqb-false}
@@ -10,7 +10,6 @@ use Rattle.std.proofs.lemmas.Iterator.Adapters.{position_from-zero}
 use Rattle.std.proofs.Math.Seq.{drop-cons}
 use Rattle.bm_session.specs.declared.results.Results.{Results}
 use Rattle.bm_board.specs.declared.plan.StepPlan.{StepPlan}
-use Rattle.bm_board.specs.declared.steps.Next.{Next}
 use Rattle.bm_board.specs.declared.steps.Next.TheVariants.{Step, Ended}
 use Rattle.bm_board.specs.Steps.{is_over, is_halted, runs, result_of, next_of}
 use Rattle.bm_runner.specs.Run.{runs_at}

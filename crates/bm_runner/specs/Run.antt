@@ -1,8 +1,8 @@
 -- What a run of a build's steps reports, by what its port told.
-use Rattle.std.specs.Prelude.{◌≡◌, ◌↔◌, ℕ, ◌+◌, ◌<◌, Bool, true, false, not, if◌then◌else◌, IsTrue, List, [], ◌∷◌, ◌++◌, length, take, map, filter, slice_get, All, Option, Some, None}
+use Rattle.std.specs.Prelude.{◌≡◌, ◌↔◌, ℕ, ◌<◌, Bool, true, false, not, if◌then◌else◌, List, [], ◌∷◌, ◌++◌, length, take, map, filter, slice_get, All, Some, None}
 use Rattle.std.specs.Option.{option_map_or}
 use Rattle.bm_session.specs.declared.results.Results.{Results}
-use Rattle.bm_session.specs.declared.results.Results.TheVariants.{Success, Warnings, Failure, Skipped, Exception, Retry, Cancelled}
+use Rattle.bm_session.specs.declared.results.Results.TheVariants.{Skipped, Exception, Retry}
 use Rattle.bm_board.specs.declared.plan.StepPlan.{StepPlan}
 use Rattle.bm_board.specs.Steps.{is_over, is_halted, runs, result_of}
 use Rattle.bm_runner.specs.declared.port.Told.{Told}

@@ -1,4 +1,4 @@
-use Rattle.std.proofs.Common.{◌≡◌, ◌<◌, Bool, true, false, List, length, sym, ap, subst, ◌∙◌, arith}
+use Rattle.std.proofs.Common.{◌≡◌, Bool, List, sym, ap, subst, ◌∙◌, arith}
 use Rattle.bm_session.specs.declared.results.Results.{Results}
 use Rattle.bm_runner.specs.Run.{runs_at}
 use Rattle.bm_runner.proofs.Runs.{IsAt, at_start, past_skipped, past_run, not_refused}
