@@ -1,5 +1,5 @@
 -- Runs of steps: what viewers see of a log never shrinks.
-use Rattle.std.proofs.Common.{◌≡◌, refl, sym, ◌∙◌, ap, subst, ℕ, ◌+◌, ◌≤◌, ◌<◌, Bool, true, false, cond, ◌&&◌, List, [], ◌∷◌, ◌++◌, length, Option, Some, None, arith, append_assoc}
+use Rattle.std.proofs.Common.{◌≡◌, refl, sym, ◌∙◌, ap, subst, ℕ, ◌+◌, ◌≤◌, ◌<◌, Bool, true, false, cond, ◌&&◌, List, [], ◌∷◌, ◌++◌, Option, Some, None, arith, append_assoc}
 use Rattle.std.specs.Prelude.{◌==◌, nat_lt, nat_le, is_some, unwrap_or, find}
 use Rattle.std.specs.Option.{option_or}
 use Rattle.std.proofs.lemmas.List.{append-nil, map-append}
@@ -15,7 +15,7 @@ use Rattle.bm_world.specs.declared.answer.Answer.TheVariants.{Heard, Busy, Took,
 use Rattle.bm_world.specs.declared.step.Step.{Step}
 use Rattle.bm_world.specs.declared.step.Step.TheVariants.{Hear, Drain, Look}
 use Rattle.bm_world.specs.World.{World, Stepped, heard, drained, stepped, start, after_steps}
-use Rattle.bm_world.specs.Laws.{IsLater, LooksNeverShrink}
+use Rattle.bm_world.specs.Laws.{LooksNeverShrink}
 
 -- the prefix with d items stays the first one
 
@@ -23,9 +23,9 @@ visible-push : (t : Trace) (e : Event) (d : ℕ) → d ≤ productive t → visi
 visible-push t e d h =
     let more : prefixes (t ++ e ∷ []) ≡ prefixes t ++ (t ++ e ∷ []) ∷ [] = rw (moments-push t e, map-append (λ (m : Moment). m.past) (moments t) (next t e ∷ [])) in
     let found : find (λ p. productive p == d) (prefixes (t ++ e ∷ [])) ≡ Some (visible t d) =
-        ap (find (λ p. productive p == d)) more
-        ∙ find-push (λ p. productive p == d) (prefixes t) (t ++ e ∷ [])
-        ∙ ap (λ o. option_or o (cond (productive (t ++ e ∷ []) == d) (Some (t ++ e ∷ [])) None)) (visible-first t d h) in
+    ap (find (λ p. productive p == d)) more
+    ∙ find-push (λ p. productive p == d) (prefixes t) (t ++ e ∷ [])
+    ∙ ap (λ o. option_or o (cond (productive (t ++ e ∷ []) == d) (Some (t ++ e ∷ [])) None)) (visible-first t d h) in
     ap (λ o. unwrap_or o (t ++ e ∷ [])) found
 
 visible-more : (t v : Trace) (d : ℕ) → d ≤ productive t → visible (t ++ v) d ≡ visible t d
