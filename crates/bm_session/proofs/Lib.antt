@@ -15,3 +15,4 @@ mod Lookups
 mod Stepped
 mod Taking
 mod Hearing
+mod Flagged

@@ -168,3 +168,13 @@ merged-sorted rs merged = IsNonDecreasingBy-from_all_adjacent (λ (r : Seen). r.
     adjacent (a ∷ b ∷ rs) h (suc k) d l =
         let step : suc k + 1 ≡ suc (k + 1) = omega arith in
         subst (λ i. (get_or (b ∷ rs) k d).first ≤ (get_or (a ∷ b ∷ rs) i d).first) (sym step) (adjacent (b ∷ rs) h.2 k d (omega arith))
+
+-- ranges that hold no number are none
+pub merged-none : (rs : List Seen) → IsMerged rs → ((n : ℕ) → verdict_in rs n ≡ None) → rs ≡ []
+merged-none [] h none = refl
+merged-none (a ∷ rs) h none =
+    let whole : a.first ≤ a.last = merged-ordered a rs h in
+    let inside : (nat_le a.first a.first && nat_le a.first a.last) ≡ true = grind (arith, nat_tests) in
+    let held : verdict_in (a ∷ rs) a.first ≡ Some a.verdict = ap (λ b. option_map (λ (r : Seen). r.verdict) (cond b (Some a) (find (λ (r : Seen). nat_le r.first a.first && nat_le a.first r.last) rs))) inside in
+    let clash : Some a.verdict ≡ None = sym held ∙ none a.first in
+    cc

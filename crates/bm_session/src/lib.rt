@@ -5,6 +5,7 @@
 #![tactic(auto)]
 
 mod carried;
+mod counted;
 mod event;
 mod item;
 mod plan;

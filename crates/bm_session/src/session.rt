@@ -1,8 +1,9 @@
-ghost use Rattle.std.specs.Prelude.{◌≡◌, ◌⊎◌, ◌++◌, ◌∷◌, ◌||◌, ◌≤◌, [], Some, None, true, IfOk, IfErr, IsOk, if◌then◌else◌};
+ghost use Rattle.std.specs.Prelude.{◌≡◌, ◌⊎◌, ◌++◌, ◌∷◌, ◌||◌, ◌≤◌, [], Some, None, true, false, IfOk, IfErr, IsOk, if◌then◌else◌};
 ghost use Rattle.bm_session.specs.Trace.{is_up as up_of, is_cut as cut_of, refusal as refusal_of, reply as reply_of, item as item_of, log as log_of, has_log as has_log_in, outcome as outcome_of, was_taken};
 ghost use Rattle.bm_session.specs.Seen.{HoldsSeen};
 ghost use Rattle.bm_session.specs.Session.{IsPlanFor, ran_as, trace_as, ran_after, trace_after};
 
+use crate::counted;
 use crate::event::Event;
 use crate::item::Item;
 use crate::plan::Plan;
@@ -10,7 +11,6 @@ use crate::refusal::Refusal;
 use crate::reply::Reply;
 use crate::results::Results;
 use crate::run::Ran;
-use crate::scan::logs;
 use crate::seen::Seen;
 use crate::table::Table;
 use bm_lines::Block;
@@ -23,6 +23,8 @@ use std::marker::Model;
 #[derive(Drop)]
 pub struct Session {
     events: Vec<Event>,
+    /// For each event whether it is an update that counts for a log.
+    counted: Vec<bool>,
     table: Table,
 }
 
@@ -33,9 +35,9 @@ impl Model for Session {
 
     ghost Value = { Lane };
 
-    ghost view = { λ s. record { trace = s.events.items; room = min (vec_capacity s.events - vec_len s.events) (table_room s.table) } };
+    ghost view = { λ s. record { trace = s.events.items; room = min (vec_capacity s.events - vec_len s.events) (min (vec_capacity s.counted - vec_len s.counted) (table_room s.table)) } };
 
-    ghost invariant = { λ s. IsSession (record { trace = s.events.items; room = min (vec_capacity s.events - vec_len s.events) (table_room s.table) }) s.table };
+    ghost invariant = { λ s. IsSession (record { trace = s.events.items; room = min (vec_capacity s.events - vec_len s.events) (min (vec_capacity s.counted - vec_len s.counted) (table_room s.table)) }) s.counted.items s.table };
 }
 
 impl Session {
@@ -45,6 +47,7 @@ impl Session {
     {
         Ok(Session {
             events: Vec::with_capacity(alloc, 2)?,
+            counted: Vec::new(alloc),
             table: Table::new(alloc)?,
         })
     }
@@ -70,11 +73,23 @@ impl Session {
     pub fn log(&self, alloc: Global, command: u64, name: &str) -> Result<Option<Block>, AllocError>
         ensures { IfOk result (λ log. log ≡ (if has_log_in self.now.trace command name.now then Some (log_of self.now.trace command name.now) else None)) }
     {
-        if !logs::has_log(self.events.as_slice(), command, name) {
+        if !self.has_log(command, name) {
             return Ok(None);
         }
-        let lines = logs::log(alloc, self.events.as_slice(), command, name)?;
+        let events = self.events.as_slice();
+        let flags = self.counted.as_slice();
+        let lines = counted::log(alloc, events, flags, command, name)?;
         Ok(Some(Block::from_lines(alloc, lines)?))
+    }
+
+    /// Whether the log is there.
+    fn has_log(&self, command: u64, name: &str) -> bool
+        ensures { result ≡ has_log_in self.now.trace command name.now }
+    {
+        let events = self.events.as_slice();
+        let flags = self.counted.as_slice();
+        command < self.table.commands()
+            && (name == "stdio" || counted::has_blocks(events, flags, command, name))
     }
 
     /// How the command ended, or None while it is open or isn't there.
@@ -87,7 +102,8 @@ impl Session {
     /// The numbers of the requests that the session had, with the first verdicts, as sorted ranges of which no two
     /// overlap or could be one. While the session is neither up nor cut there are none.
     pub fn seen(&self) -> &[Seen]
-        ensures { HoldsSeen result.now self.now.trace }
+        ensures holds { HoldsSeen result.now self.now.trace }
+        ensures none { (up_of self.now.trace || cut_of self.now.trace) ≡ false → result.now ≡ [] }
     {
         self.table.seen.as_slice()
     }
@@ -119,7 +135,10 @@ impl Session {
             Event::Down => 1,
             _ => 2,
         };
-        if self.events.reserve(needed).is_err() || self.table.reserve(needed).is_err() {
+        if self.events.reserve(needed).is_err()
+            || self.counted.reserve(needed).is_err()
+            || self.table.reserve(needed).is_err()
+        {
             return Err((event, Refusal::Mem));
         }
         Ok(Plan::of(event, reply, item))
@@ -134,7 +153,9 @@ impl Session {
         ensures item { result.1 ≡ plan.given }
     {
         let (event, reply, item) = plan.into_parts();
+        let counts = self.table.counts(&event);
         self.table.take(&event);
+        let _ = self.counted.push(counts);
         let _ = self.events.push(event);
         (reply, item)
     }

@@ -1,8 +1,9 @@
 ghost use Rattle.std.specs.Prelude.{◌≡◌, ◌==◌, ◌||◌, ◌&&◌, ◌≤◌, ◌<◌, ◌+◌, ◌^◌, ◌∷◌, ◌++◌, [], slice_set, ℕ, true, false, not, List, length, map, filter, find, option_map, is_some, if◌then◌else◌, Some, None, IfOk, IsOk, OnOk, vec_len, vec_capacity};
 ghost use Rattle.std.specs.List.{list_any};
 ghost use Rattle.bm_session.specs.Events.{is_fault as is_fault_event};
-ghost use Rattle.bm_session.specs.Trace.{Trace, is_up as up_of, is_cut as cut_of, is_open as is_open_in, is_new as is_new_in, ended_by as ended_by_of, outcome as outcome_of, verdict as verdict_of, answer as answer_of, reply as reply_of, refusal as refusal_of, item as item_of, result_of_rc, was_taken};
+ghost use Rattle.bm_session.specs.Trace.{Trace, is_up as up_of, is_cut as cut_of, commands as commands_of, is_open as is_open_in, is_new as is_new_in, ended_by as ended_by_of, outcome as outcome_of, verdict as verdict_of, answer as answer_of, reply as reply_of, refusal as refusal_of, item as item_of, result_of_rc, was_taken};
 ghost use Rattle.bm_session.specs.declared.table.Open.{Open};
+ghost use Rattle.bm_session.specs.Counted.{counts as counts_in};
 ghost use Rattle.bm_session.specs.Seen.{verdict_in};
 ghost use Rattle.bm_session.specs.Table.{IsTable, IsTableUp, is_link_cut, table_room, asks, open_entry, with_stop, with_told, ends_as as ends_as_lem};
 
@@ -172,6 +173,23 @@ impl Table {
         ensures { (t : Trace) → IsTable self.now t → result ≡ is_open_in t command }
     {
         with_command(self.open.as_slice(), command).is_some()
+    }
+
+    /// How many commands were started.
+    pub fn commands(&self) -> u64
+        ensures { (t : Trace) → IsTable self.now t → result ≡ commands_of t }
+    {
+        self.outcomes.len() as u64
+    }
+
+    /// Whether the event is a fresh update of a command that is open.
+    pub fn counts(&self, event: &Event) -> bool
+        ensures { (t : Trace) → IsTable self.now t → refusal_of t event.now ≡ None → result ≡ counts_in t event.now }
+    {
+        match event {
+            Event::In(n, Body::Update { command, .. }) => self.updates(*n, *command),
+            _ => false,
+        }
     }
 
     /// How the command ended, or None while it is open or isn't there.
@@ -533,3 +551,6 @@ impl Table {
         self.open.retain(|other| entry.command != other.command);
     }
 }
+
+#[cfg(test)]
+mod tests;

@@ -123,7 +123,7 @@ pub fn outcome(t: &[Event], command: u64) -> Option<Results>
 }
 
 /// Whether the parcel has a part with the name.
-fn has_part(parcel: &Parcel, name: &str) -> bool
+pub fn has_part(parcel: &Parcel, name: &str) -> bool
     ensures { result ≡ not (is_empty (blocks_under name.now parcel.now)) }
 {
     let mut found = false;
@@ -136,7 +136,7 @@ fn has_part(parcel: &Parcel, name: &str) -> bool
 }
 
 /// Appends the lines of the parcel's part with the name, if it has one.
-fn append_part(lines: &mut Vec<Line>, parcel: &Parcel, name: &str) -> Result<(), AllocError>
+pub fn append_part(lines: &mut Vec<Line>, parcel: &Parcel, name: &str) -> Result<(), AllocError>
     ensures { IfOk result (λ u. lines.new.items ≡ lines.old.items ++ joined (blocks_under name.now parcel.now)) }
 {
     for part in parcel.parts() {

@@ -1,0 +1,95 @@
+//! The logs of a trace, by one walk, where it is known which events count.
+ghost use Rattle.std.specs.Prelude.{◌≡◌, ◌++◌, ◌||◌, not, length, if◌then◌else◌, IfOk, []};
+ghost use Rattle.bm_lines.specs.Parcels.{blocks_under};
+ghost use Rattle.bm_session.specs.Events.{is_update_of, parcel_of};
+ghost use Rattle.bm_session.specs.Trace.{blocks, log as log_of, joined, is_empty};
+ghost use Rattle.bm_session.specs.Counted.{flags};
+
+use crate::event::{Body, Event};
+use crate::scan::logs::{append_part, has_part};
+use bm_lines::Line;
+use std::alloc::{AllocError, Global};
+
+/// Whether the log had a block, or has one where the event, if it counts, adds one.
+fn found_after(found: bool, counts: bool, event: &Event, command: u64, name: &str) -> bool
+    ensures { result ≡ (found || not (is_empty (if counts then (if is_update_of command event.now then blocks_under name.now (parcel_of event.now) else []) else []))) }
+{
+    if found || !counts {
+        return found;
+    }
+    match event {
+        Event::In(
+            _,
+            Body::Update {
+                command: k,
+                parcel,
+                ..
+            },
+        ) => *k == command && has_part(parcel, name),
+        _ => false,
+    }
+}
+
+/// Appends the lines that the event, if it counts, adds to the log.
+fn append_added(
+    lines: &mut Vec<Line>,
+    counts: bool,
+    event: &Event,
+    command: u64,
+    name: &str,
+) -> Result<(), AllocError>
+    ensures { IfOk result (λ u. lines.new.items ≡ lines.old.items ++ joined (if counts then (if is_update_of command event.now then blocks_under name.now (parcel_of event.now) else []) else [])) }
+{
+    if !counts {
+        return Ok(());
+    }
+    match event {
+        Event::In(
+            _,
+            Body::Update {
+                command: k,
+                parcel,
+                ..
+            },
+        ) => {
+            if *k == command {
+                append_part(lines, parcel, name)
+            } else {
+                Ok(())
+            }
+        }
+        _ => Ok(()),
+    }
+}
+
+/// Whether the command has a block under the name.
+pub fn has_blocks(t: &[Event], counted: &[bool], command: u64, name: &str) -> bool
+    requires each { length counted.now ≡ length t.now }
+    requires counts { counted.now ≡ flags t.now }
+    ensures { result ≡ not (is_empty (blocks t.now command name.now)) }
+{
+    let mut found = false;
+    for i in 0..t.len() {
+        found = found_after(found, counted[i], &t[i], command, name);
+    }
+    found
+}
+
+/// The log of the command under the name.
+pub fn log(
+    alloc: Global,
+    t: &[Event],
+    counted: &[bool],
+    command: u64,
+    name: &str,
+) -> Result<Vec<Line>, AllocError>
+    requires each { length counted.now ≡ length t.now }
+    requires counts { counted.now ≡ flags t.now }
+    ensures { IfOk result (λ lines. lines.items ≡ log_of t.now command name.now) }
+{
+    let mut lines = Vec::new(alloc);
+    for i in 0..t.len() {
+        append_added(&mut lines, counted[i], &t[i], command, name)?;
+    }
+    Ok(lines)
+}
