@@ -3,4 +3,5 @@ pub mod Gathering
 pub mod Looks
 pub mod Meaning
 pub mod Places
+mod Rows
 pub mod Shelves

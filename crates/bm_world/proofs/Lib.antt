@@ -1,4 +1,5 @@
 mod Keeping
 mod Later
 mod Refusals
+mod Rows
 mod Steps
