@@ -1,10 +1,10 @@
 -- The map of the numbers that were heard.
-use Rattle.std.proofs.Common.{◌≡◌, ℕ, List, [], ◌∷◌, Option, Some, if◌then◌else◌, cond, refl, sym, ap, ◌∙◌}
+use Rattle.std.proofs.Common.{◌≡◌, ℕ, List, [], ◌∷◌, Some, cond, refl, sym, ap, ◌∙◌}
 use Rattle.std.specs.Ordering.{nat_cmp, eq_by_cmp}
 use Rattle.std.specs.Cmp.{nat_cmp_total, eq_by_cmp_equiv}
 use Rattle.std.specs.Map.{lookup}
-use Rattle.std.specs.BTreeMap.{BTreeMap, is_at, get_by, Updates, get as map_get}
-use Rattle.std.specs.FinMap.{FinMap, find, from_entries, get, insert, get-from_entries, get-insert, same_map, nat_cmp-IsAntisymmetric}
+use Rattle.std.specs.BTreeMap.{BTreeMap, is_at, Updates, get as map_get}
+use Rattle.std.specs.FinMap.{find, from_entries, get, insert, get-from_entries, get-insert, same_map, nat_cmp-IsAntisymmetric}
 
 lookup-find : {X : Type 0} (q : ℕ) (es : List (ℕ × X)) → lookup (is_at (nat_cmp q)) es ≡ find nat_cmp q es
 lookup-find q [] = refl

@@ -1,14 +1,13 @@
 -- What holds of a worker stays so.
-use Rattle.std.proofs.Common.{◌≡◌, ℕ, ◌+◌, ◌<◌, ◌≤◌, ◌==◌, ◌^◌, Bool, true, false, not, ◌&&◌, nat_le, List, [], ◌∷◌, ◌++◌, length, map, filter, Option, Some, None, if◌then◌else◌, refl, sym, ap, subst, ◌∙◌, arith, length-append, add-one, lit≤}
+use Rattle.std.proofs.Common.{◌≡◌, ℕ, ◌+◌, ◌<◌, ◌≤◌, ◌==◌, ◌^◌, Bool, true, false, not, ◌&&◌, nat_le, List, [], ◌∷◌, ◌++◌, length, filter, Option, Some, None, if◌then◌else◌, refl, ap, subst, arith, length-append, lit≤}
 use Rattle.std.proofs.lemmas.List.{append-nil}
 use Rattle.std.specs.Prelude.{is_none, bytes_eq, codes}
 use Rattle.std.proofs.lemmas.Bool.Decides.{nat_tests}
 use Rattle.bm_work.specs.declared.sent.Sent.{Sent}
-use Rattle.bm_work.specs.declared.act.WorkRefusal.{WorkRefusal}
 use Rattle.bm_work.specs.declared.act.WorkRefusal.TheVariants.{NoSuchCommand, Window}
 use Rattle.bm_work.specs.Stream.{Report, stream_from}
 use Rattle.bm_work.specs.Core.{Core, IsCore, Rise, numbers, refusal, has_room, runs, with_sent, without_command, freed, new_core, heard_request, heard_bad, start_answer, started_by, runs_among, answer_among}
-use Rattle.bm_msg.specs.Meaning.{Asked, auth, print, keepalive, get_worker_info, start_command, interrupt_command, shutdown, update, complete, unknown}
+use Rattle.bm_msg.specs.Meaning.{Asked, start_command}
 use Rattle.bm_work.specs.declared.answer.Answer.{Answer}
 use Rattle.bm_work.specs.declared.answer.Answer.TheVariants.{Done, BadArguments, NoSuchCommandName, AlreadyRuns, TooManyCommands}
 use Rattle.bm_work.specs.Answers.{is_done}

@@ -1,15 +1,15 @@
 -- Definitions on worked examples. The bytes are those that this project's profile gives for its messages.
-use Rattle.std.proofs.Common.{◌≡◌, ℕ, List, [], ◌∷◌, pos, Some, None, refl}
+use Rattle.std.proofs.Common.{◌≡◌, [], ◌∷◌, pos, Some, None, refl}
 use Rattle.std.specs.Prelude.{codes}
 use Rattle.std.specs.Fmt as numerals
 use Rattle.bm_value.specs.Writing as writing
 use Rattle.bm_value.specs.Tree.{str, int, array, dict, none, item, no_pairs, pair}
-use Rattle.bm_lines.specs.declared.line.Letter.TheVariants.{O, E, H}
+use Rattle.bm_lines.specs.declared.line.Letter.TheVariants.{O, E}
 use Rattle.bm_work.specs.declared.answer.Answer.TheVariants.{Done, NoSuchCommand}
 use Rattle.bm_work.specs.Argv.{argv_of}
 use Rattle.bm_work.specs.Replies.{reply}
 use Rattle.bm_work.specs.Stream.{text, code, over, asked_by, request_bytes, said}
-use Rattle.bm_work.specs.Cuts.{texts_of, left_of, shown, last_text}
+use Rattle.bm_work.specs.Cuts.{texts_of, left_of, last_text}
 
 first_update : request_bytes 0 (asked_by (text 0 O (codes "a\n"))) ≡ 0x84 ∷ 0xaa ∷ 0x73 ∷ 0x65 ∷ 0x71 ∷ 0x5f ∷ 0x6e ∷ 0x75 ∷ 0x6d ∷ 0x62 ∷ 0x65 ∷ 0x72 ∷ 0x00 ∷ 0xa2 ∷ 0x6f ∷ 0x70 ∷ 0xa6 ∷ 0x75 ∷ 0x70 ∷ 0x64 ∷ 0x61 ∷ 0x74 ∷ 0x65 ∷ 0xaa ∷ 0x63 ∷ 0x6f ∷ 0x6d ∷ 0x6d ∷ 0x61 ∷ 0x6e ∷ 0x64 ∷ 0x5f ∷ 0x69 ∷ 0x64 ∷ 0xa1 ∷ 0x30 ∷ 0xa4 ∷ 0x61 ∷ 0x72 ∷ 0x67 ∷ 0x73 ∷ 0x91 ∷ 0x92 ∷ 0xa6 ∷ 0x73 ∷ 0x74 ∷ 0x64 ∷ 0x6f ∷ 0x75 ∷ 0x74 ∷ 0xa2 ∷ 0x61 ∷ 0x0a ∷ []
 unfolding request_bytes writing.map_head writing.array_head writing.str_head writing.unsigned numerals.digits

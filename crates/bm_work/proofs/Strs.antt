@@ -1,8 +1,8 @@
 -- The words of an array, one after the other.
-use Rattle.std.proofs.Common.{◌≡◌, ℕ, zero, suc, ◌+◌, ◌<◌, ◌≤◌, List, [], ◌∷◌, ◌++◌, length, drop, get_or, map, Option, Some, None, option_map, refl, sym, ap, ◌∙◌, arith, append_assoc}
+use Rattle.std.proofs.Common.{◌≡◌, ℕ, ◌+◌, ◌<◌, List, [], ◌∷◌, ◌++◌, length, drop, get_or, map, Option, Some, None, option_map, refl, sym, ap, ◌∙◌, arith, append_assoc}
 use Rattle.std.specs.Option.{option_and_then}
-use Rattle.std.proofs.lemmas.List.{append-nil, drop_more}
-use Rattle.bm_value.specs.Tree.{Tree, Trees, item, array}
+use Rattle.std.proofs.lemmas.List.{drop_more}
+use Rattle.bm_value.specs.Tree.{Tree, array}
 use Rattle.bm_value.specs.View.{tree, trees_of}
 use Rattle.bm_value.specs.declared.value.Value.{Value}
 use Rattle.bm_work.specs.Argv.{str_of, strs_of, words_of}

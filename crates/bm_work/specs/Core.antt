@@ -1,10 +1,9 @@
 -- A worker's side of a session: what it answers, and what it still awaits an answer to.
-use Rattle.std.specs.Prelude.{ℕ, ◌+◌, ◌≤◌, ◌==◌, ◌^◌, ℤ, Bool, true, false, not, ◌&&◌, nat_le, List, [], ◌∷◌, ◌++◌, length, map, filter, codes, bytes_eq, Option, Some, None, is_none, if◌then◌else◌}
+use Rattle.std.specs.Prelude.{ℕ, ◌+◌, ◌≤◌, ◌==◌, ◌^◌, Bool, not, ◌&&◌, nat_le, List, [], ◌∷◌, ◌++◌, length, map, filter, codes, bytes_eq, Option, Some, None, is_none, if◌then◌else◌}
 use Rattle.std.specs.List.{list_any}
 use Rattle.std.specs.Ordering.{nat_cmp}
 use Rattle.std.specs.FinMap.{FinMap, empty, get, insert}
-use Rattle.bm_value.specs.Tree.{Tree}
-use Rattle.bm_msg.specs.Meaning.{Asked, auth, print, keepalive, get_worker_info, start_command, interrupt_command, shutdown, update, complete, unknown, Meaning, request, response}
+use Rattle.bm_msg.specs.Meaning.{Asked, print, keepalive, get_worker_info, start_command, interrupt_command, shutdown, Meaning, request, response}
 use Rattle.bm_work.specs.Argv.{argv_of}
 use Rattle.bm_work.specs.Answers.{is_done}
 use Rattle.bm_work.specs.Replies.{reply}

@@ -1,5 +1,5 @@
 -- What a worker says of its commands: its requests, numbered in the order in which it says them.
-use Rattle.std.specs.Prelude.{ℕ, ◌+◌, ◌==◌, ℤ, List, [], ◌∷◌, Option, Some, None, if◌then◌else◌, flat_map}
+use Rattle.std.specs.Prelude.{ℕ, ◌+◌, ◌==◌, ℤ, List, [], ◌∷◌, Option, if◌then◌else◌, flat_map}
 use Rattle.bm_lines.specs.declared.line.Letter.{Letter}
 use Rattle.bm_lines.specs.declared.line.Line.{Line}
 use Rattle.bm_lines.specs.Lines.{lines_of}

@@ -1,6 +1,5 @@
 -- Laws of what a worker says.
 use Rattle.std.specs.Prelude.{◌≡◌, ℕ, ◌+◌, List, ◌++◌, length}
-use Rattle.bm_lines.specs.declared.line.Line.{Line}
 use Rattle.bm_work.specs.Stream.{Report, stream_from, said}
 
 -- What is said later follows with the next numbers: so the requests of all calls of a session, one after

@@ -1,6 +1,6 @@
 //! Answers of a worker to the requests of its master.
 
-ghost use Rattle.std.specs.Prelude.{◌≡◌, ◌<◌, ◌^◌, IfOk};
+ghost use Rattle.std.specs.Prelude.{◌≡◌, ◌<◌, IfOk};
 ghost use Rattle.bm_value.specs.View.{tree};
 ghost use Rattle.bm_value.specs.Tree.{str};
 ghost use Rattle.bm_work.specs.Answers.{result_of, is_done, is_exception, info};

@@ -35,7 +35,8 @@ impl Argv {
     pub fn into_vec(self) -> Vec<Text>
         ensures { result.items ≡ self }
     {
-        self.words
+        let Argv { words } = self;
+        words
     }
 
     pub fn as_slice(&self) -> &[Text]

@@ -1,6 +1,6 @@
 //! Texts of a pipe.
 
-ghost use Rattle.std.specs.Prelude.{◌≡◌, ◌++◌, ◌∷◌, [], ◌+◌, ◌≤◌, ◌<◌, length, IfOk, OnOk, OnErr, IfSome};
+ghost use Rattle.std.specs.Prelude.{◌≡◌, ◌++◌, [], ◌+◌, ◌≤◌, ◌<◌, length, IfOk, OnOk, OnErr, IfSome};
 ghost use Rattle.std.specs.Str.Lossy.{utf8_lossy};
 ghost use Rattle.bm_work.specs.Cuts.{longest, texts_of, left_of, texts_after, left_after, shown, last_text, first_end};
 

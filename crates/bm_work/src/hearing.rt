@@ -1,11 +1,8 @@
 //! What a worker hears.
 
-ghost use Rattle.std.specs.Prelude.{◌≡◌, ℕ, ◌≤◌, ◌<◌, ◌^◌, ◌⊎◌, ◌++◌, ◌∷◌, [], length, IfOk, IfErr, OnOk, OnErr, Some, None, nat_le, if◌then◌else◌, is_some};
-ghost use Rattle.std.specs.List.{list_any};
-ghost use Rattle.std.specs.Option.{option_map, option_to_list};
-ghost use Rattle.bm_value.specs.View.{tree};
-ghost use Rattle.bm_msg.specs.Meaning.{meaning, asked};
-ghost use Rattle.bm_work.specs.Replies.{reply as reply_of};
+ghost use Rattle.std.specs.Prelude.{◌≡◌, ◌<◌, IfOk, Some, None};
+ghost use Rattle.std.specs.Option.{option_to_list};
+ghost use Rattle.bm_msg.specs.Meaning.{asked};
 ghost use Rattle.bm_work.specs.Core.{runs_among, start_answer, answer_among, words_in, act_of, started_by};
 
 use crate::act::WorkAct;

@@ -1,4 +1,4 @@
-use Rattle.std.proofs.Common.{ℕ, ◌==◌, not, rules}
+use Rattle.std.proofs.Common.{◌==◌, not, rules}
 use Rattle.std.proofs.lemmas.Fn.{filter_same}
 use Rattle.bm_work.specs.declared.sent.Sent.{Sent}
 use Rattle.bm_work.proofs.worker.take_out_request.Goals as goal

@@ -1,4 +1,4 @@
-use Rattle.std.proofs.Common.{◌≡◌, ap, ◌∙◌}
+use Rattle.std.proofs.Common.{ap, ◌∙◌}
 use Rattle.std.specs.FinMap.{get}
 use Rattle.bm_work.proofs.AnswerMaps.{get_by-get}
 use Rattle.bm_work.proofs.answers.Answers.get.Goals as goal

@@ -1,4 +1,4 @@
-use Rattle.std.proofs.Common.{◌≡◌, ap, ◌∙◌}
+use Rattle.std.proofs.Common.{ap, ◌∙◌}
 use Rattle.std.specs.FinMap.{insert}
 use Rattle.bm_work.proofs.AnswerMaps.{insert-is}
 use Rattle.bm_work.proofs.answers.Answers.insert.Goals as goal

@@ -1,4 +1,3 @@
-use Rattle.std.proofs.Common.{◌≡◌}
 use Rattle.bm_work.proofs.Cores.{freed-is_core}
 use Rattle.bm_work.proofs.worker.Worker.free.Goals as goal
 

@@ -1,4 +1,4 @@
-use Rattle.std.proofs.Common.{◌≡◌, [], ◌∷◌, None, sym, ap, ◌∙◌}
+use Rattle.std.proofs.Common.{[], ◌∷◌, sym, ap, ◌∙◌}
 use Rattle.bm_work.specs.Stream.{text}
 use Rattle.bm_work.specs.Core.{Core, refusal}
 use Rattle.bm_work.proofs.Cores.{with_sent-is_core}
