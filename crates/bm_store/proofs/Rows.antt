@@ -1,5 +1,5 @@
 -- Worked books, which compute.
-use Rattle.std.specs.Prelude.{◌≡◌, refl, ℕ, List, [], ◌∷◌, Option, Some, None, map, codes}
+use Rattle.std.specs.Prelude.{◌≡◌, refl, ℕ, List, [], ◌∷◌, Some, None, map, codes}
 use Rattle.bm_lines.specs.Names.{Name, stdio}
 use Rattle.bm_lines.specs.Lines.{lines_of}
 use Rattle.bm_lines.specs.declared.line.Letter.TheVariants.{O}
