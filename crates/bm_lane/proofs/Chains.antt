@@ -1,15 +1,14 @@
 -- Operations, one after another.
-use Rattle.std.proofs.Common.{◌≡◌, true≢false, ℕ, suc, ◌+◌, ◌≤◌, ◌<◌, List, [], ◌∷◌, ◌++◌, length, fold, Option, Some, None, Result, Ok, Err, refl, sym, ap, ◌∙◌, subst, append_assoc, arith}
+use Rattle.std.proofs.Common.{◌≡◌, true≢false, ℕ, suc, ◌≤◌, ◌<◌, List, [], ◌∷◌, ◌++◌, length, fold, Option, Some, None, Result, Ok, Err, refl, sym, ap, ◌∙◌, subst, append_assoc, arith}
 use Rattle.std.specs.Prelude.{MatchResult, Bool, true, false, not, IsTrue}
 use Rattle.std.proofs.lemmas.List.{append-nil}
-use mathlib.Core.List.{IsPrefix}
 use Rattle.crossbeam_utils.specs.Register.{TurnsAt}
 use Rattle.bm_lane.specs.declared.published.Published.{Published}
 use Rattle.bm_lane.specs.declared.published.Addition.{Addition}
 use Rattle.bm_session.specs.declared.item.Item.{Item}
 use Rattle.bm_store.specs.Kept.{Kept, kept_after}
 use Rattle.bm_lane.specs.Fronts.{Front}
-use Rattle.bm_lane.specs.Copies.{kept_book, Sight, IsBook, Begins, Keeps, Shows}
+use Rattle.bm_lane.specs.Copies.{kept_book, Sight, IsBook, Keeps, Shows}
 use Rattle.bm_lane.specs.Additions.{Showing, Chain, last_front, items_of, kept_list}
 use Rattle.bm_lane.proofs.Grows.{grows}
 

@@ -1,6 +1,5 @@
 -- Lists of one item.
-use Rattle.std.specs.Prelude.{Bool, true, false, not, IsTrue}
-use Rattle.std.proofs.Common.{true≢false, ◌≡◌, ℕ, ◌≤◌, List, [], ◌∷◌, ◌++◌, length, refl, sym, ap, ◌∙◌, arith}
+use Rattle.std.proofs.Common.{◌≡◌, ◌≤◌, List, [], ◌∷◌, length, refl, arith}
 use Rattle.bm_session.specs.declared.item.Item.{Item}
 
 pub one_of_few : (l : List Item) → length l ≤ 1 → ¬ (l ≡ []) → (x : Item) × (l ≡ x ∷ [])

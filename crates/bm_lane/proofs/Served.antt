@@ -1,7 +1,6 @@
 -- Chunks are of the trace.
 use Rattle.std.proofs.Common.{◌≡◌, ◌≤◌, List, length, take, sym, ap, ◌∙◌, option_map}
 use Rattle.std.proofs.Math.Seq.{take-append_seam}
-use Rattle.bm_lines.specs.declared.line.Line.{Line}
 use Rattle.bm_session.specs.declared.item.Item.{Item}
 use Rattle.bm_session.specs.Trace.{items, productive}
 use Rattle.bm_store.specs.Book.{book, chunk_in, chunk_of}

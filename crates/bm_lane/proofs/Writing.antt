@@ -1,5 +1,5 @@
 -- What holds of a writer's end.
-use Rattle.std.proofs.Common.{◌≡◌, ◌≤◌, ◌∷◌, ◌++◌, ℕ, [], List, true, false, length, refl, sym, ap, ◌∙◌, arith}
+use Rattle.std.proofs.Common.{◌≡◌, ◌≤◌, ◌∷◌, ◌++◌, ℕ, [], List, true, false, length, sym, ap, ◌∙◌}
 use Rattle.std.proofs.lemmas.List.{append-nil}
 use Rattle.bm_session.specs.declared.item.Item.{Item}
 use Rattle.bm_store.specs.Kept.{logs_in}

@@ -1,4 +1,3 @@
-use Rattle.std.proofs.Common.{sym, ◌∙◌, ap}
 use Rattle.bm_lane.proofs.Grows.{admits, tells, learns}
 use Rattle.bm_lane.proofs.copy.window.Goals as goal
 

@@ -1,6 +1,5 @@
-use Rattle.std.proofs.Common.{◌≡◌, drop, length, Some}
+use Rattle.std.proofs.Common.{◌≡◌, drop, length}
 use Rattle.left_right.specs.Sides.{view}
-use Rattle.bm_lane.specs.Copies.{IsBook}
 use Rattle.bm_lane.specs.Windows.{AllFresh}
 use Rattle.bm_lane.proofs.copy.windows.Given as goal
 

@@ -1,7 +1,6 @@
-use Rattle.std.proofs.Common.{◌≡◌, ◌≤◌, ◌<◌, ◌∷◌, ◌++◌, [], ℕ, List, take, length, get_or, sym, ap, ◌∙◌, subst, arith}
+use Rattle.std.proofs.Common.{◌<◌, ◌∷◌, ◌++◌, [], List, length, sym, ap, ◌∙◌, subst, arith}
 use Rattle.bm_session.specs.declared.item.Item.{Item}
 use mathlib.Core.List.{IsPrefix}
-use Rattle.bm_lane.specs.Ends.{Watched, seen_counts}
 use Rattle.bm_lane.proofs.Counting.{counts_more, one_more}
 use Rattle.bm_lane.proofs.settling.count_seen.Goals as goal
 

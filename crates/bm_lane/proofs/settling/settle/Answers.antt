@@ -1,11 +1,10 @@
 use Rattle.std.proofs.Common.{◌≡◌, List, ap, sym, ◌∙◌, subst, true}
 use Rattle.bm_session.specs.declared.item.Item.{Item}
-use Rattle.bm_session.specs.Trace.{Trace, items, was_taken}
+use Rattle.bm_session.specs.Trace.{items, was_taken}
 use Rattle.bm_store.specs.Kept.{logs_in}
-use Rattle.bm_store.specs.Book.{book, logs}
+use Rattle.bm_store.specs.Book.{book}
 use Rattle.bm_store.proofs.Books.{books_have_the_logs}
 use Rattle.bm_lane.specs.Additions.{Showing}
-use Rattle.bm_lane.specs.Copies.{kept_book}
 use Rattle.bm_lane.specs.Ends.{Heard, Watched, AllBegin, seen_counts}
 use Rattle.bm_lane.proofs.Kept.{kept_is_book}
 use Rattle.bm_lane.proofs.settling.settle.Goals as goal

@@ -1,4 +1,4 @@
-use Rattle.std.proofs.Common.{refl, sym, ◌∙◌, ap}
+use Rattle.std.proofs.Common.{sym, ◌∙◌, ap}
 use Rattle.bm_lane.proofs.Adding.{adds_moves}
 use Rattle.bm_lane.proofs.history.Head.add.Goals as goal
 

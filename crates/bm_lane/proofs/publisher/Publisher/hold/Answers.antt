@@ -1,4 +1,4 @@
-use Rattle.std.proofs.Common.{drop, ap, sym, ◌∙◌, refl}
+use Rattle.std.proofs.Common.{drop, ap, ◌∙◌}
 use Rattle.bm_lane.specs.Additions.{Showing}
 use Rattle.bm_lane.proofs.Chains.{holds_one}
 use Rattle.bm_lane.proofs.publisher.Publisher.hold.Goals as goal

@@ -1,4 +1,4 @@
-use Rattle.std.proofs.Common.{drop, ◌++◌, sym, ap, ◌∙◌}
+use Rattle.std.proofs.Common.{drop, ◌++◌, ap}
 use Rattle.bm_lane.specs.Additions.{Showing, kept_list}
 use Rattle.bm_lane.proofs.Chains.{idle, few}
 use Rattle.bm_lane.proofs.publisher.Publisher.is_idle.Goals as goal

@@ -1,5 +1,4 @@
-use Rattle.std.proofs.Common.{◌≡◌, ◌∷◌, ◌++◌, [], List, Some, None, true, false, sym, ap, ◌∙◌, refl}
-use Rattle.bm_session.specs.declared.event.Event.{Event}
+use Rattle.std.proofs.Common.{◌≡◌, ◌∷◌, ◌++◌, [], List, Some, None, true, false, sym, ap, ◌∙◌}
 use Rattle.bm_session.specs.declared.item.Item.{Item}
 use Rattle.bm_session.specs.Session.{Planned}
 use Rattle.bm_session.specs.Trace.{Trace, reply, refusal, item, items}

@@ -1,4 +1,4 @@
-use Rattle.std.proofs.Common.{List, sym, ap, ◌∙◌, subst}
+use Rattle.std.proofs.Common.{List, ap, ◌∙◌, subst}
 use mathlib.Core.List.{IsPrefix}
 use Rattle.bm_session.specs.declared.item.Item.{Item}
 use Rattle.bm_lane.specs.Windows.{Looked}

@@ -1,4 +1,4 @@
-use Rattle.std.proofs.Common.{◌≡◌, ◌≤◌, List, length, ◌++◌, [], ap, sym, ◌∙◌, subst, arith, true, false}
+use Rattle.std.proofs.Common.{◌≤◌, List, length, ◌++◌, [], ap, sym, ◌∙◌, subst, arith, true, false}
 use Rattle.std.proofs.lemmas.List.{append-nil}
 use Rattle.bm_session.specs.declared.item.Item.{Item}
 use Rattle.bm_lane.specs.Additions.{Showing}

@@ -1,4 +1,4 @@
-use Rattle.std.proofs.Common.{◌≡◌, ◌≤◌, arith, ◌∷◌, [], List, length, ◌∙◌, subst, ap, refl, sym, true≢false}
+use Rattle.std.proofs.Common.{◌≡◌, ◌≤◌, arith, [], List, length, ◌∙◌, subst, ap, refl, sym, true≢false}
 use Rattle.bm_session.specs.declared.item.Item.{Item}
 use Rattle.bm_lane.specs.Additions.{Showing}
 use Rattle.bm_lane.specs.Copies.{kept_book}
