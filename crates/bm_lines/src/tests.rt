@@ -1,5 +1,7 @@
 //! What no clause says: worked examples, that calls succeed, and that copies keep what they had.
 
+mod memory;
+
 use crate::{Block, Letter, Line, LogName, Parcel, Text, append_content, content, cut};
 use std::alloc::{AllocError, Global};
 use std::process::Abort;

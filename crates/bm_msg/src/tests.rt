@@ -1,5 +1,7 @@
 //! What no clause says: vectors from outside, worked examples, and that calls succeed.
 
+mod memory;
+
 use crate::{Message, MsgError, Numbered, Request, Response, read, write_request, write_response};
 use bm_lines::Text;
 use bm_value::{EncodeError, Value, decode_whole};
