@@ -1,5 +1,6 @@
 -- What a worker says of its commands: its requests, numbered in the order in which it says them.
-use Rattle.std.specs.Prelude.{ℕ, ◌+◌, ◌==◌, ℤ, List, [], ◌∷◌, Option, if◌then◌else◌, flat_map}
+use Rattle.std.specs.Prelude.{ℕ, ◌+◌, ◌==◌, ℤ, not, List, [], ◌∷◌, Option, if◌then◌else◌, filter, flat_map}
+use Rattle.std.specs.List.{list_any}
 use Rattle.bm_lines.specs.declared.line.Letter.{Letter}
 use Rattle.bm_lines.specs.declared.line.Line.{Line}
 use Rattle.bm_lines.specs.Lines.{lines_of}
@@ -36,6 +37,10 @@ stream_from n (r ∷ rs) = sent n r ∷ stream_from (n + 1) rs
 -- the requests of a session
 abbrev pub stream : List Report → List Sent
 stream reports = stream_from 0 reports
+
+-- of these requests, those whose number has no answer, in their order
+abbrev pub without_answer : List ℕ → List Sent → List Sent
+without_answer answered requests = filter (λ (s : Sent). not (list_any (λ n. n == s.seq) answered)) requests
 
 -- the lines of a text of command k
 abbrev pub lines_in : ℕ → Report → List Line
