@@ -1,5 +1,5 @@
 -- Texts of decimal digits, and what parsing them gives.
-use Rattle.std.proofs.Common.{◌≡◌, refl, ap, sym, ◌∙◌, subst, Err, ℕ, Bool, true, ◌&&◌, List, [], ◌∷◌, Result, length, ◌<◌, ◌^◌}
+use Rattle.std.proofs.Common.{◌≡◌, refl, ap, sym, ◌∙◌, subst, Err, ℕ, true, ◌&&◌, List, [], ◌∷◌, Result, length, ◌<◌, ◌^◌}
 use Rattle.std.specs.Char.{is_ascii_digit}
 use Rattle.std.specs.List.{list_all}
 use Rattle.std.specs.Result.{OkIff}

@@ -1,1 +1,12 @@
 mod Digits
+mod Lists
+mod Sessions
+mod Agreement
+mod Quiet
+mod Requests
+mod Starts
+mod Acts
+mod Logged
+mod Settled
+mod OtherNames
+mod ScheduleExamples

@@ -5,6 +5,7 @@ mod answers;
 mod arguments;
 mod incoming;
 mod input;
+pub mod laws;
 mod numbers;
 mod replay;
 mod script;

@@ -1,0 +1,13 @@
+use Rattle.buildmaster.proofs.Logged.{said_is_logged}
+use Rattle.buildmaster.proofs.Settled.{all_said_is_logged}
+use Rattle.buildmaster.proofs.OtherNames.{other_logs_are_empty}
+use Rattle.buildmaster.proofs.laws.said_is_logged.Goals as goal
+
+pub returns-clause-prefix : goal.returns-clause-prefix
+returns-clause-prefix c = said_is_logged
+
+pub returns-clause-whole : goal.returns-clause-whole
+returns-clause-whole c = all_said_is_logged
+
+pub returns-clause-others : goal.returns-clause-others
+returns-clause-others c = other_logs_are_empty
