@@ -10,3 +10,9 @@ mod Logged
 mod Settled
 mod OtherNames
 mod ScheduleExamples
+mod Links
+mod StreamNumbers
+mod Connections
+mod OneSession
+mod Resumptions
+mod ResumedExamples

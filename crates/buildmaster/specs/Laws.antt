@@ -1,8 +1,12 @@
 -- What is said is what is logged.
-use Rattle.std.specs.Prelude.{◌≡◌, ℕ, true, false, [], List, ◌++◌, length, bytes_eq}
+use Rattle.std.specs.Prelude.{◌≡◌, ℕ, true, false, [], List, ◌++◌, length, bytes_eq, Some, slice_get}
+use Rattle.std.specs.List.{list_any, AllByRecursion}
 use Rattle.bm_lines.specs.Names.{Name, stdio}
-use Rattle.bm_session.specs.Trace.{IsPrefix, log}
-use Rattle.bm_work.specs.Stream.{said}
+use Rattle.bm_session.specs.Events.{is_down_event}
+use Rattle.bm_session.specs.Trace.{IsPrefix, log, visible, productive}
+use Rattle.bm_work.specs.declared.sent.Sent.{Sent}
+use Rattle.bm_work.specs.Stream.{Report, sent, said}
+use Rattle.buildmaster.specs.Resumed.{Happening, is_resumed_schedule, linked_after, at_first, acts_of, unanswered}
 use Rattle.buildmaster.specs.Schedule.{Act, reported, scene_after, opening, is_schedule, is_over, was_started, requests_taken}
 
 -- in every schedule, for every capacity, the log of a command is a prefix of what the worker said for it
@@ -29,3 +33,36 @@ OtherLogsAreEmpty =
     → is_schedule c acts ≡ true
     → bytes_eq stdio name ≡ false
     → log (scene_after (opening c) acts).lane.trace k name ≡ []
+
+-- over connections that are cut and resumed too, the log of a command is a prefix of what the worker said for it
+abbrev pub ResumedIsLogged : Type 0
+ResumedIsLogged =
+    (c : ℕ) (ps : List Happening) (k : ℕ)
+    → is_resumed_schedule c ps ≡ true
+    → IsPrefix (log (linked_after (at_first c) ps).scene.lane.trace k stdio) (said (reported (acts_of ps)) k)
+
+-- where the worker has no request unanswered, no session was given up and the lane is drained, viewers see all of it
+abbrev pub AllResumedIsLogged : Type 0
+AllResumedIsLogged =
+    (c : ℕ) (ps : List Happening) (k : ℕ)
+    → is_resumed_schedule c ps ≡ true
+    → unanswered (linked_after (at_first c) ps) ≡ []
+    → list_any is_down_event (linked_after (at_first c) ps).scene.lane.trace ≡ false
+    → (linked_after (at_first c) ps).scene.lane.shown ≡ productive (linked_after (at_first c) ps).scene.lane.trace
+    → log (visible (linked_after (at_first c) ps).scene.lane.trace (linked_after (at_first c) ps).scene.lane.shown) k stdio
+    ≡ said (reported (acts_of ps)) k
+
+-- a request of one of these reports, with the number of its place
+abbrev pub IsSentOf : List Report → Sent → Type 0
+IsSentOf reports s = (r : Report) × (slice_get reports s.seq ≡ Some r) × (s ≡ sent s.seq r)
+
+-- what is sent over a connection, first or again, are the worker's requests, each with its number and its bytes
+abbrev pub SentAreRequests : Type 0
+SentAreRequests =
+    (c : ℕ) (ps : List Happening)
+    → is_resumed_schedule c ps ≡ true
+    → AllByRecursion (IsSentOf (linked_after (at_first c) ps).scene.worker.reports) (linked_after (at_first c) ps).link.sent
+
+-- a resumed schedule is a schedule
+abbrev pub ResumedIsSchedule : Type 0
+ResumedIsSchedule = (c : ℕ) (ps : List Happening) → is_resumed_schedule c ps ≡ true → is_schedule c (acts_of ps) ≡ true

@@ -1,6 +1,6 @@
 //! Laws of what a worker says and its master logs.
 
-ghost use Rattle.buildmaster.specs.Laws.{SaidIsLogged, AllSaidIsLogged, OtherLogsAreEmpty};
+ghost use Rattle.buildmaster.specs.Laws.{SaidIsLogged, AllSaidIsLogged, OtherLogsAreEmpty, ResumedIsLogged, AllResumedIsLogged, ResumedIsSchedule, SentAreRequests};
 
 /// In every schedule of a worker's connections the log of a command is a prefix of what the worker said for it, and all of it
 /// once every request of the session that started it was taken. A log of another name has no line.
@@ -8,4 +8,14 @@ pub fn said_is_logged()
     ensures prefix { SaidIsLogged }
     ensures whole { AllSaidIsLogged }
     ensures others { OtherLogsAreEmpty }
+{}
+
+/// The same over connections that are cut, with whatever is in flight, and resumed. Where the worker has nothing unanswered,
+/// no session was given up and the lane is drained, viewers see all that was said. A resumed schedule is a schedule, and what
+/// is sent over its connections are the worker's requests, each with its number and its bytes.
+pub fn resumed_is_logged()
+    ensures prefix { ResumedIsLogged }
+    ensures whole { AllResumedIsLogged }
+    ensures schedule { ResumedIsSchedule }
+    ensures sent { SentAreRequests }
 {}

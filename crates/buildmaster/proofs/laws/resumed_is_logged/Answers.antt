@@ -1,0 +1,14 @@
+use Rattle.buildmaster.proofs.Resumptions.{resumed_is_schedule, resumed_is_logged, all_resumed_is_logged, sent_are_requests}
+use Rattle.buildmaster.proofs.laws.resumed_is_logged.Goals as goal
+
+pub returns-clause-prefix : goal.returns-clause-prefix
+returns-clause-prefix c = resumed_is_logged
+
+pub returns-clause-whole : goal.returns-clause-whole
+returns-clause-whole c = all_resumed_is_logged
+
+pub returns-clause-schedule : goal.returns-clause-schedule
+returns-clause-schedule c = resumed_is_schedule
+
+pub returns-clause-sent : goal.returns-clause-sent
+returns-clause-sent c = sent_are_requests
