@@ -16,3 +16,4 @@ mod Connections
 mod OneSession
 mod Resumptions
 mod ResumedExamples
+mod Bytes

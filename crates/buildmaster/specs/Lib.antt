@@ -1,3 +1,4 @@
 pub mod Schedule
 pub mod Resumed
 pub mod Laws
+pub mod Wire

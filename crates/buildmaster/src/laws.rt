@@ -1,5 +1,6 @@
 //! Laws of what a worker says and its master logs.
 
+ghost use Rattle.buildmaster.specs.Wire.{BytesAreRead, BytesAreTheEvent};
 ghost use Rattle.buildmaster.specs.Laws.{SaidIsLogged, AllSaidIsLogged, OtherLogsAreEmpty, ResumedIsLogged, AllResumedIsLogged, ResumedIsSchedule, SentAreRequests};
 
 /// In every schedule of a worker's connections the log of a command is a prefix of what the worker said for it, and all of it
@@ -18,4 +19,12 @@ pub fn resumed_is_logged()
     ensures whole { AllResumedIsLogged }
     ensures schedule { ResumedIsSchedule }
     ensures sent { SentAreRequests }
+{}
+
+/// The bytes play no part: those of each request that a worker can say spell a tree that can be decoded and is a message, and
+/// whatever tree they spell and whatever message it is, its event is the one that schedules deliver. `Worker::say` and
+/// `finish` give these bytes; `decode_whole`, `read` and `Event::of_message` answer such a tree, message and event.
+pub fn bytes_are_the_event()
+    ensures read { BytesAreRead }
+    ensures event { BytesAreTheEvent }
 {}
