@@ -17,3 +17,6 @@ mod OneSession
 mod Resumptions
 mod ResumedExamples
 mod Bytes
+mod Hex
+mod HexLanes
+mod Lines

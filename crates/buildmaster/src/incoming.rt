@@ -1,10 +1,10 @@
 //! A recorded message of the worker, from hex digits to an event.
 
+use crate::hex_digits::{HexError, read_hex};
 use bm_msg::{MsgError, read};
 use bm_session::Event;
 use bm_value::{DecodeError, decode_whole};
 use bumpalo::Bump;
-use hex::FromHexError;
 use std::alloc::Global;
 use thiserror::Error;
 
@@ -24,11 +24,25 @@ pub enum Unread {
     OutOfMemory,
 }
 
-/// Reads the event that hex digits record. The tree of the message lies in the arena, and is gone
-/// when the call returns; what stays is copied out of it.
-pub fn read_event(alloc: Global, arena: &Bump, digits: &str) -> Result<Event, Unread> {
-    let bytes = read_bytes(arena, digits)?;
-    let tree = match decode_whole(arena, bytes.as_slice()) {
+impl From<HexError> for Unread {
+    fn from(fault: HexError) -> Unread {
+        match fault {
+            HexError::NoHex => Unread::Hex,
+            HexError::Mem => Unread::OutOfMemory,
+        }
+    }
+}
+
+/// Reads the event that hex digits record. The bytes and the tree of the message lie in the arena, and
+/// are gone when the call returns; what stays is copied out of it.
+pub fn read_event(alloc: Global, arena: &Bump, digits: &[u8]) -> Result<Event, Unread> {
+    let bytes = read_hex(arena, digits)?;
+    event_of(alloc, arena, bytes.as_slice())
+}
+
+/// The event that the bytes of a message are. Its tree lies in the arena, and is gone when the call returns.
+fn event_of(alloc: Global, arena: &Bump, bytes: &[u8]) -> Result<Event, Unread> {
+    let tree = match decode_whole(arena, bytes) {
         Ok(tree) => tree,
         Err(DecodeError::Mem) => return Err(Unread::OutOfMemory),
         Err(fault) => return Err(Unread::Spelling(fault)),
@@ -38,29 +52,5 @@ pub fn read_event(alloc: Global, arena: &Bump, digits: &str) -> Result<Event, Un
         Err(MsgError::BadArgs(number)) => Ok(Event::bad_args(number)),
         Err(MsgError::Mem) => Err(Unread::OutOfMemory),
         Err(fault) => Err(Unread::Meaning(fault)),
-    }
-}
-
-/// Reads hex digits of either case, with spaces anywhere among them.
-fn read_bytes<'a>(arena: &'a Bump, digits: &str) -> Result<Vec<u8, &'a Bump>, Unread> {
-    if !digits.as_bytes().contains(&b' ') {
-        return hex::decode(arena, digits).map_err(unread_hex);
-    }
-    let mut packed = match Vec::with_capacity(arena, digits.len()) {
-        Ok(packed) => packed,
-        Err(_) => return Err(Unread::OutOfMemory),
-    };
-    for byte in digits.as_bytes() {
-        if *byte != b' ' && packed.push(*byte).is_err() {
-            return Err(Unread::OutOfMemory);
-        }
-    }
-    hex::decode(arena, packed.as_slice()).map_err(unread_hex)
-}
-
-fn unread_hex(fault: FromHexError) -> Unread {
-    match fault {
-        FromHexError::OutOfMemory => Unread::OutOfMemory,
-        _ => Unread::Hex,
     }
 }

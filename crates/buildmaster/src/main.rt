@@ -3,6 +3,7 @@
 
 mod answers;
 mod arguments;
+mod hex_digits;
 mod incoming;
 mod input;
 pub mod laws;

@@ -5,14 +5,14 @@ ghost use Rattle.std.specs.Prelude.{◌≤◌};
 use crate::answers::{write_answer, write_log};
 use crate::incoming::{Unread, read_event};
 use crate::input::read_input;
-use crate::script::{Request, ScriptLine, read_line};
+use crate::script::{Request, ScriptLine, cut_line, read_line};
 use bm_lines::Text;
 use bm_session::Event;
 use bm_world::{Step, World};
 use bumpalo::Bump;
 use std::alloc::{AllocError, Global};
-use std::io;
 use std::io::{BufWriter, Read, Write};
+use std::{io, mem};
 
 /// How many bytes of answers are gathered before they are written.
 const GATHERED: usize = 65_536;
@@ -84,6 +84,8 @@ fn replay<R: Read + Drop, W: Write + Drop>(
     };
     let ended = lane.answer_lines(script.as_slice(), &mut output);
     output.flush()?;
+    // The program ends next, and its memory goes as a whole.
+    mem::forget(lane);
     ended
 }
 
@@ -99,13 +101,16 @@ struct Lane {
 impl Lane {
     fn answer_lines<W: Write>(&mut self, script: &[u8], output: &mut W) -> Result<(), Halt> {
         let mut number: u64 = 0;
-        for line in script.split(|byte| *byte == b'\n') {
+        let mut left = Some(script);
+        'lines: while let Some(text) = left {
+            let (line, rest) = cut_line(text);
             number = number.saturating_add(1);
             match read_line(line) {
                 ScriptLine::Blank => {}
                 ScriptLine::Unknown => return Err(Halt::NotUnderstood(number)),
                 ScriptLine::Asks(request) => self.answer(number, request, output)?,
             }
+            left = rest;
         }
         Ok(())
     }
@@ -145,7 +150,12 @@ impl Lane {
         }
     }
 
-    fn take_in<W: Write>(&mut self, number: u64, digits: &str, output: &mut W) -> Result<(), Halt> {
+    fn take_in<W: Write>(
+        &mut self,
+        number: u64,
+        digits: &[u8],
+        output: &mut W,
+    ) -> Result<(), Halt> {
         let read = read_event(self.alloc, &self.arena, digits);
         if self.arena.reset().is_err() {
             return Err(Halt::Failed);

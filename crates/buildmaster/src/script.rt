@@ -1,6 +1,9 @@
 //! The lines of a replay's script.
 
+ghost use Rattle.std.specs.Prelude.{◌≡◌, ◌≢◌, ◌++◌, ◌∷◌, IfSome, IfNone, EachIndex, slice_index};
+
 use crate::numbers::read_number;
+use memchr::memchr;
 
 /// The log that a line asks for where it names none: that of standard output, standard error and
 /// header lines, as in the Buildbot manual.
@@ -20,7 +23,7 @@ pub enum Request<'a> {
     /// The command with this number is ordered to stop.
     Stop(u64),
     /// A message of the worker, as hex digits with spaces among them.
-    In(&'a str),
+    In(&'a [u8]),
     /// One item goes from the queue into the book.
     Drain,
     /// So many lines of a log at the most, from the offset on, as viewers see it.
@@ -47,43 +50,41 @@ pub enum ScriptLine<'a> {
     Unknown,
 }
 
+/// The first line of a text without its line end, and the text behind that, if there is one.
+pub fn cut_line(text: &[u8]) -> (&[u8], Option<&[u8]>)
+    ensures cut { IfSome result.1 (λ rest. text.now ≡ result.0.now ++ 10 ∷ rest.now) }
+    ensures whole { IfNone result.1 (result.0.now ≡ text.now) }
+    ensures line { EachIndex result.0.now (λ k. slice_index result.0.now k ≢ 10) }
+{
+    match memchr(b'\n', text) {
+        Some(end) => (&text[..end], Some(&text[end + 1..])),
+        None => (text, None),
+    }
+}
+
 /// Reads one line, without its line end. Words stand apart by exactly one space.
 pub fn read_line(line: &[u8]) -> ScriptLine<'_> {
-    match line.first() {
-        None | Some(b'#') => return ScriptLine::Blank,
-        Some(_) => {}
-    }
-    let Ok(text) = std::str::from_utf8(line) else {
-        return ScriptLine::Unknown;
+    let request = match line {
+        [] | [b'#', ..] => return ScriptLine::Blank,
+        [b'i', b'n', b' ', digits @ ..] => Some(Request::In(digits)),
+        b"drain" => Some(Request::Drain),
+        b"up" => Some(Request::Up),
+        b"cut" => Some(Request::Cut),
+        b"down" => Some(Request::Down),
+        b"go" => Some(Request::Go),
+        _ => read_words(line),
     };
-    match read_request(text) {
+    match request {
         Some(request) => ScriptLine::Asks(request),
         None => ScriptLine::Unknown,
     }
 }
 
-fn read_request(text: &str) -> Option<Request<'_>> {
-    match text.split_once(' ') {
-        None => read_word(text),
-        Some((word, rest)) => read_words(word, rest),
-    }
-}
-
-fn read_word(word: &str) -> Option<Request<'_>> {
-    match word {
-        "up" => Some(Request::Up),
-        "cut" => Some(Request::Cut),
-        "down" => Some(Request::Down),
-        "go" => Some(Request::Go),
-        "drain" => Some(Request::Drain),
-        _ => None,
-    }
-}
-
-fn read_words<'a>(word: &str, rest: &'a str) -> Option<Request<'a>> {
+/// Reads a line whose words are a text.
+fn read_words(line: &[u8]) -> Option<Request<'_>> {
+    let (word, rest) = std::str::from_utf8(line).ok()?.split_once(' ')?;
     match word {
         "stop" => Some(Request::Stop(read_number(rest)?)),
-        "in" => Some(Request::In(rest)),
         "look" => read_look(rest),
         "log" => {
             let (number, name) = named(rest);

@@ -1,0 +1,6 @@
+use Rattle.std.proofs.Common.{◌<◌, sym}
+use Rattle.buildmaster.proofs.Lines.{cut_shortens, left_over}
+use Rattle.buildmaster.proofs.replay.Lane.answer_lines.Goals as goal
+
+pub lines-smaller : goal.lines-smaller
+lines-smaller g c = rw c.in-Some.is (cut_shortens _ _ _ c.cut_line.ensures.cut)
