@@ -1,10 +1,14 @@
 -- A text that is cut at its line ends.
-use Rattle.std.proofs.Common.{◌≡◌, ◌≢◌, refl, sym, ◌∙◌, ap, ℕ, ◌<◌, Bool, true, false, cond, List, [], ◌∷◌, ◌++◌, map, length, Option, Some, None, arith}
-use Rattle.std.specs.Prelude.{◌==◌, MatchOption, unwrap_or}
+use Rattle.std.proofs.Common.{◌≡◌, ◌≢◌, inl, inr, suc, take, get_or, refl, sym, ◌∙◌, ap, ℕ, ◌<◌, Bool, true, false, cond, List, [], ◌∷◌, ◌++◌, map, length, Option, Some, None, arith}
+use Rattle.std.specs.Prelude.{◌==◌, ◌⊎◌, MatchOption, unwrap_or}
 use Rattle.std.specs.Borrow.{Bor}
 use Rattle.std.specs.List.{slice_split, onto_first}
+use Rattle.std.specs.String.Boundary.{IsSplitPoint}
+use Rattle.std.proofs.Math.Seq.{take-append_seam}
+use Rattle.std.proofs.lemmas.List.{take_all, length-append}
 use Rattle.std.proofs.lemmas.List.Splits.{length-slice_split}
 use Rattle.std.proofs.lemmas.Bool.Decides.{nat_tests}
+use Rattle.memchr.specs.Find.{Nowhere, Passes, is_byte}
 use Rattle.bm_lines.specs.declared.line.Letter.{Letter}
 use Rattle.bm_lines.specs.declared.line.Line.{Line}
 use Rattle.bm_lines.specs.Lines.{without_last_empty}
@@ -62,6 +66,40 @@ pub parts_stripped : (text : List ℕ) (r : Option (Bor (List ℕ))) (d : Bor (L
     → slice_split (λ c. c == 10) (unwrap_or r d).now ≡ without_last_empty (slice_split (λ c. c == 10) text)
 parts_stripped text None d is some h = ap parts is ∙ sym (without-parts text some h)
 parts_stripped text (Some x) d is some h = sym (without-parts_end x.now) ∙ ap (λ t. without_last_empty (parts t)) (sym h)
+
+-- a text without a line end is one part
+pub parts-nowhere : (text : List ℕ) → Nowhere (Passes (is_byte 10) text) 0 (length text) → slice_split (λ c. c == 10) text ≡ text ∷ []
+parts-nowhere [] h = refl
+parts-nowhere (x ∷ xs) h = go (x == 10) refl (parts-nowhere xs (λ k low inside. h (suc k) (omega arith) (omega arith)))
+  where
+    go : (b : Bool) → (x == 10) ≡ b → parts xs ≡ xs ∷ [] → cond b ([] ∷ parts xs) (onto_first x (parts xs)) ≡ (x ∷ xs) ∷ []
+    go true e ih = absurd (h 0 (omega arith) (omega arith) e)
+    go false e ih = ap (onto_first x) ih
+
+-- what stands before a line end
+pub stripped_front : (text : List ℕ) (r : Option (Bor (List ℕ))) (d line : Bor (List ℕ)) → d.now ≡ text → line ≡ unwrap_or r d
+    → MatchOption r ((front : List ℕ) → text ≢ front ++ 10 ∷ []) (λ x. text ≡ x.now ++ 10 ∷ [])
+    → (text ≡ line.now) ⊎ (text ≡ line.now ++ 10 ∷ [])
+stripped_front text None d line is e h = inl (sym is ∙ ap (λ (b : Bor (List ℕ)). b.now) (sym e))
+stripped_front text (Some x) d line is e h = inr (h ∙ ap (λ (b : Bor (List ℕ)). b.now ++ 10 ∷ []) (sym e))
+
+end_at : (xs : List ℕ) → get_or (xs ++ 10 ∷ []) (length xs) 0 ≡ 10
+end_at [] = refl
+end_at (x ∷ xs) = end_at xs
+
+-- a line ends between two characters
+pub ends_between : (bytes text line : List ℕ) → bytes ≡ text → (text ≡ line) ⊎ (text ≡ line ++ 10 ∷ []) → IsSplitPoint bytes (length line)
+ends_between bytes text line same (inl is) = (omega (arith, ap length (same ∙ is)), λ some inside high. absurd (omega (arith, ap length (same ∙ is))))
+ends_between bytes text line same (inr is) = (
+  omega (arith, ap length (same ∙ is) ∙ length-append line (10 ∷ [])),
+  λ some inside high.
+      let ten : get_or bytes (length line) 0 ≡ 10 = ap (λ t. get_or t (length line) 0) (same ∙ is) ∙ end_at line in
+      absurd (omega arith),
+)
+
+pub front_taken : (bytes text line : List ℕ) → bytes ≡ text → (text ≡ line) ⊎ (text ≡ line ++ 10 ∷ []) → take (length line) bytes ≡ line
+front_taken bytes text line same (inl is) = ap (take (length line)) (same ∙ is) ∙ take_all (length line) line (omega arith)
+front_taken bytes text line same (inr is) = ap (take (length line)) (same ∙ is) ∙ take-append_seam line (10 ∷ [])
 
 abbrev pub lettered : Letter → List ℕ → Line
 lettered letter part = record { letter = letter; text = part }

@@ -1,5 +1,5 @@
 -- Lists of parts, by name.
-use Rattle.std.proofs.Common.{◌≡◌, refl, sym, ◌∙◌, ap, ℕ, zero, suc, ◌+◌, ◌≤◌, ◌<◌, Bool, true, false, cond, not, ◌&&◌, ◌||◌, List, [], ◌∷◌, ◌++◌, length, get_or, set, Some, None, Result, Ok, Err, append-nil, arith}
+use Rattle.std.proofs.Common.{◌≡◌, refl, sym, ◌∙◌, ap, ℕ, zero, suc, ◌+◌, ◌≤◌, ◌<◌, Bool, true, false, cond, not, ◌&&◌, ◌||◌, List, [], ◌∷◌, ◌++◌, length, get_or, set, Some, None, Result, Ok, Err, arith}
 use Rattle.std.specs.Prelude.{bytes_eq, find, filter, map, OnOk, OnErr}
 use Rattle.std.specs.Option.{option_map, option_to_list}
 use Rattle.std.specs.List.{position_or_len, list_any}
@@ -108,11 +108,12 @@ are_distinct-with_item (x ∷ xs) name lines h = go (bytes_eq x.name name) refl 
         ap (λ c. not c && are_distinct (with_item name lines xs)) (any_named-with_item xs name x.name lines (other_name x.name name e))
         ∙ ap (λ c. c && are_distinct (with_item name lines xs)) both.0 ∙ ih both.1
 
--- ---- a call that grows a block or changes nothing
+-- ---- a call that adds an item or changes nothing
 
-pub grown_by : {T E : Type 0} (r : Result T E) (new old lines : List Line) → OnOk r (new ≡ old ++ lines) → OnErr r (new ≡ old) → (more : List Line) × (new ≡ old ++ more)
-grown_by (Ok x) new old lines ok err = (lines, ok)
-grown_by (Err e) new old lines ok err = ([], err ∙ sym (append-nil old))
+pub are_distinct-kept : {T E : Type 0} (r : Result T E) (new old : List Part) (name : Name) (lines : List Line) → OnOk r (new ≡ with_item name lines old) → OnErr r (new ≡ old)
+    → are_distinct old ≡ true → are_distinct new ≡ true
+are_distinct-kept (Ok x) new old name lines ok err h = ap are_distinct ok ∙ are_distinct-with_item old name lines h
+are_distinct-kept (Err e) new old name lines ok err h = ap are_distinct err ∙ h
 
 pub set_on_ok : {T E : Type 0} (r : Result T E) (ps : List Part) (name : Name) (lines : List Line) (i : ℕ) (p : Part) (block : List Line) → i ≡ position_or_len (λ q. bytes_eq q.name name) ps → i < length ps
     → p ≡ get_or ps i p → OnOk r (block ≡ p.block ++ lines) → OnOk r (set ps i (record { name = p.name; block = block }) ≡ with_item name lines ps)

@@ -1,27 +1,31 @@
-ghost use Rattle.std.specs.Prelude.{◌≡◌, ◌∷◌, [], ◌++◌, ◌==◌, map, take, length, string_bytes, IfOk, OnOk, OnErr};
+ghost use Rattle.std.specs.Prelude.{◌≡◌, ◌⊎◌, ◌∷◌, [], ◌++◌, ◌==◌, map, take, length, string_bytes, IfOk, IfErr, IfSome, OnOk, OnErr};
 ghost use Rattle.std.specs.List.{slice_split};
 ghost use Rattle.std.specs.Arc.{arc_value};
-ghost use Rattle.bm_lines.specs.Lines.{lines_of, content_of};
+ghost use Rattle.bm_lines.specs.Lines.{without_last_empty, lines_of, content_of};
 
 use crate::line::{Letter, Line};
+use crate::one_or_many::OneOrMany;
 use crate::text::Text;
+use memchr::{memchr, memchr_iter};
 use std::alloc::{AllocError, Global};
 use std::marker::Model;
+use std::slice;
 use std::sync::Arc;
 
 /// Lines that blocks share.
 #[derive(Drop)]
 struct Lines {
-    vec: Vec<Line>,
+    items: OneOrMany<Line>,
 }
 
 impl Model for Lines {
     ghost use Rattle.std.specs.Prelude.{List};
     ghost use Rattle.bm_lines.specs.declared.line.Line.{Line};
+    ghost use Rattle.bm_lines.specs.OneOrMany.{items_of};
 
     ghost Value = { List Line };
 
-    ghost view = { λ l. l.vec.items };
+    ghost view = { λ l. items_of l.items };
 }
 
 /// A list of lines. Its copies share the lines, and a new one holds none and takes no memory.
@@ -81,13 +85,27 @@ impl Block {
         match &mut self.lines {
             Some(lines) => grow(self.alloc, lines, letter, text),
             None => {
-                let mut lines = Lines {
-                    vec: Vec::new(self.alloc),
-                };
-                lines.append(letter, text)?;
+                if text.is_empty() {
+                    return Ok(());
+                }
+                let lines = Lines::of(self.alloc, letter, text)?;
                 self.lines = Some(Arc::new(self.alloc, lines)?);
                 Ok(())
             }
+        }
+    }
+
+    /// The lines of a text. Where it is one line, the text becomes that line's and isn't copied.
+    pub fn of_text(alloc: Global, letter: Letter, text: Text) -> Result<Block, AllocError>
+        ensures { IfOk result (λ b. b ≡ lines_of letter text) }
+    {
+        match one_line(text) {
+            Ok(text) => {
+                let items = OneOrMany::One(Line { letter, text });
+                let lines = Some(Arc::new(alloc, Lines { items })?);
+                Ok(Block { alloc, lines })
+            }
+            Err(text) => cut(alloc, letter, text.as_str()),
         }
     }
 
@@ -95,7 +113,8 @@ impl Block {
     pub fn from_lines(alloc: Global, lines: Vec<Line>) -> Result<Block, AllocError>
         ensures { IfOk result (λ b. b ≡ lines.items) }
     {
-        let lines = Arc::new(alloc, Lines { vec: lines })?;
+        let items = OneOrMany::Many(lines);
+        let lines = Arc::new(alloc, Lines { items })?;
         Ok(Block {
             alloc,
             lines: Some(lines),
@@ -114,44 +133,117 @@ fn grow(
     ensures err { OnErr result (arc_value shared.new ≡ arc_value shared.old) }
 {
     if let Some(own) = Arc::get_mut(shared) {
-        return own.append(letter, text);
+        return own.append(alloc, letter, text);
     }
-    let mut lines = Lines::copy_of(alloc, shared.as_slice())?;
-    lines.append(letter, text)?;
+    let lines = longer(alloc, shared.as_slice(), letter, text)?;
     *shared = Arc::new(alloc, lines)?;
     Ok(())
 }
 
+/// Copies of the lines and behind them the lines of a text.
+fn longer(alloc: Global, lines: &[Line], letter: Letter, text: &str) -> Result<Lines, AllocError>
+    ensures { IfOk result (λ l. l ≡ lines.now ++ lines_of letter text.now) }
+{
+    let room = lines.len().saturating_add(count_lines(text));
+    let mut items = Vec::with_capacity(alloc, room)?;
+    for line in lines {
+        items.push(line.copy()?)?;
+    }
+    push_lines(&mut items, letter, text)?;
+    Ok(Lines {
+        items: OneOrMany::Many(items),
+    })
+}
+
 impl Lines {
-    fn copy_of(alloc: Global, lines: &[Line]) -> Result<Lines, AllocError>
-        ensures { IfOk result (λ l. l ≡ lines.now) }
+    /// The lines of a text.
+    fn of(alloc: Global, letter: Letter, text: &str) -> Result<Lines, AllocError>
+        ensures { IfOk result (λ l. l ≡ lines_of letter text.now) }
     {
-        let mut vec = Vec::with_capacity(alloc, lines.len())?;
-        for line in lines {
-            vec.push(line.copy()?)?;
+        if let Some(text) = only_line(text) {
+            let text = Text::from_str(alloc, text)?;
+            return Ok(Lines {
+                items: OneOrMany::One(Line { letter, text }),
+            });
         }
-        Ok(Lines { vec })
+        longer(alloc, &[], letter, text)
     }
 
     fn as_slice(&self) -> &[Line]
         ensures { result.now ≡ self.now }
     {
-        self.vec.as_slice()
+        match &self.items {
+            OneOrMany::One(line) => slice::from_ref(line),
+            OneOrMany::Many(lines) => lines.as_slice(),
+        }
     }
 
-    fn append(&mut self, letter: Letter, text: &str) -> Result<(), AllocError>
+    fn append(&mut self, alloc: Global, letter: Letter, text: &str) -> Result<(), AllocError>
         ensures ok { OnOk result (self.new ≡ self.old ++ lines_of letter text.now) }
         ensures err { OnErr result (self.new ≡ self.old) }
     {
-        let before = self.vec.len();
-        match push_lines(&mut self.vec, letter, text) {
-            Ok(()) => Ok(()),
-            Err(error) => {
-                self.vec.truncate(before);
-                Err(error)
+        match &mut self.items {
+            OneOrMany::One(_) => {
+                *self = longer(alloc, self.as_slice(), letter, text)?;
+                Ok(())
             }
+            OneOrMany::Many(lines) => append(lines, letter, text),
         }
     }
+}
+
+/// Appends the lines of a text, or nothing.
+fn append(lines: &mut Vec<Line>, letter: Letter, text: &str) -> Result<(), AllocError>
+    ensures ok { OnOk result (lines.new.items ≡ lines.old.items ++ lines_of letter text.now) }
+    ensures err { OnErr result (lines.new.items ≡ lines.old.items) }
+{
+    let before = lines.len();
+    match push_lines(lines, letter, text) {
+        Ok(()) => Ok(()),
+        Err(error) => {
+            lines.truncate(before);
+            Err(error)
+        }
+    }
+}
+
+/// How many lines a text has, or one more: room for them.
+fn count_lines(text: &str) -> usize {
+    let ends = memchr_iter(b'\n', text.as_bytes()).count();
+    if text.ends_with('\n') {
+        ends
+    } else {
+        ends.saturating_add(1)
+    }
+}
+
+/// The line, without the line end, of a text that has one line.
+fn only_line(text: &str) -> Option<&str>
+    ensures line { IfSome result (λ line. without_last_empty (slice_split (λ c. c == 10) text.now) ≡ line.now ∷ []) }
+    ensures front { IfSome result (λ line. (text.now ≡ line.now) ⊎ (text.now ≡ line.now ++ 10 ∷ [])) }
+{
+    if text.is_empty() {
+        return None;
+    }
+    let line = text.strip_suffix('\n').unwrap_or(text);
+    match memchr(b'\n', line.as_bytes()) {
+        Some(_) => None,
+        None => Some(line),
+    }
+}
+
+/// The line, without the line end, of a text that has one line. Another text comes back.
+fn one_line(text: Text) -> Result<Text, Text>
+    ensures line { IfOk result (λ line. without_last_empty (slice_split (λ c. c == 10) text) ≡ line ∷ []) }
+    ensures back { IfErr result (λ t. t ≡ text) }
+{
+    let Some(line) = only_line(text.as_str()) else {
+        return Err(text);
+    };
+    let length = line.len();
+    let mut line = text.into_string();
+    line.truncate(length);
+    Ok(Text::from_string(line))
 }
 
 /// Appends the lines of a text. After want of memory some of them may stand behind the old ones.

@@ -6,6 +6,7 @@
 mod block;
 mod line;
 mod log_name;
+mod one_or_many;
 mod parcel;
 #[cfg(test)]
 mod tests;

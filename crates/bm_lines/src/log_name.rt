@@ -1,60 +1,84 @@
 ghost use Rattle.std.specs.Prelude.{◌≡◌, IfOk, IfSome, IfNone, bytes_eq};
-ghost use Rattle.bm_lines.specs.Names.{IsLogName};
+ghost use Rattle.bm_lines.specs.Names.{IsLogName, stdio};
 
 use crate::text::Text;
 use std::alloc::{AllocError, Global};
 use std::marker::Model;
+use std::sync::Arc;
+
+/// The log of standard output, standard error and headers (Buildbot manual).
+const STDIO: &str = "stdio";
 
 /// The name of a log: 1 to 255 bytes of UTF-8 (this project's profile).
+///
+/// `stdio` takes no memory, and copies of another name share its text.
 #[derive(Debug, Drop)]
 pub struct LogName {
-    text: Text,
+    /// None for `stdio`.
+    text: Option<Arc<Text>>,
 }
 
 impl Model for LogName {
-    ghost use Rattle.bm_lines.specs.Names.{Name, IsLogName};
+    ghost use Rattle.std.specs.Option.{option_map_or};
+    ghost use Rattle.std.specs.Arc.{arc_value};
+    ghost use Rattle.bm_lines.specs.Names.{Name, IsLogName, stdio};
 
     ghost Value = { Name };
 
-    ghost view = { λ n. n.text };
+    ghost view = { λ n. option_map_or arc_value n.text stdio };
 
-    ghost invariant = { λ n. IsLogName n.text };
+    ghost invariant = { λ n. IsLogName (option_map_or arc_value n.text stdio) };
 }
 
 impl LogName {
+    /// The name `stdio`, which takes no memory.
+    pub fn stdio() -> LogName
+        ensures { result ≡ stdio }
+    {
+        LogName { text: None }
+    }
+
     /// The name, or None for a text that is no name.
     pub fn new(alloc: Global, name: &str) -> Result<Option<LogName>, AllocError>
         ensures some { IfOk result (λ n. IfSome n (λ n. (n ≡ name.now) × IsLogName name.now)) }
         ensures none { IfOk result (λ n. IfNone n (¬ IsLogName name.now)) }
     {
+        if name == STDIO {
+            return Ok(Some(LogName::stdio()));
+        }
         if name.is_empty() || name.len() > 255 {
             return Ok(None);
         }
-        Ok(Some(LogName {
-            text: Text::from_str(alloc, name)?,
-        }))
+        let text = Arc::new(alloc, Text::from_str(alloc, name)?)?;
+        Ok(Some(LogName { text: Some(text) }))
     }
 
     pub fn as_str(&self) -> &str
         ensures text { result.now ≡ self.now }
         ensures name { IsLogName self.now }
     {
-        self.text.as_str()
+        match &self.text {
+            Some(text) => text.as_str(),
+            None => STDIO,
+        }
     }
 
     /// Whether the names are the same.
     pub fn is(&self, other: &str) -> bool
         ensures { result ≡ bytes_eq self.now other.now }
     {
-        self.text.as_str() == other
+        self.as_str() == other
     }
 
-    /// An equal name.
+    /// An equal name, which shares the text.
     pub fn copy(&self) -> Result<LogName, AllocError>
         ensures { IfOk result (λ n. n ≡ self.now) }
     {
-        Ok(LogName {
-            text: self.text.copy()?,
-        })
+        match &self.text {
+            Some(text) => Ok(LogName {
+                text: Some(Arc::try_clone(text)?),
+            }),
+            None => Ok(LogName::stdio()),
+        }
     }
 }

@@ -1,14 +1,19 @@
-ghost use Rattle.std.specs.Prelude.{◌≡◌, [], true, OnOk, OnErr, bytes_eq, IfOk};
+ghost use Rattle.std.specs.Prelude.{◌≡◌, ◌<◌, [], true, OnOk, OnErr, bytes_eq, IfOk, length};
 ghost use Rattle.std.specs.Option.{option_copied};
 ghost use Rattle.std.specs.List.{position_or_len};
 ghost use Rattle.bm_lines.specs.Lines.{lines_of};
+ghost use Rattle.bm_lines.specs.Names.{Name};
+ghost use Rattle.bm_lines.specs.OneOrMany.{items_of};
 ghost use Rattle.bm_lines.specs.Parcels.{are_distinct, with_item, block_under};
 
-use crate::block::{Block, cut};
+use crate::block::Block;
 use crate::line::Letter;
 use crate::log_name::LogName;
+use crate::one_or_many::OneOrMany;
+use crate::text::Text;
 use std::alloc::{AllocError, Global};
 use std::marker::Model;
+use std::slice;
 
 /// The lines that one update carries for one log.
 #[derive(Drop)]
@@ -17,22 +22,36 @@ pub struct Part {
     pub block: Block,
 }
 
+impl Part {
+    /// An equal part, whose block shares its lines with that of this one.
+    fn copy(&self) -> Result<Part, AllocError>
+        ensures { IfOk result (λ p. p ≡ self.now) }
+    {
+        Ok(Part {
+            name: self.name.copy()?,
+            block: self.block.copy()?,
+        })
+    }
+}
+
 /// The lines of an update: a part for each name, in the order of their first items.
 #[derive(Drop)]
 pub struct Parcel {
-    parts: Vec<Part>,
+    alloc: Global,
+    parts: OneOrMany<Part>,
 }
 
 impl Model for Parcel {
     ghost use Rattle.std.specs.Prelude.{List, true, ◌≡◌};
     ghost use Rattle.bm_lines.specs.declared.parcel.Part.{Part};
+    ghost use Rattle.bm_lines.specs.OneOrMany.{items_of};
     ghost use Rattle.bm_lines.specs.Parcels.{are_distinct};
 
     ghost Value = { List Part };
 
-    ghost view = { λ p. p.parts.items };
+    ghost view = { λ p. items_of p.parts };
 
-    ghost invariant = { λ p. are_distinct p.parts.items ≡ true };
+    ghost invariant = { λ p. are_distinct (items_of p.parts) ≡ true };
 }
 
 impl Parcel {
@@ -41,7 +60,8 @@ impl Parcel {
         ensures { result ≡ [] }
     {
         Parcel {
-            parts: Vec::new(alloc),
+            alloc,
+            parts: OneOrMany::new(alloc),
         }
     }
 
@@ -49,16 +69,17 @@ impl Parcel {
         ensures parts { result.now ≡ self.now }
         ensures distinct { are_distinct self.now ≡ true }
     {
-        self.parts.as_slice()
+        slice_of(&self.parts)
     }
 
     /// The block of the part with this name.
     pub fn of(&self, name: &str) -> Option<&Block>
         ensures { option_copied result ≡ block_under name.now self.now }
     {
-        let i = place(self.parts.as_slice(), name);
-        if i < self.parts.len() {
-            Some(&self.parts[i].block)
+        let parts = slice_of(&self.parts);
+        let i = place(parts, name);
+        if i < parts.len() {
+            Some(&parts[i].block)
         } else {
             None
         }
@@ -69,24 +90,80 @@ impl Parcel {
         ensures ok { OnOk result (self.new ≡ with_item name.now (lines_of letter text.now) self.old) }
         ensures err { OnErr result (self.new ≡ self.old) }
     {
-        let i = place(self.parts.as_slice(), name.as_str());
-        if i < self.parts.len() {
-            let part = &mut self.parts[i];
-            part.block.add(letter, text)
-        } else {
-            let block = cut(*self.parts.allocator(), letter, text)?;
-            let name = name.copy()?;
-            self.parts.push(Part { name, block })?;
-            Ok(())
-        }
+        let text = Text::from_str(self.alloc, text)?;
+        self.add_text(name, letter, text)
+    }
+
+    /// The same for a text that is given away. Where it is one line of a new part, it isn't copied.
+    pub fn add_text(&mut self, name: &LogName, letter: Letter, text: Text) -> Result<(), AllocError>
+        ensures ok { OnOk result (self.new ≡ with_item name.now (lines_of letter text) self.old) }
+        ensures err { OnErr result (self.new ≡ self.old) }
+    {
+        put(self.alloc, &mut self.parts, name, letter, text)
     }
 
     /// An equal parcel, whose blocks share their lines with those of this one.
     pub fn copy(&self) -> Result<Parcel, AllocError>
         ensures { IfOk result (λ p. p ≡ self.now) }
     {
-        let parts = copies(*self.parts.allocator(), self.parts.as_slice())?;
-        Ok(Parcel { parts })
+        let parts = match &self.parts {
+            OneOrMany::One(part) => OneOrMany::One(part.copy()?),
+            OneOrMany::Many(parts) => OneOrMany::Many(copies(self.alloc, parts.as_slice())?),
+        };
+        Ok(Parcel {
+            alloc: self.alloc,
+            parts,
+        })
+    }
+}
+
+fn slice_of(parts: &OneOrMany<Part>) -> &[Part]
+    ensures { result.now ≡ items_of parts.now }
+{
+    match parts {
+        OneOrMany::One(part) => slice::from_ref(part),
+        OneOrMany::Many(parts) => parts.as_slice(),
+    }
+}
+
+/// Appends the lines of a text to the part with this name, or to a new part at the end.
+fn put(
+    alloc: Global,
+    parts: &mut OneOrMany<Part>,
+    name: &LogName,
+    letter: Letter,
+    text: Text,
+) -> Result<(), AllocError>
+    ensures ok { OnOk result (items_of parts.new ≡ with_item name.now (lines_of letter text) (items_of parts.old)) }
+    ensures err { OnErr result (items_of parts.new ≡ items_of parts.old) }
+{
+    let slice = slice_of(parts);
+    let i = place(slice, name.as_str());
+    if i < slice.len() {
+        return add_at(parts, i, letter, text.as_str());
+    }
+    let block = Block::of_text(alloc, letter, text)?;
+    let name = name.copy()?;
+    parts.push(alloc, Part { name, block })
+}
+
+/// Appends the lines of a text to the part at a place.
+fn add_at(
+    parts: &mut OneOrMany<Part>,
+    i: usize,
+    letter: Letter,
+    text: &str,
+) -> Result<(), AllocError>
+    requires { i < length (items_of parts.old) }
+    ensures ok { (name : Name) → i ≡ position_or_len (λ p. bytes_eq p.name name) (items_of parts.old) → OnOk result (items_of parts.new ≡ with_item name (lines_of letter text.now) (items_of parts.old)) }
+    ensures err { OnErr result (items_of parts.new ≡ items_of parts.old) }
+{
+    match parts {
+        OneOrMany::One(part) => part.block.add(letter, text),
+        OneOrMany::Many(parts) => {
+            let part = &mut parts[i];
+            part.block.add(letter, text)
+        }
     }
 }
 
@@ -96,10 +173,7 @@ fn copies(alloc: Global, parts: &[Part]) -> Result<Vec<Part>, AllocError>
 {
     let mut out = Vec::with_capacity(alloc, parts.len())?;
     for part in parts {
-        out.push(Part {
-            name: part.name.copy()?,
-            block: part.block.copy()?,
-        })?;
+        out.push(part.copy()?)?;
     }
     Ok(out)
 }

@@ -36,12 +36,16 @@ fn texts_are_cut_at_line_ends_alone(rt: HostRuntime) -> Result<(), Fail> {
         (Letter::O, "\n", "o\n"),
         (Letter::H, "a\r\nb\n", "ha\r\nhb\n"),
         (Letter::O, "\n\n", "o\no\n"),
+        (Letter::H, "one", "hone\n"),
+        (Letter::E, "ä\n", "eä\n"),
     ];
     for (letter, text, want) in rows {
         assert_eq!(rt; told(alloc, &cut(alloc, letter, text)?)?.as_str(), want);
         let mut block = Block::new(alloc);
         block.add(letter, text)?;
         assert_eq!(rt; told(alloc, &block)?.as_str(), want);
+        let given = Block::of_text(alloc, letter, Text::from_str(alloc, text)?)?;
+        assert_eq!(rt; told(alloc, &given)?.as_str(), want);
     }
     Ok(())
 }
@@ -93,6 +97,9 @@ fn names_have_1_to_255_bytes(rt: HostRuntime) -> Result<(), Fail> {
     let name = named(&rt, alloc, "stdio")?;
     assert_eq!(rt; name.copy()?.as_str(), "stdio");
     assert!(rt; !name.is("std"));
+    assert_eq!(rt; LogName::stdio().as_str(), "stdio");
+    let five = named(&rt, alloc, "other")?;
+    assert_eq!(rt; five.copy()?.as_str(), "other");
     Ok(())
 }
 
@@ -118,5 +125,34 @@ fn items_join_under_their_names(rt: HostRuntime) -> Result<(), Fail> {
         told_under(&rt, alloc, &copy, "stdio")?.as_str(),
         "oa\nos\n"
     );
+    Ok(())
+}
+
+#[test]
+fn given_texts_join_under_their_names(rt: HostRuntime) -> Result<(), Fail> {
+    let alloc = rt.alloc();
+    let stdio = LogName::stdio();
+    let mut parcel = Parcel::new(alloc);
+    assert!(rt; parcel.copy()?.parts().is_empty());
+    parcel.add_text(&stdio, Letter::E, Text::from_str(alloc, "a\n")?)?;
+    let one = parcel.copy()?;
+    assert!(rt; parcel.of("l").is_none());
+    for name in ["l", "m", "l"] {
+        let name = named(&rt, alloc, name)?;
+        parcel.add_text(&name, Letter::O, Text::from_str(alloc, "b\nc")?)?;
+    }
+    parcel.add_text(&stdio, Letter::H, Text::from_str(alloc, "d\n")?)?;
+    let rows = [
+        ("stdio", "ea\nhd\n"),
+        ("l", "ob\noc\nob\noc\n"),
+        ("m", "ob\noc\n"),
+    ];
+    assert_eq!(rt; parcel.parts().len(), 3);
+    for (part, (name, want)) in parcel.parts().iter().zip(rows) {
+        assert_eq!(rt; part.name.as_str(), name);
+        assert_eq!(rt; told(alloc, &part.block)?.as_str(), want);
+    }
+    assert_eq!(rt; told_under(&rt, alloc, &one, "stdio")?.as_str(), "ea\n");
+    assert_eq!(rt; one.parts().len(), 1);
     Ok(())
 }

@@ -22,8 +22,8 @@ last_rc-push (g ∷ gs) f = ap (λ o. option_or o (exit_code_of g)) (last_rc-pus
 take-next : (fs : List Field) (i : ℕ) (f : Field) → i < length fs → f ≡ get_or fs i f → take (i + 1) fs ≡ take i fs ++ f ∷ []
 take-next fs i f l e = take_more fs i f l ∙ ap (λ y. take i fs ++ y ∷ []) (sym e)
 
-pub carried_more : (fs : List Field) (i : ℕ) (f : Field) → i < length fs → f ≡ get_or fs i f → carried (take (i + 1) fs) ≡ with_field (carried (take i fs)) f
-carried_more fs i f l e = ap carried (take-next fs i f l e) ∙ fold-append with_field [] (take i fs) (f ∷ [])
+pub carried_more : (fs : List Field) (f : Field) → carried (fs ++ f ∷ []) ≡ with_field (carried fs) f
+carried_more fs f = fold-append with_field [] fs (f ∷ [])
 
 pub last_rc_more : (fs : List Field) (i : ℕ) (f : Field) → i < length fs → f ≡ get_or fs i f → last_rc (take (i + 1) fs) ≡ option_or (exit_code_of f) (last_rc (take i fs))
 last_rc_more fs i f l e = ap last_rc (take-next fs i f l e) ∙ last_rc-push (take i fs) f

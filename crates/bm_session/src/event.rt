@@ -120,11 +120,15 @@ impl Body {
     {
         match request {
             Request::Auth { .. } => Ok(Body::Auth),
-            Request::Update { command, fields } => Ok(Body::Update {
-                command,
-                parcel: carried::parcel(alloc, fields.as_slice())?,
-                rc: carried::last_rc(fields.as_slice()),
-            }),
+            Request::Update { command, fields } => {
+                let rc = carried::last_rc(fields.as_slice());
+                let parcel = carried::parcel(alloc, fields)?;
+                Ok(Body::Update {
+                    command,
+                    parcel,
+                    rc,
+                })
+            }
             Request::Complete { command, fault } => Ok(Body::Complete {
                 command,
                 fault: fault.is_some(),

@@ -70,6 +70,26 @@ fn refused_parcel_keeps_its_parts(rt: HostRuntime) -> Result<(), Fail> {
 }
 
 #[test]
+fn refused_given_text_leaves_the_parts(rt: HostRuntime) -> Result<(), Fail> {
+    let alloc = rt.alloc();
+    let mut parcel = Parcel::new(alloc);
+    for (name, said) in [("l", "a\n"), ("stdio", "b\nc"), ("l", "d\n")] {
+        let name = again(|| LogName::new(alloc, name))?.expect(&rt, "a name of a log");
+        let text = again(|| Text::from_str(alloc, said))?;
+        let before = parcel.parts().len();
+        if parcel.add_text(&name, Letter::O, text).is_err() {
+            assert_eq!(rt; parcel.parts().len(), before);
+            parcel.add_text(&name, Letter::O, Text::from_str(alloc, said)?)?;
+        }
+    }
+    let block = parcel.of("l").expect(&rt, "the part");
+    assert_eq!(rt; told(alloc, block.lines())?.as_str(), "oa\nod\n");
+    let block = parcel.of("stdio").expect(&rt, "the part");
+    assert_eq!(rt; told(alloc, block.lines())?.as_str(), "ob\noc\n");
+    Ok(())
+}
+
+#[test]
 fn refused_text_can_be_copied_again(rt: HostRuntime) -> Result<(), Fail> {
     let alloc = rt.alloc();
     let text = again(|| Text::from_str(alloc, "a text"))?;

@@ -1,19 +1,19 @@
-use Rattle.std.proofs.Common.{◌≡◌, sym, ◌∙◌, ap, ◌<◌, ◌≤◌, length, bytes_eq, arith}
+use Rattle.std.proofs.Common.{sym, ◌∙◌, ap, ◌<◌, ◌≤◌, length, bytes_eq, Some, arith}
 use Rattle.std.specs.List.{position_or_len}
 use Rattle.bm_lines.specs.Parcels.{block_under}
+use Rattle.bm_lines.specs.declared.parcel.Part.{Part}
 use Rattle.bm_lines.proofs.PartLists.{block_under-at, block_under-past}
 use Rattle.bm_lines.proofs.parcel.Parcel.of.Goals as goal
 
-pub returns-then-i-len : goal.returns-then-i-len
-returns-then-i-len c =
-    let at : c.place-i.result ≡ position_or_len (λ q. bytes_eq q.name c.args.name.now) c.self.inside.parts.items = cc in
-    let inside : c.place-i.result < length c.self.inside.parts.items = omega arith in
-    sym (block_under-at c.self.inside.parts.items c.args.name.now c.place-i.result c.index.result.now at inside c.index.ensures)
-    ∙ ap (block_under c.args.name.now) c.self.view_is
+pub returns-then-i-parts : goal.returns-then-i-parts
+returns-then-i-parts c =
+    let inside : c.place-i.result < length c.slice_of-parts.result.now = omega arith in
+    ap (λ (p : Part). Some p.block) (sym c.index-parts-i.is)
+    ∙ sym (block_under-at c.slice_of-parts.result.now c.args.name.now c.place-i.result c.index-parts-i.result c.place-i.ensures inside c.index-parts-i.is)
+    ∙ ap (block_under c.args.name.now) (c.slice_of-parts.ensures ∙ c.self.view_is)
 
-pub returns-else-i-len : goal.returns-else-i-len
-returns-else-i-len c =
-    let at : c.place-i.result ≡ position_or_len (λ q. bytes_eq q.name c.args.name.now) c.self.inside.parts.items = cc in
-    let past : length c.self.inside.parts.items ≤ position_or_len (λ q. bytes_eq q.name c.args.name.now) c.self.inside.parts.items = omega arith in
-    sym (block_under-past c.self.inside.parts.items c.args.name.now past)
-    ∙ ap (block_under c.args.name.now) c.self.view_is
+pub returns-else-i-parts : goal.returns-else-i-parts
+returns-else-i-parts c =
+    let past : length c.slice_of-parts.result.now ≤ position_or_len (λ q. bytes_eq q.name c.args.name.now) c.slice_of-parts.result.now = omega (arith, c.place-i.ensures) in
+    sym (block_under-past c.slice_of-parts.result.now c.args.name.now past)
+    ∙ ap (block_under c.args.name.now) (c.slice_of-parts.ensures ∙ c.self.view_is)
