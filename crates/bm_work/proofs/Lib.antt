@@ -4,6 +4,8 @@ mod TextLaws
 mod AnswerMaps
 mod Strs
 mod Streams
+mod Unanswered
 mod Cores
 mod Examples
 mod Sizes
+mod Walks

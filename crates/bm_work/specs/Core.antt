@@ -1,5 +1,5 @@
--- A worker's side of a session: what it answers, and what it still awaits an answer to.
-use Rattle.std.specs.Prelude.{ℕ, ◌+◌, ◌≤◌, ◌==◌, ◌^◌, Bool, not, ◌&&◌, nat_le, List, [], ◌∷◌, ◌++◌, length, map, filter, codes, bytes_eq, Option, Some, None, is_none, if◌then◌else◌}
+-- A worker's side of a session: what it answers, what it reported, and what it still awaits an answer to.
+use Rattle.std.specs.Prelude.{◌≡◌, ℕ, ◌+◌, ◌<◌, ◌≤◌, ◌==◌, ◌^◌, Bool, not, ◌&&◌, nat_le, List, [], ◌∷◌, ◌++◌, length, map, filter, All, codes, bytes_eq, Option, Some, None, is_none, if◌then◌else◌}
 use Rattle.std.specs.List.{list_any}
 use Rattle.std.specs.Ordering.{nat_cmp}
 use Rattle.std.specs.FinMap.{FinMap, empty, get, insert}
@@ -7,6 +7,7 @@ use Rattle.bm_msg.specs.Meaning.{Asked, print, keepalive, get_worker_info, start
 use Rattle.bm_work.specs.Argv.{argv_of}
 use Rattle.bm_work.specs.Answers.{is_done}
 use Rattle.bm_work.specs.Replies.{reply}
+use Rattle.bm_work.specs.Stream.{Report, stream, without_answer}
 use Rattle.bm_work.specs.declared.answer.Answer.{Answer}
 use Rattle.bm_work.specs.declared.answer.Answer.TheVariants as answer
 use Rattle.bm_work.specs.declared.sent.Sent.{Sent}
@@ -15,16 +16,24 @@ use Rattle.bm_work.specs.declared.act.WorkAct.TheVariants.{Run, Interrupt, Print
 use Rattle.bm_work.specs.declared.act.WorkRefusal.{WorkRefusal}
 use Rattle.bm_work.specs.declared.act.WorkRefusal.TheVariants.{NoSuchCommand, Window}
 
--- the commands that run, the number of its next request, its requests without an answer, oldest first,
+-- the commands that run, what was reported in this session, the numbers of its requests that were answered,
 -- and the numbers of the master's requests of this session, each with its first answer
 pub record Core : Type 0 where
   pub running : List ℕ
-  pub next : ℕ
-  pub unanswered : List Sent
+  pub reports : List Report
+  pub answered : List ℕ
   pub answers : FinMap nat_cmp Answer
 
 abbrev pub new_core : Core
-new_core = record { running = []; next = 0; unanswered = []; answers = empty }
+new_core = record { running = []; reports = []; answered = []; answers = empty }
+
+-- the number of its next request
+abbrev pub next_number : Core → ℕ
+next_number c = length c.reports
+
+-- the requests of its stream without an answer, oldest first
+abbrev pub unanswered_requests : Core → List Sent
+unanswered_requests c = without_answer c.answered (stream c.reports)
 
 -- command k is one of those that run
 abbrev pub runs_among : List ℕ → ℕ → Bool
@@ -86,16 +95,16 @@ pub record Hearing : Type 0 where
   pub core : Core
 
 -- request n, which comes for the first time, gets this answer
-abbrev pub answered : Core → ℕ → Answer → WorkAct → List ℕ → Hearing
-answered c n a act started =
+abbrev pub first_heard : Core → ℕ → Answer → WorkAct → List ℕ → Hearing
+first_heard c n a act started =
     record {
       act = act;
       reply = Some (reply n a);
       core =
           record {
             running = c.running ++ started;
-            next = c.next;
-            unanswered = c.unanswered;
+            reports = c.reports;
+            answered = c.answered;
             answers = insert c.answers n a;
           };
     }
@@ -106,26 +115,26 @@ repeated c n first = record { act = Nothing; reply = Some (reply n first); core 
 
 abbrev pub heard_request : Core → ℕ → Asked → Option Answer → Hearing
 heard_request c n asked (Some first) = repeated c n first
-heard_request c n asked None = let a = answer_to c asked in answered c n a (act_of asked a) (started_by asked a)
+heard_request c n asked None = let a = answer_to c asked in first_heard c n a (act_of asked a) (started_by asked a)
 
 -- request n, whose keys are missing or of another kind
 abbrev pub heard_bad : Core → ℕ → Option Answer → Hearing
 heard_bad c n (Some first) = repeated c n first
-heard_bad c n None = answered c n answer.BadArguments Nothing []
+heard_bad c n None = first_heard c n answer.BadArguments Nothing []
 
 abbrev pub bad_request : Core → ℕ → Hearing
 bad_request c n = heard_bad c n (get c.answers n)
 
 abbrev pub awaits : Core → ℕ → Bool
-awaits c n = list_any (λ (s : Sent). s.seq == n) c.unanswered
+awaits c n = list_any (λ (s : Sent). s.seq == n) (unanswered_requests c)
 
--- without the request with number n
+-- after a response to request n: an answer counts only where it is awaited, so that none frees a later request
 abbrev pub freed : Core → ℕ → Core
 freed c n =
     record {
       running = c.running;
-      next = c.next;
-      unanswered = filter (λ (s : Sent). not (s.seq == n)) c.unanswered;
+      reports = c.reports;
+      answered = if awaits c n then c.answered ++ n ∷ [] else c.answered;
       answers = c.answers;
     }
 
@@ -141,7 +150,7 @@ window = 64
 
 -- so many more requests have places in the window and numbers below 2^63
 abbrev pub has_room : Core → ℕ → Bool
-has_room c places = nat_le (length c.unanswered + places) window && nat_le (c.next + places) (2 ^ 63)
+has_room c places = nat_le (length (unanswered_requests c) + places) window && nat_le (next_number c + places) (2 ^ 63)
 
 -- why so many requests of command k are refused
 abbrev pub refusal : Core → ℕ → ℕ → Option WorkRefusal
@@ -150,13 +159,13 @@ refusal c k places =
     if not (has_room c places) then Some Window else
     None
 
--- after these requests
-abbrev pub with_sent : List Sent → Core → Core
-with_sent requests c =
+-- with these reports added to its stream
+abbrev pub with_reports : List Report → Core → Core
+with_reports reports c =
     record {
       running = c.running;
-      next = c.next + length requests;
-      unanswered = c.unanswered ++ requests;
+      reports = c.reports ++ reports;
+      answered = c.answered;
       answers = c.answers;
     }
 
@@ -165,8 +174,8 @@ abbrev pub without_command : ℕ → Core → Core
 without_command k c =
     record {
       running = filter (λ j. not (j == k)) c.running;
-      next = c.next;
-      unanswered = c.unanswered;
+      reports = c.reports;
+      answered = c.answered;
       answers = c.answers;
     }
 
@@ -180,9 +189,16 @@ Rise low [] high = low ≤ high
 Rise low (n ∷ ns) high = (low ≤ n) × Rise (n + 1) ns high
 
 -- What holds of a worker at any time: at most four commands run, the unanswered requests fit into the
--- window, oldest first, and no number is above those below 2^63.
+-- window, oldest first, no number is above those below 2^63, and only requests that were sent are answered.
 pub record IsCore (c : Core) : Type 0 where
   pub few : length c.running ≤ 4
-  pub within : length c.unanswered ≤ window
-  pub oldest_first : Rise 0 (numbers c.unanswered) c.next
-  pub numbered : c.next ≤ 2 ^ 63
+  pub within : length (unanswered_requests c) ≤ window
+  pub oldest_first : Rise 0 (numbers (unanswered_requests c)) (next_number c)
+  pub numbered : next_number c ≤ 2 ^ 63
+  pub sent_before : All (λ n. n < next_number c) c.answered
+
+-- What a worker keeps beside its core: the number of its next request, and its requests without an answer.
+pub record IsKept (c : Core) (next : ℕ) (unanswered : List Sent) : Type 0 where
+  pub core : IsCore c
+  pub number : next ≡ next_number c
+  pub requests : unanswered ≡ unanswered_requests c

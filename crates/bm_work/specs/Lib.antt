@@ -6,5 +6,6 @@ pub mod Answers
 pub mod Replies
 pub mod Stream
 pub mod Reports
+pub mod Notes
 pub mod Core
 pub mod StreamLaws

@@ -8,6 +8,7 @@ mod answers;
 mod argv;
 mod assembler;
 mod hearing;
+mod history;
 pub mod laws;
 mod sent;
 mod wire;

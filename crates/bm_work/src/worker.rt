@@ -3,16 +3,17 @@
 ghost use Rattle.std.specs.Prelude.{◌≡◌, ℕ, ◌≤◌, ◌<◌, ◌^◌, ◌⊎◌, ◌∷◌, [], length, not, ◌==◌, filter, Vec, IfOk, IfErr, OnOk, OnErr, Some, None, if◌then◌else◌};
 ghost use Rattle.std.specs.List.{list_any};
 ghost use Rattle.std.specs.Option.{option_map};
-ghost use Rattle.bm_work.specs.Stream.{text as text_of, sent, stream_from};
+ghost use Rattle.bm_work.specs.Stream.{text as text_of, sent, stream, stream_from, without_answer};
 ghost use Rattle.bm_work.specs.Reports.{reports_of, fault_of};
 ghost use Rattle.bm_work.specs.declared.sent.Sent.{Sent as SentRequest};
 ghost use Rattle.bm_msg.specs.Meaning.{meaning, asked, request};
-ghost use Rattle.bm_work.specs.Core.{heard, heard_request, bad_request, new_core, runs, refusal as refusal_of, with_sent, without_command, freed, awaits, Rise, numbers};
+ghost use Rattle.bm_work.specs.Core.{heard, heard_request, bad_request, new_core, runs, refusal as refusal_of, next_number, unanswered_requests, with_reports, without_command, freed, awaits, Rise, numbers};
 
 use crate::act::{WorkAct, WorkRefusal};
 use crate::answer::Answer;
 use crate::answers::Answers;
 use crate::hearing::{act, judge, runs, started};
+use crate::history::{History, Note};
 use crate::sent::{Finish, Sent, copies, ending, said};
 use crate::wire::reply;
 use bm_lines::Letter;
@@ -27,27 +28,28 @@ const WINDOW: usize = 64;
 const NUMBERS: u64 = 1 << 63;
 
 /// A worker's side of a session: the commands that run, the requests that have no answer yet, and the
-/// requests that were heard.
+/// requests that were heard. What it reported in the session, it keeps in the proofs alone.
 #[derive(Drop)]
 pub struct Worker {
     running: Vec<u64>,
     next: u64,
     unanswered: Vec<Sent>,
     answers: Answers,
+    history: History,
 }
 
 impl Model for Worker {
     ghost use Rattle.std.specs.Coded.{codes};
-    ghost use Rattle.bm_work.specs.Core.{Core, IsCore};
+    ghost use Rattle.bm_work.specs.Core.{Core, IsKept};
     ghost use Rattle.bm_work.specs.contracts.answers.Answers as kept_answers;
 
     ghost Value = { Core };
 
     ghost coded = { Prim.hlevel (codes, kept_answers.the_row.coded) };
 
-    ghost view = { λ w. record { running = w.running.items; next = w.next; unanswered = w.unanswered.items; answers = w.answers } };
+    ghost view = { λ w. record { running = w.running.items; reports = w.history.reports; answered = w.history.answered; answers = w.answers } };
 
-    ghost invariant = { λ w. IsCore (record { running = w.running.items; next = w.next; unanswered = w.unanswered.items; answers = w.answers }) };
+    ghost invariant = { λ w. IsKept (record { running = w.running.items; reports = w.history.reports; answered = w.history.answered; answers = w.answers }) w.next w.unanswered.items };
 }
 
 impl Worker {
@@ -60,10 +62,11 @@ impl Worker {
             next: 0,
             unanswered: Vec::new(alloc),
             answers: Answers::new(alloc),
+            history: History::new(),
         }
     }
 
-    /// Forgets commands, numbers and unanswered requests.
+    /// Forgets commands, reports, numbers and unanswered requests.
     pub fn lost(&mut self)
         ensures { self.new ≡ new_core }
     {
@@ -127,8 +130,8 @@ impl Worker {
     /// no answer or the numbers below 2^63 are used up, else `Mem`. They change nothing.
     pub fn say(&mut self, command: u64, letter: Letter, text: &str) -> Result<Sent, WorkRefusal>
         requires { length text.now ≤ 65536 }
-        ensures sent { IfOk result (λ s. s ≡ sent self.old.next (text_of command letter text.now)) }
-        ensures kept { IfOk result (λ s. self.new ≡ with_sent (s ∷ []) self.old) }
+        ensures sent { IfOk result (λ s. s ≡ sent (next_number self.old) (text_of command letter text.now)) }
+        ensures kept { OnOk result (self.new ≡ with_reports (text_of command letter text.now ∷ []) self.old) }
         ensures accepted { OnOk result (refusal_of self.old command 1 ≡ None) }
         ensures refused { IfErr result (λ e. (refusal_of self.old command 1 ≡ Some e) ⊎ ((refusal_of self.old command 1 ≡ None) × (e ≡ WorkRefusal.Mem))) }
         ensures err { OnErr result (self.new ≡ self.old) }
@@ -140,6 +143,7 @@ impl Worker {
         let sent = said(alloc, self.next, command, letter, text)?;
         self.unanswered.push(sent.copy()?)?;
         self.next += 1;
+        self.history = self.history.with(&Note::Text(command, letter, text));
         Ok(sent)
     }
 
@@ -152,8 +156,8 @@ impl Worker {
     /// numbers below 2^63 lack the places, else `Mem`. They change nothing.
     pub fn finish(&mut self, command: u64, finish: Finish) -> Result<Vec<Sent>, WorkRefusal>
         requires { length (fault_of finish) ≤ 65536 }
-        ensures sent { IfOk result (λ v. v.items ≡ stream_from self.old.next (reports_of command finish)) }
-        ensures kept { IfOk result (λ v. self.new ≡ without_command command (with_sent v.items self.old)) }
+        ensures sent { IfOk result (λ v. v.items ≡ stream_from (next_number self.old) (reports_of command finish)) }
+        ensures kept { OnOk result (self.new ≡ without_command command (with_reports (reports_of command finish) self.old)) }
         ensures accepted { OnOk result (refusal_of self.old command (length (reports_of command finish)) ≡ None) }
         ensures refused { IfErr result (λ e. (refusal_of self.old command (length (reports_of command finish)) ≡ Some e) ⊎ ((refusal_of self.old command (length (reports_of command finish)) ≡ None) × (e ≡ WorkRefusal.Mem))) }
         ensures err { OnErr result (self.new ≡ self.old) }
@@ -163,18 +167,20 @@ impl Worker {
             return Err(refusal);
         }
         let alloc = *self.unanswered.allocator();
+        let history = self.history.with(&Note::End(command, &finish));
         let requests = ending(alloc, self.next, command, finish)?;
         let mut kept = copies(alloc, requests.as_slice())?;
         self.unanswered.append(&mut kept)?;
         self.next += places as u64;
+        self.history = history;
         take_out(&mut self.running, command);
         Ok(requests)
     }
 
-    /// The unanswered requests, oldest first, with the bytes that were sent.
+    /// Exactly the requests of the stream that have no answer, oldest first, with the bytes that were sent.
     pub fn resend(&self) -> Result<Vec<Sent>, AllocError>
-        ensures same { IfOk result (λ v. v.items ≡ self.now.unanswered) }
-        ensures oldest_first { Rise 0 (numbers self.now.unanswered) self.now.next }
+        ensures unanswered { IfOk result (λ v. v.items ≡ without_answer self.now.answered (stream self.now.reports)) }
+        ensures oldest_first { Rise 0 (numbers (unanswered_requests self.now)) (next_number self.now) }
     {
         copies(*self.unanswered.allocator(), self.unanswered.as_slice())
     }
@@ -240,13 +246,12 @@ impl Worker {
         ensures freed { self.new ≡ freed self.old seq }
         ensures act { result ≡ (if awaits self.old seq then WorkAct.Answered seq else WorkAct.Nothing) }
     {
-        let awaited = contains(self.unanswered.as_slice(), seq);
-        take_out_request(&mut self.unanswered, seq);
-        if awaited {
-            WorkAct::Answered(seq)
-        } else {
-            WorkAct::Nothing
+        if !contains(self.unanswered.as_slice(), seq) {
+            return WorkAct::Nothing;
         }
+        take_out_request(&mut self.unanswered, seq);
+        self.history = self.history.with(&Note::Answer(seq));
+        WorkAct::Answered(seq)
     }
 }
 

@@ -1,9 +1,11 @@
-ghost use Rattle.std.specs.Prelude.{◌<◌, ◌≤◌, ◌^◌, length};
+ghost use Rattle.std.specs.Prelude.{◌≡◌, ◌<◌, ◌≤◌, ◌^◌, length, IfOk};
 
 use crate::{Finish, Sent, WorkAct, WorkRefusal, Worker};
 use bm_lines::{Letter, Text};
 use bm_msg::{Message, Numbered, Request, Response, read};
 use bm_value::{Value, decode_whole};
+use rand_core::utils::NextWord;
+use rand_pcg::Pcg32;
 use std::alloc::{AllocError, Global};
 use std::test::Fail;
 
@@ -83,6 +85,13 @@ fn say(worker: &mut Worker, command: u64, letter: Letter, text: &str) -> Result<
     }
 }
 
+fn text(alloc: Global, text: &str) -> Result<Text, AllocError> {
+    match Text::from_str(alloc, text) {
+        Ok(text) => Ok(text),
+        Err(_) => Text::from_str(alloc, text),
+    }
+}
+
 fn finish(worker: &mut Worker, command: u64, code: i64) -> Result<Vec<Sent>, WorkRefusal> {
     match worker.finish(command, Finish::Rc(code)) {
         Err(WorkRefusal::Mem) => worker.finish(command, Finish::Rc(code)),
@@ -97,11 +106,20 @@ fn resend(worker: &Worker) -> Result<Vec<Sent>, AllocError> {
     }
 }
 
+fn copy_of(finish: &Finish) -> Result<Finish, AllocError>
+    ensures { IfOk result (λ copy. copy ≡ finish.now) }
+{
+    match finish.copy() {
+        Ok(copy) => Ok(copy),
+        Err(_) => finish.copy(),
+    }
+}
+
 /// The order to start the command, with the value that the bytes spell as its arguments.
-fn start(alloc: Global, seq: u32, command: u64, args: &[u8]) -> Result<Message, Fail> {
-    let name = Text::from_str(alloc, "shell")?;
-    let args = decode_whole(alloc, args)?;
-    Ok(Message::Request(Numbered {
+fn order(alloc: Global, seq: u32, command: u64, args: &[u8]) -> Option<Message> {
+    let name = Text::from_str(alloc, "shell").ok()?;
+    let args = decode_whole(alloc, args).ok()?;
+    Some(Message::Request(Numbered {
         seq: u64::from(seq),
         request: Request::StartCommand {
             command,
@@ -111,6 +129,14 @@ fn start(alloc: Global, seq: u32, command: u64, args: &[u8]) -> Result<Message, 
     }))
 }
 
+/// The same, made a second time where memory was refused.
+fn start(alloc: Global, seq: u32, command: u64, args: &[u8]) -> Result<Message, Fail> {
+    match order(alloc, seq, command, args) {
+        Some(message) => Ok(message),
+        None => Ok(order(alloc, seq, command, args).ok_or("no order")?),
+    }
+}
+
 /// A start with words.
 const WORDS: &[u8] = b"\x81\xa7command\x91\xa4true";
 
@@ -118,16 +144,57 @@ fn is_answered(act: &WorkAct, seq: u64) -> bool {
     matches!(act, WorkAct::Answered(n) if *n == seq)
 }
 
-/// The text of the exception that the response tells, if it is one.
-fn exception(alloc: Global, bytes: Option<Vec<u8>>) -> Result<String, Fail> {
-    let bytes = bytes.ok_or("no response")?;
-    let value = decode_whole(alloc, bytes.as_slice())?;
+/// The text of the exception that the response tells; an empty one, if it is none.
+fn told(alloc: Global, bytes: &[u8]) -> Option<String> {
+    let value = decode_whole(alloc, bytes).ok()?;
     match (value.get("is_exception"), value.get("result")) {
         (Some(Value::Bool(true)), Some(Value::Str(text))) => {
-            Ok(String::from_str(alloc, text.as_str())?)
+            String::from_str(alloc, text.as_str()).ok()
         }
-        _ => Ok(String::new(alloc)),
+        _ => Some(String::new(alloc)),
     }
+}
+
+/// The same, read a second time where memory was refused.
+fn exception(alloc: Global, bytes: Option<Vec<u8>>) -> Result<String, Fail> {
+    let bytes = bytes.ok_or("no response")?;
+    match told(alloc, bytes.as_slice()) {
+        Some(text) => Ok(text),
+        None => Ok(told(alloc, bytes.as_slice()).ok_or("no message")?),
+    }
+}
+
+/// A request that was said, and whether its answer was heard.
+#[derive(Drop)]
+struct Said {
+    sent: Sent,
+    is_answered: bool,
+}
+
+fn room(alloc: Global) -> Result<Vec<Said>, AllocError> {
+    match Vec::with_capacity(alloc, 64) {
+        Ok(room) => Ok(room),
+        Err(_) => Vec::with_capacity(alloc, 64),
+    }
+}
+
+/// Whether the requests are exactly those without an answer, in their order and with their bytes.
+fn are_unanswered(requests: &[Sent], said: &[Said]) -> bool {
+    let mut place = 0;
+    for one in said {
+        if !one.is_answered {
+            let Some(request) = requests.get(place) else {
+                return false;
+            };
+            if request.seq != one.sent.seq
+                || request.bytes.as_slice() != one.sent.bytes.as_slice()
+            {
+                return false;
+            }
+            place += 1;
+        }
+    }
+    place == requests.len()
 }
 
 #[test]
@@ -238,6 +305,64 @@ fn cut_connection_sends_unanswered_again(rt: HostRuntime) -> Result<(), Fail> {
 }
 
 #[test]
+fn resending_gives_exactly_the_unanswered(rt: HostRuntime) -> Result<(), Fail> {
+    let alloc = rt.alloc();
+    let texts = ["a\n", "b", "", "\u{e9}\n"];
+    for seed in 0..3 {
+        let mut random = Pcg32::new(seed, 7);
+        let mut worker = Worker::new(alloc);
+        let _ = hear(&mut worker, message(alloc, START_ZERO)?)?;
+        let mut said = room(alloc)?;
+        for step in 0..32 {
+            if random.next_word() % 2 == 0 {
+                let text = texts[random.next_word() as usize % 4];
+                let sent = say(&mut worker, 0, Letter::O, text)?;
+                said.push(Said {
+                    sent,
+                    is_answered: false,
+                })?;
+            } else {
+                // Some of these come before their request, and some a second time.
+                let place = random.next_word() as usize % 24;
+                let awaited = match said.get_mut(place) {
+                    Some(one) if !one.is_answered => {
+                        one.is_answered = true;
+                        true
+                    }
+                    _ => false,
+                };
+                let (act, _) = hear(&mut worker, response(place as u64))?;
+                assert_eq!(rt; is_answered(&act, place as u64), awaited);
+            }
+            let again = resend(&worker)?;
+            assert!(rt;
+                are_unanswered(again.as_slice(), said.as_slice()),
+                "seed {seed}, step {step}"
+            );
+        }
+        worker.lost();
+        assert_eq!(rt; resend(&worker)?.len(), 0);
+    }
+    Ok(())
+}
+
+#[test]
+fn early_answer_frees_no_later_request(rt: HostRuntime) -> Result<(), Fail> {
+    let alloc = rt.alloc();
+    let mut worker = Worker::new(alloc);
+    let _ = hear(&mut worker, message(alloc, START_ZERO)?)?;
+    let (act, _) = hear(&mut worker, response(0))?;
+    assert!(rt; matches!(act, WorkAct::Nothing));
+    let sent = say(&mut worker, 0, Letter::O, "a\n")?;
+    assert_eq!(rt; sent.seq, 0);
+    assert_eq!(rt; resend(&worker)?.len(), 1);
+    let (act, _) = hear(&mut worker, response(0))?;
+    assert!(rt; is_answered(&act, 0));
+    assert_eq!(rt; resend(&worker)?.len(), 0);
+    Ok(())
+}
+
+#[test]
 fn starts_are_tested_in_order(rt: HostRuntime) -> Result<(), Fail> {
     let alloc = rt.alloc();
     let mut worker = Worker::new(alloc);
@@ -269,7 +394,10 @@ fn line_is_run_by_a_shell(rt: HostRuntime) -> Result<(), Fail> {
         panic!(&rt; "the command is to run");
     };
     assert_eq!(rt; command, 5);
-    let argv = argv.copy()?;
+    let argv = match argv.copy() {
+        Ok(argv) => argv,
+        Err(_) => argv.copy()?,
+    };
     let words = argv.as_slice();
     assert_eq!(rt; words.len(), 3);
     assert_eq!(rt; words[0].as_str(), "sh");
@@ -343,12 +471,21 @@ fn fault_is_one_complete(rt: HostRuntime) -> Result<(), Fail> {
     let alloc = rt.alloc();
     let mut worker = Worker::new(alloc);
     let _ = hear(&mut worker, message(alloc, START_ZERO)?)?;
-    let text = Text::from_str(alloc, "cannot start")?;
+    let text = text(alloc, "cannot start")?;
     assert!(rt; text.as_str().len() <= 65_536);
-    let fault = Finish::Fault(text).copy()?;
-    let ended = worker.finish(0, fault)?;
+    let fault = Finish::Fault(text);
+    let ended = match worker.finish(0, copy_of(&fault)?) {
+        Ok(ended) => ended,
+        Err(refusal) => {
+            assert_eq!(rt; refusal, WorkRefusal::Mem);
+            worker.finish(0, fault)?
+        }
+    };
     assert_eq!(rt; ended.len(), 1);
-    let sent = ended[0].copy()?;
+    let sent = match ended[0].copy() {
+        Ok(sent) => sent,
+        Err(_) => ended[0].copy()?,
+    };
     assert_eq!(rt; sent.seq, 0);
     assert_eq!(rt;
         sent.bytes.as_slice(),
