@@ -16,15 +16,9 @@ use Rattle.bm_work.specs.declared.sent.Finish.{Finish as Ending}
 use Rattle.bm_work.specs.declared.sent.Finish.TheVariants.{Rc, Fault}
 use Rattle.bm_work.specs.Reports.{reports_of}
 use Rattle.bm_work.specs.Stream.{Report, text, code, over, lines_in, said}
-use Rattle.buildmaster.specs.Schedule.{Worker, has_run, have_ended, is_end_of, with_run, with_reports, was_started, was_refused, requests_taken}
+use Rattle.buildmaster.specs.Schedule.{Worker, command_of, has_run, have_ended, is_end_of, with_run, with_reports, was_started, was_refused, requests_taken}
 use Rattle.buildmaster.proofs.Lists.{slice_get-push, or-left, or-first}
 use Rattle.buildmaster.proofs.Sessions.{started-below}
-
--- the command that a report is of
-abbrev pub command_of : Report → ℕ
-command_of (text k letter t) = k
-command_of (code k z) = k
-command_of (over k fault) = k
 
 pub said-append : (first second : List Report) (k : ℕ) → said (first ++ second) k ≡ said first k ++ said second k
 said-append first second k = flat_map-append (lines_in k) first second

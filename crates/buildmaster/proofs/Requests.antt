@@ -17,10 +17,10 @@ use Rattle.bm_session.specs.Events.{is_go, is_down_event, is_request, request_nu
 use Rattle.bm_session.specs.Trace.{IsPrefix, Trace, begins_session, updates, starts, refuses, commands, ends_at, is_open, is_up, is_cut, is_new, is_new_number, is_fresh, log, joined, refusal}
 use Rattle.bm_lines.specs.Lines.{lines_of}
 use Rattle.bm_work.specs.Stream.{Report, text, code, over, said}
-use Rattle.buildmaster.specs.Schedule.{Worker, as_heard, is_end_of, has_run, have_ended, was_started, was_refused, requests_taken}
+use Rattle.buildmaster.specs.Schedule.{command_of, Worker, as_heard, is_end_of, has_run, have_ended, was_started, was_refused, requests_taken}
 use Rattle.buildmaster.proofs.Lists.{take-next, or-left, or-right, or-first}
 use Rattle.buildmaster.proofs.Sessions.{was_started-push, requests_taken-push, was_refused-push, started-below, open-is-here}
-use Rattle.buildmaster.proofs.Agreement.{Agree, said-append, command_of}
+use Rattle.buildmaster.proofs.Agreement.{Agree, said-append}
 use Rattle.buildmaster.proofs.Quiet.{is_live, taken-next, takes-quiet, nothing-ends, live-In}
 
 -- what a request is at the master

@@ -13,7 +13,7 @@ use Rattle.bm_work.specs.Core.{numbers}
 use Rattle.bm_work.specs.Stream.{said}
 use Rattle.buildmaster.specs.Schedule.{reported_by, reported, Scene, is_allowed, after, scene_after, is_schedule_from, requests_taken}
 use Rattle.buildmaster.specs.Resumed.{Linked, Happening, Do, Learn, unanswered, is_possible, after_one, linked_after, is_resumed_from, is_resumed_schedule, at_first, acts_of}
-use Rattle.buildmaster.specs.Laws.{ResumedIsLogged, AllResumedIsLogged, SentAreRequests, ResumedIsSchedule}
+use Rattle.buildmaster.specs.Laws.{ResumedIsLogged, AllResumedIsLogged, SentAreRequests, ResumedIsSchedule, OtherResumedLogsAreEmpty}
 use Rattle.buildmaster.proofs.Agreement.{Agree, log-prefix, log-whole}
 use Rattle.buildmaster.proofs.Starts.{agree-at-first}
 use Rattle.buildmaster.proofs.Acts.{keeps}
@@ -21,6 +21,7 @@ use Rattle.buildmaster.proofs.Logged.{reached}
 use Rattle.buildmaster.proofs.Links.{Passage, IsInOrder, open_numbers, resume, resumes}
 use Rattle.buildmaster.proofs.StreamNumbers.{numbers-unanswered}
 use Rattle.buildmaster.proofs.Connections.{LinkOf, AgreeOf, linked-at-first, allowed, linked, passage}
+use Rattle.buildmaster.proofs.OtherNames.{other_logs_are_empty}
 use Rattle.buildmaster.proofs.OneSession.{one-session}
 
 -- what is reached is reached by a schedule
@@ -59,7 +60,12 @@ agree-resumed c ps ok =
 -- the laws
 
 pub resumed_is_schedule : ResumedIsSchedule
-resumed_is_schedule c ps ok = (reached-resumed c ps ok).scheduled
+resumed_is_schedule c ps ok = ((reached-resumed c ps ok).scheduled, (reached-resumed c ps ok).same)
+
+pub other_resumed_logs_are_empty : OtherResumedLogsAreEmpty
+other_resumed_logs_are_empty c ps k name ok h =
+    let r : IsReached (at_first c) ps = reached-resumed c ps ok in
+    ap (λ (s : Scene). log s.lane.trace k name) r.same ∙ other_logs_are_empty c (acts_of ps) k name r.scheduled h
 
 pub resumed_is_logged : ResumedIsLogged
 resumed_is_logged c ps k ok =

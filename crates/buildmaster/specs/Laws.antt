@@ -1,5 +1,5 @@
 -- What is said is what is logged.
-use Rattle.std.specs.Prelude.{◌≡◌, ℕ, true, false, [], List, ◌++◌, length, bytes_eq, Some, slice_get}
+use Rattle.std.specs.Prelude.{◌<◌, ◌^◌, ◌≡◌, ℕ, true, false, [], List, ◌++◌, length, bytes_eq, Some, slice_get}
 use Rattle.std.specs.List.{list_any, AllByRecursion}
 use Rattle.bm_lines.specs.Names.{Name, stdio}
 use Rattle.bm_session.specs.Events.{is_down_event}
@@ -7,7 +7,7 @@ use Rattle.bm_session.specs.Trace.{IsPrefix, log, visible, productive}
 use Rattle.bm_work.specs.declared.sent.Sent.{Sent}
 use Rattle.bm_work.specs.Stream.{Report, sent, said}
 use Rattle.buildmaster.specs.Resumed.{Happening, is_resumed_schedule, linked_after, at_first, acts_of, unanswered}
-use Rattle.buildmaster.specs.Schedule.{Act, reported, scene_after, opening, is_schedule, is_over, was_started, requests_taken}
+use Rattle.buildmaster.specs.Schedule.{Act, reported, scene_after, opening, is_schedule, is_over, was_started, requests_taken, Deliver, is_allowed, command_of}
 
 -- in every schedule, for every capacity, the log of a command is a prefix of what the worker said for it
 abbrev pub SaidIsLogged : Type 0
@@ -33,6 +33,15 @@ OtherLogsAreEmpty =
     → is_schedule c acts ≡ true
     → bytes_eq stdio name ≡ false
     → log (scene_after (opening c) acts).lane.trace k name ≡ []
+
+-- the numbers of the requests that may be delivered, and those of their commands, are below 2^63
+abbrev pub NumbersAreSmall : Type 0
+NumbersAreSmall =
+    (c : ℕ) (acts : List Act) (n : ℕ) (r : Report)
+    → is_schedule c acts ≡ true
+    → is_allowed (scene_after (opening c) acts) (Deliver n) ≡ true
+    → slice_get (scene_after (opening c) acts).worker.reports n ≡ Some r
+    → (n < 2 ^ 63) × (command_of r < 2 ^ 63)
 
 -- over connections that are cut and resumed too, the log of a command is a prefix of what the worker said for it
 abbrev pub ResumedIsLogged : Type 0
@@ -63,6 +72,17 @@ SentAreRequests =
     → is_resumed_schedule c ps ≡ true
     → AllByRecursion (IsSentOf (linked_after (at_first c) ps).scene.worker.reports) (linked_after (at_first c) ps).link.sent
 
--- a resumed schedule is a schedule
+-- its acts are a schedule, and what is reached is what that schedule reaches: so all that holds of schedules holds here
 abbrev pub ResumedIsSchedule : Type 0
-ResumedIsSchedule = (c : ℕ) (ps : List Happening) → is_resumed_schedule c ps ≡ true → is_schedule c (acts_of ps) ≡ true
+ResumedIsSchedule =
+    (c : ℕ) (ps : List Happening)
+    → is_resumed_schedule c ps ≡ true
+    → (is_schedule c (acts_of ps) ≡ true) × ((linked_after (at_first c) ps).scene ≡ scene_after (opening c) (acts_of ps))
+
+-- a log of another name has no line
+abbrev pub OtherResumedLogsAreEmpty : Type 0
+OtherResumedLogsAreEmpty =
+    (c : ℕ) (ps : List Happening) (k : ℕ) (name : Name)
+    → is_resumed_schedule c ps ≡ true
+    → bytes_eq stdio name ≡ false
+    → log (linked_after (at_first c) ps).scene.lane.trace k name ≡ []

@@ -9,7 +9,7 @@ use Rattle.bm_session.specs.declared.event.Body.TheVariants.{Answered}
 use Rattle.bm_session.specs.Heard.{event_of}
 use Rattle.bm_session.specs.Trace.{Trace, moments, session, starts, refuses, was_order, is_fresh, is_cut, refusal}
 use Rattle.bm_work.specs.declared.sent.Finish.{Finish as Ending}
-use Rattle.bm_work.specs.Stream.{Report, text, over, asked_by}
+use Rattle.bm_work.specs.Stream.{Report, text, code, over, asked_by}
 use Rattle.bm_work.specs.Reports.{reports_of}
 use Rattle.bm_world.specs.declared.step.Step.{Step}
 use Rattle.bm_world.specs.declared.step.Step.TheVariants.{Hear}
@@ -28,6 +28,12 @@ new_worker = record { ran = []; reports = [] }
 
 abbrev pub has_run : Worker → ℕ → Bool
 has_run w k = list_any (λ j. j == k) w.ran
+
+-- the command that a report is of
+abbrev pub command_of : Report → ℕ
+command_of (text k letter t) = k
+command_of (code k z) = k
+command_of (over k fault) = k
 
 -- the end of command k
 abbrev pub is_end_of : ℕ → Report → Bool

@@ -1,22 +1,26 @@
 //! Laws of what a worker says and its master logs.
 
 ghost use Rattle.buildmaster.specs.Wire.{BytesAreRead, BytesAreTheEvent};
-ghost use Rattle.buildmaster.specs.Laws.{SaidIsLogged, AllSaidIsLogged, OtherLogsAreEmpty, ResumedIsLogged, AllResumedIsLogged, ResumedIsSchedule, SentAreRequests};
+ghost use Rattle.buildmaster.specs.Laws.{SaidIsLogged, AllSaidIsLogged, OtherLogsAreEmpty, NumbersAreSmall, ResumedIsLogged, AllResumedIsLogged, OtherResumedLogsAreEmpty, ResumedIsSchedule, SentAreRequests};
 
 /// In every schedule of a worker's connections the log of a command is a prefix of what the worker said for it, and all of it
-/// once every request of the session that started it was taken. A log of another name has no line.
+/// once every request of the session that started it was taken. A log of another name has no line. Requests that may be delivered
+/// and their commands have numbers below 2^63.
 pub fn said_is_logged()
     ensures prefix { SaidIsLogged }
     ensures whole { AllSaidIsLogged }
     ensures others { OtherLogsAreEmpty }
+    ensures numbers { NumbersAreSmall }
 {}
 
 /// The same over connections that are cut, with whatever is in flight, and resumed. Where the worker has nothing unanswered,
-/// no session was given up and the lane is drained, viewers see all that was said. A resumed schedule is a schedule, and what
-/// is sent over its connections are the worker's requests, each with its number and its bytes.
+/// no session was given up and the lane is drained, viewers see all that was said. A resumed schedule is a schedule, so all
+/// that holds of those holds here; and what is sent over its connections are the worker's requests, each with its number and
+/// its bytes.
 pub fn resumed_is_logged()
     ensures prefix { ResumedIsLogged }
     ensures whole { AllResumedIsLogged }
+    ensures others { OtherResumedLogsAreEmpty }
     ensures schedule { ResumedIsSchedule }
     ensures sent { SentAreRequests }
 {}

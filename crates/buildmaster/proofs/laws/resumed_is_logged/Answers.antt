@@ -1,4 +1,4 @@
-use Rattle.buildmaster.proofs.Resumptions.{resumed_is_schedule, resumed_is_logged, all_resumed_is_logged, sent_are_requests}
+use Rattle.buildmaster.proofs.Resumptions.{resumed_is_schedule, resumed_is_logged, all_resumed_is_logged, other_resumed_logs_are_empty, sent_are_requests}
 use Rattle.buildmaster.proofs.laws.resumed_is_logged.Goals as goal
 
 pub returns-clause-prefix : goal.returns-clause-prefix
@@ -12,3 +12,6 @@ returns-clause-schedule c = resumed_is_schedule
 
 pub returns-clause-sent : goal.returns-clause-sent
 returns-clause-sent c = sent_are_requests
+
+pub returns-clause-others : goal.returns-clause-others
+returns-clause-others c = other_resumed_logs_are_empty

@@ -1,6 +1,7 @@
 use Rattle.buildmaster.proofs.Logged.{said_is_logged}
 use Rattle.buildmaster.proofs.Settled.{all_said_is_logged}
 use Rattle.buildmaster.proofs.OtherNames.{other_logs_are_empty}
+use Rattle.buildmaster.proofs.SmallNumbers.{numbers_are_small}
 use Rattle.buildmaster.proofs.laws.said_is_logged.Goals as goal
 
 pub returns-clause-prefix : goal.returns-clause-prefix
@@ -11,3 +12,6 @@ returns-clause-whole c = all_said_is_logged
 
 pub returns-clause-others : goal.returns-clause-others
 returns-clause-others c = other_logs_are_empty
+
+pub returns-clause-numbers : goal.returns-clause-numbers
+returns-clause-numbers c = numbers_are_small
