@@ -1,6 +1,7 @@
--- The table of hex digits, and what digits write.
-use Rattle.std.proofs.Common.{◌≡◌, refl, ap, ℕ, suc, ◌<◌, Bool, true, false, ◌==◌, not, Option, None, Some, is_some, List, [], ◌∷◌, length, get_or, filter, arith}
-use Rattle.memchr.specs.Find.{IsFirstByte, is_byte}
+-- Hex digits with spaces among them.
+use Rattle.std.proofs.Common.{◌≡◌, refl, ap, ℕ, suc, ◌<◌, Bool, true, false, ◌==◌, not, List, [], ◌∷◌, length, get_or, filter, arith, subst}
+use Rattle.std.proofs.lemmas.Bool.Decides.{Decides-eqb}
+use Rattle.buildmaster.specs.Hex.{IsDigit, Write}
 
 -- a list that has no space is what is left of it without spaces
 pub filter-none : (p : ℕ → Bool) (xs : List ℕ) → ((k : ℕ) → k < length xs → p (get_or xs k 0) ≡ true) → filter p xs ≡ xs
@@ -14,8 +15,13 @@ not_true : (b : Bool) → ¬ (b ≡ true) → not b ≡ true
 not_true true never = absurd (never refl)
 not_true false _ = refl
 
--- where no place has a space, nothing is lost without spaces
-pub without_none : (xs : List ℕ) (r : Option ℕ) (b : Bool) → IsFirstByte (is_byte 32) xs r → is_some r ≡ not b → b ≡ true → filter (λ b. not (b == 32)) xs ≡ xs
-without_none xs None b none some is = filter-none (λ b. not (b == 32)) xs (λ k lt. not_true (get_or xs k 0 == 32) (none k (omega arith) lt))
-without_none xs (Some k) true first some is = absurd (cc)
-without_none xs (Some k) false first some is = absurd (cc)
+spaceless : (x : ℕ) → IsDigit x → not (x == 32) ≡ true
+spaceless x digit = not_true (x == 32) (λ is.
+    let space : 255 < 16 = subst IsDigit ((Decides-eqb x 32).0 is) digit in
+    absurd (omega arith))
+
+-- what writes bytes has no space to leave out
+pub without_none : (xs bytes : List ℕ) → Write xs bytes → Write (filter (λ b. not (b == 32)) xs) bytes
+without_none xs bytes writes =
+    let e = filter-none (λ b. not (b == 32)) xs (λ k lt. spaceless (get_or xs k 0) (writes.digit k lt)) in
+    rw e writes

@@ -232,17 +232,37 @@ front_bytes digits old new n before same here k lt =
     ]
 
 -- one byte more
-pub rest_digits : (digits : List ℕ) (k : ℕ) → ((i : ℕ) → i < 2 * k → IsDigit (get_or digits i 0)) → IsDigit (get_or digits (2 * k) 0) → IsDigit (get_or digits (2 * k + 1) 0) → (i : ℕ) → i < 2 * (k + 1) → IsDigit (get_or digits i 0)
-rest_digits digits k before high low i lt =
+pub few_digits : (digits : List ℕ) (k : ℕ) → ((i : ℕ) → i < 2 * k → IsDigit (get_or digits i 0)) → IsDigit (get_or digits (2 * k) 0) → IsDigit (get_or digits (2 * k + 1) 0) → (i : ℕ) → i < 2 * (k + 1) → IsDigit (get_or digits i 0)
+few_digits digits k before high low i lt =
     let P : ℕ → Type 0 = λ j. IsDigit (get_or digits j 0) in
     let all = below_more P (2 * k + 1) (below_more P (2 * k) before high) low in
     all i (omega arith)
 
-pub rest_bytes : (digits bytes : List ℕ) (k h l : ℕ) → k < length bytes → ((j : ℕ) → j < k → get_or bytes j 0 ≡ byte_at digits (2 * j)) → h ≡ digit_value (get_or digits (2 * k) 0) → l ≡ digit_value (get_or digits (2 * k + 1) 0)
+pub few_bytes : (digits bytes : List ℕ) (k h l : ℕ) → k < length bytes → ((j : ℕ) → j < k → get_or bytes j 0 ≡ byte_at digits (2 * j)) → h ≡ digit_value (get_or digits (2 * k) 0) → l ≡ digit_value (get_or digits (2 * k + 1) 0)
     → (j : ℕ) → j < k + 1 → get_or (slice_set bytes k (h * 16 + l)) j 0 ≡ byte_at digits (2 * j)
-rest_bytes digits bytes k h l room before high low =
+few_bytes digits bytes k h l room before high low =
     let P : ℕ → Type 0 = λ j. get_or (slice_set bytes k (h * 16 + l)) j 0 ≡ byte_at digits (2 * j) in
     let sum : h * 16 + l ≡ 16 * digit_value (get_or digits (2 * k) 0) + digit_value (get_or digits (2 * k + 1) 0) = omega arith in
     below_more P k
     (λ j lt. let other : j ≢ k = omega arith in rw get_or-set_other (before j lt))
     (rw get_or-set_same sum)
+
+-- the last block, which ends where the bytes do
+pub last_digits : (digits : List ℕ) (n w : ℕ) → 16 ≤ n → n < 16 * w + 16 → ((i : ℕ) → i < 32 * w → IsDigit (get_or digits i 0)) → ((i : ℕ) → i < 32 → IsDigit (get_or digits (2 * (n - 16) + i) 0)) → (i : ℕ) → i < 2 * n → IsDigit (get_or digits i 0)
+last_digits digits n w room near before here i lt =
+    elim (cases_lt i (2 * (n - 16))) [
+      | inl low ↦ before i (omega arith)
+      | inr high ↦
+          let e : 2 * (n - 16) + (i - 2 * (n - 16)) ≡ i = omega arith in
+          subst (λ j. IsDigit (get_or digits j 0)) e (here (i - 2 * (n - 16)) (omega arith))
+    ]
+
+pub last_bytes : (digits old new : List ℕ) (n w : ℕ) → 16 ≤ n → n < 16 * w + 16 → ((k : ℕ) → k < 16 * w → get_or old k 0 ≡ byte_at digits (2 * k)) → ((k : ℕ) → k < n - 16 → get_or new k 0 ≡ get_or old k 0)
+    → ((k : ℕ) → k < 16 → get_or new (n - 16 + k) 0 ≡ byte_at digits (2 * (n - 16 + k))) → (k : ℕ) → k < n → get_or new k 0 ≡ byte_at digits (2 * k)
+last_bytes digits old new n w room near before same here k lt =
+    elim (cases_lt k (n - 16)) [
+      | inl low ↦ same k low ∙ before k (omega arith)
+      | inr high ↦
+          let e : n - 16 + (k - (n - 16)) ≡ k = omega arith in
+          subst (λ j. get_or new j 0 ≡ byte_at digits (2 * j)) e (here (k - (n - 16)) (omega arith))
+    ]

@@ -5,7 +5,6 @@ ghost use Rattle.std.specs.Simd.Lanes.{Each1, zip2};
 ghost use Rattle.buildmaster.specs.Hex.{digit_value, byte_at, IsDigit, Write};
 ghost use Rattle.buildmaster.specs.declared.hex_digits.HexError.TheVariants.{Mem};
 
-use memchr::memchr;
 use std::alloc::{AllocError, Allocator};
 use std::simd::prelude::*;
 use thiserror::Error;
@@ -104,7 +103,11 @@ fn write_bytes(digits: &[u8], bytes: &mut [u8]) -> bool
             return false;
         }
     }
-    'rest: for k in 16 * whole..bytes.len() {
+    if whole > 0 {
+        // The last bytes lie in one more block, which may write some of the others again.
+        return write_block(digits, bytes.len() - 16, bytes);
+    }
+    'few: for k in 0..bytes.len() {
         let high = digit_value(digits[2 * k]);
         let low = digit_value(digits[2 * k + 1]);
         if high.max(low) > 15 {
@@ -140,8 +143,10 @@ pub fn read_hex<A: Allocator + Copy>(alloc: A, text: &[u8]) -> Result<Vec<u8, A>
     ensures found { IfOk result (λ v. Write (filter (λ b. not (b == 32)) text.now) v.items) }
     ensures refused { IfErr result (λ e. e ≢ Mem → (bytes : List ℕ) → ¬ Write (filter (λ b. not (b == 32)) text.now) bytes) }
 {
-    if memchr(b' ', text).is_none() {
-        return read_digits(alloc, text);
+    // Most texts have no space.
+    match read_digits(alloc, text) {
+        Err(HexError::NoHex) => {}
+        read => return read,
     }
     let digits = text
         .iter()

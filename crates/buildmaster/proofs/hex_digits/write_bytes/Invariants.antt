@@ -8,8 +8,8 @@ invariant-front l = record {
   byte : (k : ℕ) → k < 16 * l.block → get_or l.bytes k 0 ≡ byte_at l.digits (2 * k);
 }
 
-abbrev pub invariant-rest : goal.invariant-rest
-invariant-rest l = record {
+abbrev pub invariant-few : goal.invariant-few
+invariant-few l = record {
   digit : (i : ℕ) → i < 2 * l.k → IsDigit (get_or l.digits i 0);
   byte : (k : ℕ) → k < l.k → get_or l.bytes k 0 ≡ byte_at l.digits (2 * k);
 }
