@@ -9,7 +9,7 @@
 static unsigned long asked, refused;
 static int due(void) {
     if (!refused) { const char *at = getenv("REFUSE"); refused = at ? strtoul(at, 0, 10) : (unsigned long)-1; }
-    return ++asked == refused;
+    return __atomic_add_fetch(&asked, 1, __ATOMIC_SEQ_CST) == refused;
 }
 void *malloc(size_t n) {
     static void *(*real)(size_t);

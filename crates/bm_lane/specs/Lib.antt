@@ -9,4 +9,5 @@ pub mod Histories
 pub mod Laws
 pub mod Names
 pub mod Relay
+pub mod Tallies
 pub mod Windows

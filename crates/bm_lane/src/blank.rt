@@ -52,7 +52,8 @@ pub struct Ends<Y: Yard, R: Wait + Drop> {
 
 /// A queue that takes `capacity` items at once, and a published copy with places for so many viewers.
 ///
-/// `NoPlace` where the copy gave no place to one of the viewers.
+/// `NoPlace` where the copy gave no place to one of the viewers, `Mem` where memory is wanting. After either there is no lane,
+/// and the runtime is let go.
 pub fn open<R: Wait + Drop>(
     rt: R,
     alloc: Global,
@@ -97,7 +98,7 @@ fn placed<Y: Yard>(windows: Vec<Window>, lane: u64, room: Vec<Viewer<Y>>) -> Vec
 }
 
 impl<R: Wait + Drop> Blank<R> {
-    /// The ends, under the lane's number.
+    /// The ends, under the lane's number. At want of memory the blank comes back as it was.
     pub fn ends<Y: Yard>(
         self,
         alloc: Global,

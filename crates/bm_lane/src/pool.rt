@@ -1,5 +1,6 @@
 // Threads that drain lanes.
-ghost use Rattle.std.specs.Prelude.{◌<◌, ◌≤◌, ◌+◌, ◌-◌, ◌^◌, IfSome};
+ghost use Rattle.std.specs.Prelude.{◌≡◌, ◌<◌, ◌≤◌, ◌+◌, ◌-◌, ◌*◌, ◌^◌, All, IfOk, IfSome, vec_len};
+ghost use Rattle.bm_lane.specs.Tallies.{counted, drains};
 
 use crate::writer_end::{Drained, WriterEnd};
 use crate::yard::Yard;
@@ -7,7 +8,7 @@ use std::alloc::{AllocError, Global};
 use std::sync::atomic::{AtomicBool, Ordering};
 use std::sync::{Mutex, Wait};
 use std::thread;
-use std::thread::{JoinHandle, Threads};
+use std::thread::{Promise, PromisedHandle, Threads};
 use thiserror::Error;
 
 /// What a worker may do at its turn.
@@ -50,16 +51,29 @@ pub enum PoolFault {
 
 /// What the drains of one worker came to.
 #[derive(Clone, Copy)]
-struct Tally {
-    took: u64,
-    refused: u64,
+pub struct Tally {
+    pub took: u64,
+    pub refused: u64,
+}
+
+/// A worker's promise that it counts no more drains than it has turns.
+#[derive(Clone, Copy)]
+pub struct Within {
+    pub turns: u64,
+}
+
+impl Promise<Tally> for Within {
+    ghost use Rattle.std.specs.Prelude.{◌≤◌};
+    ghost use Rattle.bm_lane.specs.Tallies.{drains};
+
+    ghost kept_by = { λ p t. drains t ≤ p.turns };
 }
 
 impl Tally {
     // With one answer more.
     fn with(self, answer: &Result<Drained, AllocError>) -> Tally
-        requires { (self.took < 2 ^ 64 - 1) × (self.refused < 2 ^ 64 - 1) }
-        ensures { (result.took ≤ self.took + 1) × (result.refused ≤ self.refused + 1) }
+        requires { drains self < 2 ^ 64 - 1 }
+        ensures { result ≡ counted self answer.now }
     {
         let Tally { took, refused } = self;
         match answer {
@@ -85,8 +99,8 @@ fn turn<Y: Yard, W: Wait + Drop, G: Gate, R: Wait>(
     lane: usize,
     tally: Tally,
 ) -> Option<Tally>
-    requires { (tally.took < 2 ^ 64 - 1) × (tally.refused < 2 ^ 64 - 1) }
-    ensures { IfSome result (λ t. (t.took ≤ tally.took + 1) × (t.refused ≤ tally.refused + 1)) }
+    requires { drains tally < 2 ^ 64 - 1 }
+    ensures { IfSome result (λ t. drains t ≤ drains tally + 1) }
 {
     match gate.pass(worker, lane) {
         Pass::Stop => None,
@@ -116,7 +130,9 @@ fn work<Y: Yard, W: Wait + Drop, G: Gate, R: Wait>(
     ended: &AtomicBool,
     worker: usize,
     turns: u64,
-) -> Tally {
+) -> Tally
+    ensures { drains result ≤ turns }
+{
     let mut tally = Tally {
         took: 0,
         refused: 0,
@@ -139,7 +155,10 @@ fn work<Y: Yard, W: Wait + Drop, G: Gate, R: Wait>(
 }
 
 // Waits for all workers, and adds up what their drains came to.
-fn report<R: Threads>(rt: &R, workers: Vec<JoinHandle<Tally>>) -> PoolReport {
+fn report<R: Threads>(rt: &R, workers: Vec<PromisedHandle<Tally, Within>>, turns: u64) -> PoolReport
+    requires { All (λ w. w.promise.turns ≡ turns) workers.items }
+    ensures { result.took + result.refused ≤ vec_len workers * turns }
+{
     let mut report = PoolReport {
         took: 0,
         refused: 0,
@@ -154,7 +173,9 @@ fn report<R: Threads>(rt: &R, workers: Vec<JoinHandle<Tally>>) -> PoolReport {
 }
 
 /// So many threads drain these lanes. Worker w begins at lane w, modulo the number of lanes, and goes round; it ends
-/// where its gate says so, or after so many turns.
+/// where its gate says so, or after so many turns. Each drain that took an item or met want of memory is counted once.
+///
+/// After `Spawn` the workers that were started have ended, and what they drained stays drained; after `Mem` nothing was.
 pub fn writers<
     Y: Yard + Send + Sync,
     W: Wait + Drop + Send,
@@ -167,23 +188,35 @@ pub fn writers<
     gate: &G,
     threads: usize,
     turns: u64,
-) -> Result<PoolReport, PoolFault> {
+) -> Result<PoolReport, PoolFault>
+    ensures { IfOk result (λ r. r.took + r.refused ≤ threads * turns) }
+{
     let ended = AtomicBool::new(false);
     let flag = &ended;
-    thread::scope(thread::scope_env(), rt, |scope| {
-        let Ok(mut workers) = Vec::with_capacity(alloc, threads) else {
-            return Err(PoolFault::Mem);
-        };
-        for worker in 0..threads {
-            match scope.spawn(move || work(rt, lanes, gate, flag, worker, turns)) {
-                Ok(handle) => workers.push_reserved(handle),
-                Err(_) => {
-                    flag.store(true, Ordering::SeqCst);
-                    report(rt, workers);
-                    return Err(PoolFault::Spawn);
+    thread::scope(
+        thread::scope_env(),
+        rt,
+        |scope| -> Result<PoolReport, PoolFault>
+            ensures { IfOk result (λ r. r.took + r.refused ≤ threads * turns) }
+        {
+            let Ok(mut workers) = Vec::with_capacity(alloc, threads) else {
+                return Err(PoolFault::Mem);
+            };
+            for worker in 0..threads {
+                let promise = Within { turns };
+                match scope.spawn_with(
+                    promise,
+                    move || work(rt, lanes, gate, flag, worker, turns),
+                ) {
+                    Ok(handle) => workers.push_reserved(handle),
+                    Err(_) => {
+                        flag.store(true, Ordering::SeqCst);
+                        report(rt, workers, turns);
+                        return Err(PoolFault::Spawn);
+                    }
                 }
             }
-        }
-        Ok(report(rt, workers))
-    })
+            Ok(report(rt, workers, turns))
+        },
+    )
 }

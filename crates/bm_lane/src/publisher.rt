@@ -20,7 +20,7 @@ pub type CopyWriter = Writer<Published, Addition, Sight, Grows>;
 /// The end of the history, the copy that viewers see, and the addition that the copy had no memory for. It keeps the
 /// runtime, since its drop waits for the viewers that are at a look.
 pub struct Publisher<R: Wait + Drop> {
-    rt: R,
+    pub rt: R,
     copy: CopyWriter,
     head: Head,
     kept: Option<Addition>,
@@ -87,11 +87,6 @@ impl<R: Wait + Drop> Publisher<R> {
             head,
             kept: None,
         }
-    }
-
-    /// The runtime.
-    pub fn rt(&self) -> &R {
-        &self.rt
     }
 
     /// Whether nothing is held. At most one item is.

@@ -17,7 +17,8 @@ use std::sync::{Arc, Wait};
 
 /// The reader's end of a lane: it takes events and puts their items into the queue.
 ///
-/// At all times what it put is the items of its trace.
+/// At all times what it put is the items of its trace. Each call answers its event, which then ends the trace; or hands the
+/// event back with the reason, and then nothing has changed.
 #[derive(Drop)]
 pub struct ReaderEnd<Y: Yard> {
     lane: u64,

@@ -51,6 +51,11 @@ impl<Y: Yard, R: Wait + Drop> Model for WriterEnd<Y, R> {
     ghost invariant = { λ w. IsPassOf (arc_value w.queue) w.pass × (w.pass.table_id ≡ Y.queue w.lane) × (known w.pass ≡ hand false true [] (w.publisher.shown ++ w.publisher.held)) × (w.publisher.history ≡ Y.copy w.lane) × (w.publisher.kept ≡ kept_book w.publisher.shown) × (length w.publisher.held ≤ 1) };
 }
 
+// The runtime, of which no contract says anything.
+fn runtime<R: Wait + Drop>(publisher: &Publisher<R>) -> &R {
+    &publisher.rt
+}
+
 impl<Y: Yard, R: Wait + Drop> WriterEnd<Y, R> {
     pub(crate) fn over(
         lane: u64,
@@ -85,7 +90,7 @@ impl<Y: Yard, R: Wait + Drop> WriterEnd<Y, R> {
         }
         match self
             .queue
-            .pop_as::<Takes, R>(self.publisher.rt(), &mut self.pass)
+            .pop_as::<Takes, R>(runtime(&self.publisher), &mut self.pass)
         {
             Some(item) => {
                 self.publisher.hold(item);

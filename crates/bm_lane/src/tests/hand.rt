@@ -4,7 +4,7 @@ ghost use Rattle.std.specs.Prelude.{◌≡◌, ◌<◌, ◌≤◌};
 use crate::*;
 use bm_lines::{Letter, LogName, Parcel};
 use bm_session::{Body, Event, Refusal, Reply};
-use bm_store::{Chunk, ViewRefusal};
+use bm_store::{Book, Chunk, ViewRefusal};
 use std::alloc::{AllocError, Global};
 use std::process::Abort;
 use std::sync::Wait;
@@ -105,6 +105,16 @@ pub fn is_text(answer: &Result<Chunk, ViewRefusal>, text: &str) -> bool {
     }
 }
 
+/// Whether a book has these lines of command 0.
+pub fn has_lines(book: &Book, text: &str) -> bool {
+    let answer = book.slice(0, "stdio", 0, 9);
+    if is_mem(&answer) {
+        is_text(&book.slice(0, "stdio", 0, 9), text)
+    } else {
+        is_text(&answer, text)
+    }
+}
+
 /// How many lines command 0 has, as far as this viewer sees, and whether it is open.
 pub fn open_lines<Y: Yard>(viewer: &mut Viewer<Y>) -> Option<u64> {
     match viewer.state(0, "stdio") {
@@ -141,6 +151,31 @@ pub fn ends_of<Y: Yard, W: Wait + Drop>(
             Err((_, error)) => Err(error),
         },
     }
+}
+
+/// The ends of a lane that heard of a connection, the start of a command and these texts of it.
+pub fn heard<Y: Yard, W: Wait + Drop, R: Wait>(
+    rt: &R,
+    alloc: Global,
+    blank: Blank<W>,
+    lane: u64,
+    texts: &[&str],
+) -> Result<Ends<Y, W>, AllocError>
+    requires { (blank.queue ≡ Y.queue lane) × (blank.copy ≡ Y.copy lane) }
+{
+    let mut ends = ends_of::<Y, W>(alloc, blank, lane)?;
+    let is_up = hear(rt, &mut ends.reader, Event::Up).is_ok();
+    if !is_up || hear(rt, &mut ends.reader, Event::Go).is_err() {
+        return Err(AllocError);
+    }
+    let mut seq = 0;
+    for text in texts {
+        if hear(rt, &mut ends.reader, update(alloc, seq, text)?).is_err() {
+            return Err(AllocError);
+        }
+        seq = seq.saturating_add(1);
+    }
+    Ok(ends)
 }
 
 /// What is left of a lane whose ends are all there.

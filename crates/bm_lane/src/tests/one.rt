@@ -164,3 +164,38 @@ fn cut_and_given_up<Y: Yard, W: Wait + Drop, R: Wait + Abort>(
     assert_eq!(rt; settled.seen.as_slice(), [0].as_slice());
     Ok(())
 }
+
+#[test]
+fn lanes_settle_with_their_own_ends(rt: HostRuntime) -> Result<(), Fail> {
+    let first = blank(&rt, rt.alloc(), 4, 1).ok().ok_or("no lane")?;
+    let second = blank(&rt, rt.alloc(), 4, 1).ok().ok_or("no lane")?;
+    two_lanes::<Brand, _, _>(&rt, rt.alloc(), first, second)
+}
+
+// Whether the ends of the first lane are known as its own, and are not with an end of the other or without a viewer.
+fn are_apart<Y: Yard, W: Wait + Drop>(one: &Ends<Y, W>, two: &Ends<Y, W>) -> bool {
+    let (ours, theirs) = (one.viewers.as_slice(), two.viewers.as_slice());
+    same_lane(&one.reader, &one.writer, ours)
+        && !same_lane(&two.reader, &one.writer, ours)
+        && !same_lane(&one.reader, &two.writer, ours)
+        && !same_lane(&one.reader, &one.writer, theirs)
+        && !same_lane(&one.reader, &one.writer, &ours[..0])
+}
+
+fn two_lanes<Y: Yard, W: Wait + Drop, R: Wait + Abort>(
+    rt: &R,
+    alloc: Global,
+    first: Blank<W>,
+    second: Blank<W>,
+) -> Result<(), Fail>
+    requires first { (first.queue ≡ Y.queue 0) × (first.copy ≡ Y.copy 0) }
+    requires second { (second.queue ≡ Y.queue 1) × (second.copy ≡ Y.copy 1) }
+{
+    let one = heard::<Y, W, R>(rt, alloc, first, 0, &["a\n"])?;
+    let two = heard::<Y, W, R>(rt, alloc, second, 1, &["b\n", "c\n"])?;
+    assert!(rt; are_apart(&one, &two) && are_apart(&two, &one));
+    let one = settled(rt, alloc, one)?;
+    let two = settled(rt, alloc, two)?;
+    assert!(rt; has_lines(&one.book, "oa\n") && has_lines(&two.book, "ob\noc\n"));
+    Ok(())
+}
