@@ -5,6 +5,7 @@
 #include <errno.h>
 #include <fcntl.h>
 #include <stdlib.h>
+#include <sys/syscall.h>
 #include <unistd.h>
 static unsigned long asked, refused;
 static int due(void) {
@@ -38,4 +39,10 @@ void *aligned_alloc(size_t align, size_t n) {
 __attribute__((destructor)) static void tell(void) {
     const char *path = getenv("REFUSE_SPARE");
     if (path && asked < refused) { int fd = open(path, O_CREAT | O_WRONLY, 0600); if (fd >= 0) close(fd); }
+}
+// A program with threads ends so, which runs no destructor.
+void _exit(int status) {
+    tell();
+    syscall(SYS_exit_group, status);
+    __builtin_unreachable();
 }
