@@ -7,6 +7,7 @@ mod forms;
 mod memory;
 mod messages;
 mod rows;
+mod schedules;
 mod viewing;
 mod words;
 
