@@ -22,8 +22,7 @@ fn rest(assembler: &mut Assembler) -> Result<Option<Text>, AllocError> {
     }
 }
 
-/// The texts of the pieces, with the last one.
-fn texts_of(alloc: Global, pieces: &[&[u8]]) -> Result<Vec<Text>, AllocError> {
+fn try_texts_of(alloc: Global, pieces: &[&[u8]]) -> Result<Vec<Text>, AllocError> {
     let mut assembler = Assembler::new(alloc, Letter::O);
     let mut all = Vec::new(alloc);
     for piece in pieces {
@@ -37,12 +36,32 @@ fn texts_of(alloc: Global, pieces: &[&[u8]]) -> Result<Vec<Text>, AllocError> {
     Ok(all)
 }
 
+/// The texts of the pieces, with the last one, once more where memory was refused.
+fn texts_of(alloc: Global, pieces: &[&[u8]]) -> Result<Vec<Text>, AllocError> {
+    match try_texts_of(alloc, pieces) {
+        Ok(texts) => Ok(texts),
+        Err(_) => try_texts_of(alloc, pieces),
+    }
+}
+
+/// A line of so many bytes, which no line end ends.
+fn long_line(alloc: Global, len: usize) -> Result<Vec<u8>, AllocError> {
+    match vec![in alloc; b'x'; len] {
+        Ok(line) => Ok(line),
+        Err(_) => vec![in alloc; b'x'; len],
+    }
+}
+
 fn are_same(some: &[Text], others: &[Text]) -> bool {
     some.len() == others.len() && some.iter().zip(others).all(|(a, b)| a.is(b))
 }
 
-/// Bytes with short and long lines, characters of several bytes and bytes that are no text.
-fn random_bytes(alloc: Global, seed: u64, parts: u32, longest: usize) -> Result<Vec<u8>, AllocError>
+fn try_random_bytes(
+    alloc: Global,
+    seed: u64,
+    parts: u32,
+    longest: usize,
+) -> Result<Vec<u8>, AllocError>
     requires { 0 < longest }
 {
     let mut random = Pcg32::new(seed, 54);
@@ -64,6 +83,16 @@ fn random_bytes(alloc: Global, seed: u64, parts: u32, longest: usize) -> Result<
     Ok(bytes)
 }
 
+/// Bytes with short and long lines, characters of several bytes and bytes that are no text.
+fn random_bytes(alloc: Global, seed: u64, parts: u32, longest: usize) -> Result<Vec<u8>, AllocError>
+    requires { 0 < longest }
+{
+    match try_random_bytes(alloc, seed, parts, longest) {
+        Ok(bytes) => Ok(bytes),
+        Err(_) => try_random_bytes(alloc, seed, parts, longest),
+    }
+}
+
 #[test]
 fn pieces_come_together_to_lines(rt: HostRuntime) -> Result<(), Fail> {
     let mut assembler = Assembler::new(rt.alloc(), Letter::O);
@@ -82,7 +111,7 @@ fn pieces_come_together_to_lines(rt: HostRuntime) -> Result<(), Fail> {
 fn long_line_is_cut(rt: HostRuntime) -> Result<(), Fail> {
     let alloc = rt.alloc();
     let mut assembler = Assembler::new(alloc, Letter::O);
-    let long = vec![in alloc; b'x'; 16_385]?;
+    let long = long_line(alloc, 16_385)?;
     let texts = feed(&mut assembler, long.as_slice())?;
     assert_eq!(rt; texts.len(), 1);
     assert_eq!(rt; texts[0].as_str().len(), 16_384);
@@ -95,7 +124,7 @@ fn long_line_is_cut(rt: HostRuntime) -> Result<(), Fail> {
 #[test]
 fn line_of_the_longest_length_is_two_texts(rt: HostRuntime) -> Result<(), Fail> {
     let alloc = rt.alloc();
-    let long = vec![in alloc; b'x'; 16_384]?;
+    let long = long_line(alloc, 16_384)?;
     let texts = texts_of(alloc, &[long.as_slice(), b"\n"])?;
     assert_eq!(rt; texts.len(), 2);
     assert_eq!(rt; texts[0].as_str().len(), 16_384);
@@ -144,7 +173,10 @@ fn pieces_play_no_part_over_long_lines(rt: HostRuntime) -> Result<(), Fail> {
         let bytes = random_bytes(alloc, seed, 64, 20_000)?;
         let whole = texts_of(alloc, &[bytes.as_slice()])?;
         let mut random = Pcg32::new(seed, 1);
-        let mut pieces = Vec::new(alloc);
+        let mut pieces = match Vec::with_capacity(alloc, 41) {
+            Ok(room) => room,
+            Err(_) => Vec::with_capacity(alloc, 41)?,
+        };
         let mut left = bytes.as_slice();
         for _ in 0..40 {
             let len = (random.next_word() as usize % 8_192).min(left.len());
