@@ -1,0 +1,63 @@
+//! Updates of one line each, heard by a reader's end.
+
+use bm_lane::{HearRefusal, ReaderEnd, Yard};
+use bm_lines::{Letter, LogName, Parcel};
+use bm_session::{Body, Event};
+use std::alloc::{AllocError, Global};
+use std::sync::Wait;
+use std::thread;
+
+/// The log of all updates.
+pub const LOG: &str = "stdio";
+
+fn update(alloc: Global, seq: u64) -> Result<Event, AllocError> {
+    let mut parcel = Parcel::new(alloc);
+    let Some(name) = LogName::new(alloc, LOG)? else {
+        return Err(AllocError);
+    };
+    let text = format!(in alloc; "line {seq} of the work\n")?;
+    parcel.add(&name, Letter::O, text.as_str())?;
+    Ok(Event::In(
+        seq,
+        Body::Update {
+            command: 0,
+            parcel,
+            rc: None,
+        },
+    ))
+}
+
+// Hears the event, again as long as the lane is busy.
+fn hear_at_last<Y: Yard, R: Wait>(rt: &R, reader: &mut ReaderEnd<Y>, event: Event) -> bool {
+    let mut event = event;
+    for _ in rt.forever() {
+        match reader.hear(rt, event) {
+            Ok(_) => return true,
+            Err((back, HearRefusal::Busy)) => event = back,
+            Err(_) => return false,
+        }
+        thread::yield_now();
+    }
+    unreachable!()
+}
+
+/// Starts a command, and hears an update of it for each item. It answers whether all were taken.
+pub fn hear_all<Y: Yard, R: Wait>(
+    rt: &R,
+    alloc: Global,
+    reader: &mut ReaderEnd<Y>,
+    items: u64,
+) -> bool {
+    if reader.up(rt).is_err() || reader.go(rt).is_err() {
+        return false;
+    }
+    for seq in 0..items {
+        let Ok(event) = update(alloc, seq) else {
+            return false;
+        };
+        if !hear_at_last(rt, reader, event) {
+            return false;
+        }
+    }
+    true
+}
