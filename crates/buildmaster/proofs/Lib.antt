@@ -17,6 +17,7 @@ mod OneSession
 mod Resumptions
 mod ResumedExamples
 mod Bytes
+mod HeardBytes
 mod SmallNumbers
 mod Hex
 mod HexLanes

@@ -1,5 +1,7 @@
 //! A recorded message of the worker, from hex digits to an event.
 
+ghost use Rattle.buildmaster.specs.Wire.{HearsRequests};
+
 use crate::hex_digits::{HexError, read_hex};
 use bm_msg::{MsgError, read};
 use bm_session::Event;
@@ -41,14 +43,20 @@ pub fn read_event(alloc: Global, arena: &Bump, digits: &[u8]) -> Result<Event, U
 }
 
 /// The event that the bytes of a message are. Its tree lies in the arena, and is gone when the call returns.
-fn event_of(alloc: Global, arena: &Bump, bytes: &[u8]) -> Result<Event, Unread> {
+/// For the bytes of each request that a worker can say it is the event that schedules deliver, or want of memory.
+fn event_of(alloc: Global, arena: &Bump, bytes: &[u8]) -> Result<Event, Unread>
+    ensures { HearsRequests bytes.now result }
+{
     let tree = match decode_whole(arena, bytes) {
         Ok(tree) => tree,
         Err(DecodeError::Mem) => return Err(Unread::OutOfMemory),
         Err(fault) => return Err(Unread::Spelling(fault)),
     };
     match read(alloc, &tree) {
-        Ok(message) => Event::of_message(alloc, message).map_err(|_| Unread::OutOfMemory),
+        Ok(message) => match Event::of_message(alloc, message) {
+            Ok(event) => Ok(event),
+            Err(_) => Err(Unread::OutOfMemory),
+        },
         Err(MsgError::BadArgs(number)) => Ok(Event::bad_args(number)),
         Err(MsgError::Mem) => Err(Unread::OutOfMemory),
         Err(fault) => Err(Unread::Meaning(fault)),

@@ -1,0 +1,73 @@
+-- What the program answers to the bytes of a request.
+use Rattle.std.proofs.Common.{◌≡◌, sym, ◌∙◌, subst, ℕ, ◌<◌, ◌≤◌, ◌^◌, List}
+use Rattle.std.specs.Prelude.{Result, Ok, Err}
+use Rattle.bm_value.specs.declared.fault.DecodeError.{DecodeError}
+use Rattle.bm_value.specs.declared.fault.DecodeError.TheVariants.{Truncated, Reserved, BadUtf8, TooDeep, Trailing, Mem as NoMemory}
+use Rattle.bm_value.specs.Reading.{Refuses}
+use Rattle.bm_value.specs.Spelling.{Spells}
+use Rattle.bm_value.specs.Tree.{Tree, depth}
+use Rattle.bm_value.proofs.Unique.{spelled_once}
+use Rattle.bm_msg.specs.Answers.{Reads}
+use Rattle.bm_msg.specs.declared.fault.MsgError.{MsgError}
+use Rattle.bm_msg.specs.declared.fault.MsgError.TheVariants.{NotMap, NoSeq, NoOp, BadArgs, Mem}
+use Rattle.bm_msg.specs.Meaning.{Meaning, request}
+use Rattle.bm_msg.specs.Messages.{IsMessage}
+use Rattle.bm_session.specs.declared.event.Event.{Event}
+use Rattle.bm_session.specs.Heard.{event_of}
+use Rattle.bm_work.specs.Stream.{Report, asked_by, sent}
+use Rattle.buildmaster.specs.declared.incoming.Unread.{Unread}
+use Rattle.buildmaster.specs.declared.incoming.Unread.TheVariants.{Spelling, Meaning as Telling, OutOfMemory}
+use Rattle.buildmaster.specs.Schedule.{as_heard}
+use Rattle.buildmaster.specs.Wire.{CanBeSaid, AreRead, IsHeard, HearsRequests}
+use Rattle.buildmaster.proofs.Bytes.{bytes_are_read, bytes_are_the_event}
+
+pub hears-event : (bytes : List ℕ) (t : Tree) (m : Meaning) (e : Event) → Spells bytes t → IsMessage t m → e ≡ event_of m → HearsRequests bytes (Ok e)
+unfolding HearsRequests
+hears-event bytes t m e spelled told is = λ n r low can same. is ∙ bytes_are_the_event n r t m low can (subst (λ b. Spells b t) same spelled) told
+
+pub hears-nothing : (bytes : List ℕ) → HearsRequests bytes (Err OutOfMemory)
+unfolding HearsRequests
+hears-nothing bytes = λ n r low can same. tt
+
+-- of bytes that spell such a tree no fault is told but want of memory
+unspelled : (fault : DecodeError) (t : Tree) (e : Event) → Refuses fault (Ok t) → IsHeard (Err (Spelling fault)) e
+unspelled Truncated t e h = absurd cc
+unspelled Reserved t e h = absurd cc
+unspelled BadUtf8 t e h = absurd cc
+unspelled TooDeep t e h = absurd cc
+unspelled Trailing t e h = absurd cc
+unspelled NoMemory t e h = tt
+
+pub hears-spelled : (bytes : List ℕ) (fault : DecodeError) → ((t : Tree) → Spells bytes t → depth t ≤ 32 → Refuses fault (Ok t)) → HearsRequests bytes (Err (Spelling fault))
+unfolding HearsRequests
+hears-spelled bytes fault only = λ n r low can same.
+    let read : AreRead (sent n r).bytes (request n (asked_by r)) = bytes_are_read n r low can in
+    unspelled fault read.tree (as_heard n r) (only read.tree (subst (λ b. Spells b read.tree) (sym same) read.spelled) read.nests)
+
+-- the tree that they spell is a message
+told-by : (bytes : List ℕ) (n : ℕ) (r : Report) (t : Tree) → n < 2 ^ 63 → CanBeSaid r → bytes ≡ (sent n r).bytes → Spells bytes t → IsMessage t (request n (asked_by r))
+told-by bytes n r t low can same spelled =
+    let read : AreRead (sent n r).bytes (request n (asked_by r)) = bytes_are_read n r low can in
+    let one : read.tree ≡ t = spelled_once (sent n r).bytes read.tree t read.spelled (subst (λ b. Spells b t) same spelled) in
+    subst (λ u. IsMessage u (request n (asked_by r))) one read.told
+
+untold : (fault : MsgError) (m : Meaning) (e : Event) → Reads (Err fault) (Ok m) → IsHeard (Err (Telling fault)) e
+untold NotMap m e h = absurd cc
+untold NoSeq m e h = absurd cc
+untold NoOp m e h = absurd cc
+untold (BadArgs k) m e h = absurd cc
+untold Mem m e h = tt
+
+pub hears-told : (bytes : List ℕ) (t : Tree) (fault : MsgError) → Spells bytes t → ((m : Meaning) → IsMessage t m → Reads (Err fault) (Ok m)) → HearsRequests bytes (Err (Telling fault))
+unfolding HearsRequests
+hears-told bytes t fault spelled only = λ n r low can same.
+    untold fault (request n (asked_by r)) (as_heard n r) (only (request n (asked_by r)) (told-by bytes n r t low can same spelled))
+
+no-bad-args : (k : ℕ) (m : Meaning) (answer : Result Event Unread) (e : Event) → Reads (Err (BadArgs k)) (Ok m) → IsHeard answer e
+no-bad-args k m answer e h = absurd cc
+
+pub hears-bad-args : (bytes : List ℕ) (t : Tree) (fault : MsgError) (k : ℕ) (answer : Result Event Unread) → Spells bytes t → fault ≡ BadArgs k → ((m : Meaning) → IsMessage t m → Reads (Err fault) (Ok m)) → HearsRequests bytes answer
+unfolding HearsRequests
+hears-bad-args bytes t fault k answer spelled is only = λ n r low can same.
+    no-bad-args k (request n (asked_by r)) answer (as_heard n r)
+    (subst (λ f. Reads (Err f) (Ok (request n (asked_by r)))) is (only (request n (asked_by r)) (told-by bytes n r t low can same spelled)))
