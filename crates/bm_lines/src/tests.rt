@@ -142,16 +142,16 @@ fn given_texts_join_under_their_names(rt: HostRuntime) -> Result<(), Fail> {
         parcel.add_text(&name, Letter::O, Text::from_str(alloc, "b\nc")?)?;
     }
     parcel.add_text(&stdio, Letter::H, Text::from_str(alloc, "d\n")?)?;
-    let rows = [
-        ("stdio", "ea\nhd\n"),
-        ("l", "ob\noc\nob\noc\n"),
-        ("m", "ob\noc\n"),
-    ];
     assert_eq!(rt; parcel.parts().len(), 3);
-    for (part, (name, want)) in parcel.parts().iter().zip(rows) {
-        assert_eq!(rt; part.name.as_str(), name);
-        assert_eq!(rt; told(alloc, &part.block)?.as_str(), want);
-    }
+    assert_eq!(rt;
+        told_under(&rt, alloc, &parcel, "stdio")?.as_str(),
+        "ea\nhd\n"
+    );
+    assert_eq!(rt;
+        told_under(&rt, alloc, &parcel, "l")?.as_str(),
+        "ob\noc\nob\noc\n"
+    );
+    assert_eq!(rt; told_under(&rt, alloc, &parcel, "m")?.as_str(), "ob\noc\n");
     assert_eq!(rt; told_under(&rt, alloc, &one, "stdio")?.as_str(), "ea\n");
     assert_eq!(rt; one.parts().len(), 1);
     Ok(())
