@@ -27,6 +27,18 @@ fn told_under(
     told(alloc, parcel.of(name).expect(rt, "a part of that name"))
 }
 
+/// Whether each way to cut the text gives the content.
+fn is_cut(alloc: Global, letter: Letter, text: &str, want: &str) -> Result<bool, AllocError> {
+    let mut added = Block::new(alloc);
+    added.add(letter, text)?;
+    let given = Block::of_text(alloc, letter, Text::from_str(alloc, text)?)?;
+    Ok(
+        told(alloc, &cut(alloc, letter, text)?)?.as_str() == want
+            && told(alloc, &added)?.as_str() == want
+            && told(alloc, &given)?.as_str() == want,
+    )
+}
+
 #[test]
 fn texts_are_cut_at_line_ends_alone(rt: HostRuntime) -> Result<(), Fail> {
     let alloc = rt.alloc();
@@ -40,12 +52,7 @@ fn texts_are_cut_at_line_ends_alone(rt: HostRuntime) -> Result<(), Fail> {
         (Letter::E, "ä\n", "eä\n"),
     ];
     for (letter, text, want) in rows {
-        assert_eq!(rt; told(alloc, &cut(alloc, letter, text)?)?.as_str(), want);
-        let mut block = Block::new(alloc);
-        block.add(letter, text)?;
-        assert_eq!(rt; told(alloc, &block)?.as_str(), want);
-        let given = Block::of_text(alloc, letter, Text::from_str(alloc, text)?)?;
-        assert_eq!(rt; told(alloc, &given)?.as_str(), want);
+        assert!(rt; is_cut(alloc, letter, text, want)?);
     }
     Ok(())
 }
@@ -94,12 +101,18 @@ fn names_have_1_to_255_bytes(rt: HostRuntime) -> Result<(), Fail> {
     long.push('y')?;
     assert!(rt; LogName::new(alloc, long.as_str())?.is_none());
     assert!(rt; LogName::new(alloc, "")?.is_none());
-    let name = named(&rt, alloc, "stdio")?;
-    assert_eq!(rt; name.copy()?.as_str(), "stdio");
-    assert!(rt; !name.is("std"));
+    Ok(())
+}
+
+#[test]
+fn copies_of_names_are_equal(rt: HostRuntime) -> Result<(), Fail> {
+    let alloc = rt.alloc();
+    for text in ["stdio", "other"] {
+        let name = named(&rt, alloc, text)?;
+        assert_eq!(rt; name.copy()?.as_str(), text);
+        assert!(rt; !name.is("std"));
+    }
     assert_eq!(rt; LogName::stdio().as_str(), "stdio");
-    let five = named(&rt, alloc, "other")?;
-    assert_eq!(rt; five.copy()?.as_str(), "other");
     Ok(())
 }
 
@@ -128,31 +141,53 @@ fn items_join_under_their_names(rt: HostRuntime) -> Result<(), Fail> {
     Ok(())
 }
 
+/// Gives the text to the parcel.
+fn give(
+    rt: &impl Abort,
+    alloc: Global,
+    parcel: &mut Parcel,
+    (name, letter, text): (&str, Letter, &str),
+) -> Result<(), AllocError> {
+    let name = named(rt, alloc, name)?;
+    parcel.add_text(&name, letter, Text::from_str(alloc, text)?)
+}
+
 #[test]
 fn given_texts_join_under_their_names(rt: HostRuntime) -> Result<(), Fail> {
     let alloc = rt.alloc();
-    let stdio = LogName::stdio();
+    let mut parcel = Parcel::new(alloc);
+    let items = [
+        ("stdio", Letter::E, "a\n"),
+        ("l", Letter::O, "b\nc"),
+        ("m", Letter::O, "b\nc"),
+        ("l", Letter::O, "b\nc"),
+        ("stdio", Letter::H, "d\n"),
+    ];
+    for item in items {
+        give(&rt, alloc, &mut parcel, item)?;
+    }
+    assert_eq!(rt; parcel.parts().len(), 3);
+    let wants = [
+        ("stdio", "ea\nhd\n"),
+        ("l", "ob\noc\nob\noc\n"),
+        ("m", "ob\noc\n"),
+    ];
+    for (name, want) in wants {
+        assert_eq!(rt; told_under(&rt, alloc, &parcel, name)?.as_str(), want);
+    }
+    Ok(())
+}
+
+#[test]
+fn a_copied_parcel_keeps_its_parts(rt: HostRuntime) -> Result<(), Fail> {
+    let alloc = rt.alloc();
     let mut parcel = Parcel::new(alloc);
     assert!(rt; parcel.copy()?.parts().is_empty());
-    parcel.add_text(&stdio, Letter::E, Text::from_str(alloc, "a\n")?)?;
-    let one = parcel.copy()?;
+    give(&rt, alloc, &mut parcel, ("stdio", Letter::E, "a\n"))?;
     assert!(rt; parcel.of("l").is_none());
-    for name in ["l", "m", "l"] {
-        let name = named(&rt, alloc, name)?;
-        parcel.add_text(&name, Letter::O, Text::from_str(alloc, "b\nc")?)?;
-    }
-    parcel.add_text(&stdio, Letter::H, Text::from_str(alloc, "d\n")?)?;
-    assert_eq!(rt; parcel.parts().len(), 3);
-    assert_eq!(rt;
-        told_under(&rt, alloc, &parcel, "stdio")?.as_str(),
-        "ea\nhd\n"
-    );
-    assert_eq!(rt;
-        told_under(&rt, alloc, &parcel, "l")?.as_str(),
-        "ob\noc\nob\noc\n"
-    );
-    assert_eq!(rt; told_under(&rt, alloc, &parcel, "m")?.as_str(), "ob\noc\n");
-    assert_eq!(rt; told_under(&rt, alloc, &one, "stdio")?.as_str(), "ea\n");
-    assert_eq!(rt; one.parts().len(), 1);
+    let copy = parcel.copy()?;
+    give(&rt, alloc, &mut parcel, ("l", Letter::O, "b"))?;
+    assert_eq!(rt; copy.parts().len(), 1);
+    assert_eq!(rt; told_under(&rt, alloc, &copy, "stdio")?.as_str(), "ea\n");
     Ok(())
 }

@@ -3,6 +3,7 @@
 
 use crate::{Letter, Line, LogName, Parcel, Text, append_content, content, cut};
 use std::alloc::{AllocError, Global};
+use std::process::Abort;
 use std::test::Fail;
 
 /// What the call makes, at the second time where memory was refused.
@@ -69,23 +70,35 @@ fn refused_parcel_keeps_its_parts(rt: HostRuntime) -> Result<(), Fail> {
     Ok(())
 }
 
+/// Gives the text to the parcel, once more where memory was refused and the parcel must be as before.
+fn give(
+    rt: &impl Abort,
+    alloc: Global,
+    parcel: &mut Parcel,
+    name: &str,
+    said: &str,
+) -> Result<(), AllocError> {
+    let name = again(|| LogName::new(alloc, name))?.expect(rt, "a name of a log");
+    let text = again(|| Text::from_str(alloc, said))?;
+    let before = parcel.parts().len();
+    if parcel.add_text(&name, Letter::O, text).is_ok() {
+        return Ok(());
+    }
+    assert_eq!(rt; parcel.parts().len(), before);
+    parcel.add_text(&name, Letter::O, Text::from_str(alloc, said)?)
+}
+
 #[test]
 fn refused_given_text_leaves_the_parts(rt: HostRuntime) -> Result<(), Fail> {
     let alloc = rt.alloc();
     let mut parcel = Parcel::new(alloc);
     for (name, said) in [("l", "a\n"), ("stdio", "b\nc"), ("l", "d\n")] {
-        let name = again(|| LogName::new(alloc, name))?.expect(&rt, "a name of a log");
-        let text = again(|| Text::from_str(alloc, said))?;
-        let before = parcel.parts().len();
-        if parcel.add_text(&name, Letter::O, text).is_err() {
-            assert_eq!(rt; parcel.parts().len(), before);
-            parcel.add_text(&name, Letter::O, Text::from_str(alloc, said)?)?;
-        }
+        give(&rt, alloc, &mut parcel, name, said)?;
     }
-    let block = parcel.of("l").expect(&rt, "the part");
-    assert_eq!(rt; told(alloc, block.lines())?.as_str(), "oa\nod\n");
-    let block = parcel.of("stdio").expect(&rt, "the part");
-    assert_eq!(rt; told(alloc, block.lines())?.as_str(), "ob\noc\n");
+    for (name, want) in [("l", "oa\nod\n"), ("stdio", "ob\noc\n")] {
+        let block = parcel.of(name).expect(&rt, "the part");
+        assert_eq!(rt; told(alloc, block.lines())?.as_str(), want);
+    }
     Ok(())
 }
 
