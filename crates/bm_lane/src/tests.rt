@@ -2,5 +2,6 @@
 
 mod hand;
 mod many;
+mod named;
 mod one;
 mod pooled;

@@ -11,21 +11,28 @@ use std::sync::Wait;
 use std::test::Fail;
 
 /// How often a call is made where one request for memory is refused.
-const TRIES: usize = 2;
+pub const TRIES: usize = 2;
 
-fn try_parcel(alloc: Global, text: &str) -> Result<Parcel, AllocError> {
+fn try_parcel(alloc: Global, parts: &[(&str, &str)]) -> Result<Parcel, AllocError> {
     let mut parcel = Parcel::new(alloc);
-    let Some(name) = LogName::new(alloc, "stdio")? else {
-        return Err(AllocError);
-    };
-    parcel.add(&name, Letter::O, text)?;
+    for (name, text) in parts {
+        let Some(name) = LogName::new(alloc, name)? else {
+            return Err(AllocError);
+        };
+        parcel.add(&name, Letter::O, text)?;
+    }
     Ok(parcel)
 }
 
 /// The request with this number, which updates command 0 by a text of standard output.
 pub fn update(alloc: Global, seq: u64, text: &str) -> Result<Event, AllocError> {
+    update_logs(alloc, seq, &[("stdio", text)])
+}
+
+/// The request with this number, which updates command 0 by a text for each of these logs.
+pub fn update_logs(alloc: Global, seq: u64, parts: &[(&str, &str)]) -> Result<Event, AllocError> {
     for _ in 0..TRIES {
-        if let Ok(parcel) = try_parcel(alloc, text) {
+        if let Ok(parcel) = try_parcel(alloc, parts) {
             let update = Body::Update {
                 command: 0,
                 parcel,
@@ -89,9 +96,19 @@ pub fn chunk<Y: Yard>(
     offset: u64,
     limit: u64,
 ) -> Result<Chunk, ViewRefusal> {
-    let answer = viewer.chunk(0, "stdio", offset, limit);
+    chunk_of(viewer, "stdio", offset, limit)
+}
+
+/// Asks for lines of a log of command 0.
+pub fn chunk_of<Y: Yard>(
+    viewer: &mut Viewer<Y>,
+    name: &str,
+    offset: u64,
+    limit: u64,
+) -> Result<Chunk, ViewRefusal> {
+    let answer = viewer.chunk(0, name, offset, limit);
     if is_mem(&answer) {
-        viewer.chunk(0, "stdio", offset, limit)
+        viewer.chunk(0, name, offset, limit)
     } else {
         answer
     }
@@ -117,7 +134,12 @@ pub fn has_lines(book: &Book, text: &str) -> bool {
 
 /// How many lines command 0 has, as far as this viewer sees, and whether it is open.
 pub fn open_lines<Y: Yard>(viewer: &mut Viewer<Y>) -> Option<u64> {
-    match viewer.state(0, "stdio") {
+    open_lines_of(viewer, "stdio")
+}
+
+/// How many lines a log of command 0 has, as far as this viewer sees, and whether it is open.
+pub fn open_lines_of<Y: Yard>(viewer: &mut Viewer<Y>, name: &str) -> Option<u64> {
+    match viewer.state(0, name) {
         Ok(state) if state.ended.is_none() => Some(state.lines),
         _ => None,
     }
