@@ -117,7 +117,9 @@ fn turn<Y: Yard, W: Wait + Drop, G: Gate, R: Wait>(
 // The lane after this one, going round.
 fn lane_after(lane: usize, lanes: usize) -> usize
     requires { lane < lanes }
-    ensures { result < lanes }
+    ensures inside { result < lanes }
+    ensures next { lane + 1 < lanes → result ≡ lane + 1 }
+    ensures round { lane + 1 ≡ lanes → result ≡ 0 }
 {
     if lane + 1 < lanes { lane + 1 } else { 0 }
 }

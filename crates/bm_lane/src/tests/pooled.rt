@@ -12,36 +12,61 @@ use std::test::Fail;
 use std::thread;
 use std::thread::Threads;
 
-/// A gate that gives one answer, and counts what it is told.
+/// What a gate was asked and told: how many passes, how many drains there were, how many of them took an item, and how
+/// many met want of memory.
+#[derive(Clone, Copy)]
+struct Told {
+    asked: u64,
+    drains: u64,
+    took: u64,
+    refused: u64,
+}
+
+/// A gate with one answer for each lane, which counts what it is asked, and what it is told of the lanes that it lets.
 #[derive(Drop)]
 struct Always {
-    answer: Pass,
-    told: AtomicU64,
-}
-
-impl Gate for Always {
-    fn pass(&self, _worker: usize, _lane: usize) -> Pass {
-        self.answer
-    }
-
-    fn done(&self, _worker: usize, _lane: usize, _answer: Result<Drained, AllocError>) {
-        self.told.fetch_add(1, Ordering::SeqCst);
-    }
-}
-
-/// A gate that lets each worker drain, and counts the drains that took an item and those that met want of memory.
-#[derive(Drop)]
-struct Counts {
+    answers: [Pass; 2],
+    asked: AtomicU64,
+    drains: AtomicU64,
     took: AtomicU64,
     refused: AtomicU64,
 }
 
-impl Gate for Counts {
-    fn pass(&self, _worker: usize, _lane: usize) -> Pass {
-        Pass::Go
+impl Always {
+    fn new(answers: [Pass; 2]) -> Always {
+        Always {
+            answers,
+            asked: AtomicU64::new(0),
+            drains: AtomicU64::new(0),
+            took: AtomicU64::new(0),
+            refused: AtomicU64::new(0),
+        }
     }
 
-    fn done(&self, _worker: usize, _lane: usize, answer: Result<Drained, AllocError>) {
+    fn told(&self) -> Told {
+        Told {
+            asked: self.asked.load(Ordering::SeqCst),
+            drains: self.drains.load(Ordering::SeqCst),
+            took: self.took.load(Ordering::SeqCst),
+            refused: self.refused.load(Ordering::SeqCst),
+        }
+    }
+}
+
+impl Gate for Always {
+    fn pass(&self, _worker: usize, lane: usize) -> Pass {
+        self.asked.fetch_add(1, Ordering::SeqCst);
+        match self.answers.get(lane) {
+            Some(answer) => *answer,
+            None => Pass::Stop,
+        }
+    }
+
+    fn done(&self, _worker: usize, lane: usize, answer: Result<Drained, AllocError>) {
+        if !matches!(self.answers.get(lane), Some(Pass::Go)) {
+            return;
+        }
+        self.drains.fetch_add(1, Ordering::SeqCst);
         match answer {
             Ok(Drained::Took) => {
                 self.took.fetch_add(1, Ordering::SeqCst);
@@ -95,25 +120,7 @@ fn room_for_two<T: Drop>(alloc: Global) -> Result<Vec<T>, AllocError>
     }
 }
 
-// Two threads drain these lanes, once more where a thread or memory was refused.
-fn pool<
-    Y: Yard + Send + Sync,
-    W: Wait + Drop + Send + Sync,
-    G: Gate + Sync,
-    R: Threads + Wait + Sync,
->(
-    rt: &R,
-    alloc: Global,
-    lanes: &[Mutex<WriterEnd<Y, W>>],
-    gate: &G,
-    turns: u64,
-) -> Result<PoolReport, PoolFault> {
-    match writers(rt, alloc, lanes, gate, 2, turns) {
-        Ok(report) => Ok(report),
-        Err(_) => writers(rt, alloc, lanes, gate, 2, turns),
-    }
-}
-
+// The report of so many threads that drain lanes with these texts; None where a thread or memory was refused.
 fn pooled<
     Y: Yard + Send + Sync,
     W: Wait + Drop + Send + Sync,
@@ -126,8 +133,9 @@ fn pooled<
     second: Blank<W>,
     texts: &[&str],
     gate: &G,
+    threads: usize,
     turns: u64,
-) -> Result<PoolReport, Fail>
+) -> Result<Option<PoolReport>, Fail>
     requires first { (first.queue ≡ Y.queue 0) × (first.copy ≡ Y.copy 0) }
     requires second { (second.queue ≡ Y.queue 1) × (second.copy ≡ Y.copy 1) }
 {
@@ -144,81 +152,128 @@ fn pooled<
     let mut lanes = room_for_two(alloc)?;
     lanes.push_reserved(Mutex::new(one));
     lanes.push_reserved(Mutex::new(two));
-    Ok(
-        pool(rt, alloc, lanes.as_slice(), gate, turns)
-            .ok()
-            .ok_or("no pool")?,
-    )
+    Ok(writers(rt, alloc, lanes.as_slice(), gate, threads, turns).ok())
 }
 
-fn pool_of_two<G: Gate + Sync, R: Threads + Wait + Sync>(
+fn pool_on_two<G: Gate + Sync, R: Threads + Wait + Sync>(
     rt: &R,
     alloc: Global,
     texts: &[&str],
     gate: &G,
+    threads: usize,
     turns: u64,
-) -> Result<PoolReport, Fail> {
+) -> Result<Option<PoolReport>, Fail> {
     let first = blank(rt, alloc, 4, 1).ok().ok_or("no lane")?;
     let second = blank(rt, alloc, 4, 1).ok().ok_or("no lane")?;
-    pooled::<Brand, _, _, _>(rt, alloc, first, second, texts, gate, turns)
+    pooled::<Brand, _, _, _>(rt, alloc, first, second, texts, gate, threads, turns)
 }
+
+// A pool that was refused a thread may have drained, so each row begins anew with lanes and a gate of its own.
 
 #[test]
 fn workers_of_a_pool_meet(rt: HostRuntime) -> Result<(), Fail> {
-    let gate = Together {
-        first: AtomicU64::new(0),
-        second: AtomicU64::new(0),
-        met: AtomicU64::new(0),
-    };
-    let report = pool_of_two(&rt, rt.alloc(), &[], &gate, 5)?;
-    assert_eq!(rt; gate.met.load(Ordering::SeqCst), 2);
-    assert_eq!(rt; report.took, 2);
-    Ok(())
+    for _ in 0..TRIES {
+        let gate = Together {
+            first: AtomicU64::new(0),
+            second: AtomicU64::new(0),
+            met: AtomicU64::new(0),
+        };
+        if let Some(report) = pool_on_two(&rt, rt.alloc(), &[], &gate, 2, 5)? {
+            assert_eq!(rt; gate.met.load(Ordering::SeqCst), 2);
+            assert_eq!(rt; report.took, 2);
+            return Ok(());
+        }
+    }
+    Err(Fail::from("no pool"))
+}
+
+// What a pool on two lanes with two items each took where nothing was refused, and what its gate was asked and told.
+fn taken<R: Threads + Wait + Sync>(
+    rt: &R,
+    alloc: Global,
+    answers: [Pass; 2],
+    threads: usize,
+) -> Result<(u128, Told), Fail> {
+    for _ in 0..TRIES {
+        let gate = Always::new(answers);
+        let report = pool_on_two(rt, alloc, &["n\n"], &gate, threads, 1_000)?;
+        if let Some(PoolReport { took, refused: 0 }) = report {
+            return Ok((took, gate.told()));
+        }
+    }
+    Err(Fail::from("no pool"))
 }
 
 #[test]
-fn pool_drains_nothing_where_its_gate_is_shut(rt: HostRuntime) -> Result<(), Fail> {
-    for answer in [Pass::Skip, Pass::Stop] {
-        let gate = Always {
-            answer,
-            told: AtomicU64::new(0),
-        };
-        let report = pool_of_two(&rt, rt.alloc(), &[], &gate, 5)?;
-        assert_eq!(rt; report.took, 0);
-        assert_eq!(rt; report.refused, 0);
-        assert_eq!(rt; gate.told.load(Ordering::SeqCst), 0);
+fn pool_drains_the_lanes_that_its_gate_lets_it(rt: HostRuntime) -> Result<(), Fail> {
+    let (go, skip, stop) = (Pass::Go, Pass::Skip, Pass::Stop);
+    for (answers, threads, took, asked, drains) in [
+        ([go, go], 2, 4, 2_000, 2_000),
+        ([go, go], 1, 4, 1_000, 1_000),
+        ([go, skip], 2, 2, 2_000, 1_000),
+        ([skip, go], 1, 2, 1_000, 500),
+        ([skip, skip], 2, 0, 2_000, 0),
+        ([go, stop], 1, 1, 2, 1),
+        ([stop, stop], 2, 0, 2, 0),
+    ] {
+        let (items, told) = taken(&rt, rt.alloc(), answers, threads)?;
+        assert_eq!(rt; (items, told.asked, told.drains), (took, asked, drains));
     }
     Ok(())
 }
 
-#[test]
-fn pool_takes_all_items(rt: HostRuntime) -> Result<(), Fail> {
-    let gate = Always {
-        answer: Pass::Go,
-        told: AtomicU64::new(0),
-    };
-    let report = pool_of_two(&rt, rt.alloc(), &["n\n"], &gate, 1_000)?;
-    assert_eq!(rt; report.took, 4);
-    assert_eq!(rt; gate.told.load(Ordering::SeqCst), 2_000);
-    Ok(())
+/// The report of a pool that ran to its end, and what its gate was told before: by the workers of a call that was
+/// refused a thread. What those drained stays drained, and no report counts it.
+#[derive(Clone, Copy)]
+struct Ran {
+    report: PoolReport,
+    before: Told,
+}
+
+impl Ran {
+    // Whether the report counts all that the gate was told since.
+    fn counts_up_to(&self, told: Told) -> bool {
+        let Ran { report, before } = self;
+        report.took.saturating_add(u128::from(before.took)) == u128::from(told.took)
+            && report.refused.saturating_add(u128::from(before.refused)) == u128::from(told.refused)
+    }
 }
 
 #[test]
 fn pool_loses_nothing_where_memory_is_wanting(rt: HostRuntime) -> Result<(), Fail> {
-    let gate = Counts {
-        took: AtomicU64::new(0),
-        refused: AtomicU64::new(0),
-    };
+    let gate = Always::new([Pass::Go, Pass::Go]);
     let first = blank(&rt, rt.alloc(), 4, 1).ok().ok_or("no lane")?;
     let second = blank(&rt, rt.alloc(), 4, 1).ok().ok_or("no lane")?;
-    let report = under_pressure::<Brand, _, _>(&rt, rt.alloc(), first, second, &gate)?;
-    let refused = gate.refused.load(Ordering::SeqCst);
-    assert_eq!(rt; gate.took.load(Ordering::SeqCst), 4);
-    assert_eq!(rt; (report.took, report.refused), (4, refused as u128));
-    if refused > 0 {
+    let ran = under_pressure::<Brand, _, _>(&rt, rt.alloc(), first, second, &gate)?;
+    let told = gate.told();
+    assert_eq!(rt; told.took, 4);
+    assert!(rt; ran.counts_up_to(told));
+    if told.refused > 0 {
         let _ = println!(rt; "met: want of memory in a drain of the pool");
     }
+    if ran.before.drains > 0 {
+        let _ = println!(rt; "met: a pool that drained and was refused a thread");
+    }
     Ok(())
+}
+
+// Two threads drain these lanes, once more where a thread or memory was refused. None where they drained without memory
+// for their handles, or were refused again.
+fn pool<Y: Yard + Send + Sync, W: Wait + Drop + Send + Sync, R: Threads + Wait + Sync>(
+    rt: &R,
+    alloc: Global,
+    lanes: &[Mutex<WriterEnd<Y, W>>],
+    gate: &Always,
+) -> Option<Ran> {
+    for _ in 0..TRIES {
+        let before = gate.told();
+        match writers(rt, alloc, lanes, gate, 2, 1_000) {
+            Ok(report) => return Some(Ran { report, before }),
+            Err(PoolFault::Mem) if gate.told().drains != before.drains => return None,
+            Err(_) => {}
+        }
+    }
+    None
 }
 
 // Two writer's ends under a pool, and back again.
@@ -227,19 +282,17 @@ fn drained<Y: Yard + Send + Sync, W: Wait + Drop + Send + Sync, R: Threads + Wai
     alloc: Global,
     first: WriterEnd<Y, W>,
     second: WriterEnd<Y, W>,
-    gate: &Counts,
-) -> Option<(WriterEnd<Y, W>, WriterEnd<Y, W>, PoolReport)> {
+    gate: &Always,
+) -> Option<(WriterEnd<Y, W>, WriterEnd<Y, W>, Ran)> {
     let Ok(mut lanes) = room_for_two(alloc) else {
         return None;
     };
     lanes.push_reserved(Mutex::new(first));
     lanes.push_reserved(Mutex::new(second));
-    let Ok(report) = pool(rt, alloc, lanes.as_slice(), gate, 1_000) else {
-        return None;
-    };
+    let ran = pool(rt, alloc, lanes.as_slice(), gate)?;
     let second = lanes.pop()?.into_inner();
     let first = lanes.pop()?.into_inner();
-    Some((first, second, report))
+    Some((first, second, ran))
 }
 
 // A pool drains two lanes, which are then settled: a held item has gone first, so each book is whole and in order.
@@ -247,25 +300,17 @@ fn under_pressure<
     Y: Yard + Send + Sync,
     W: Wait + Drop + Send + Sync,
     R: Threads + Wait + Abort + Sync,
->(
-    rt: &R,
-    alloc: Global,
-    first: Blank<W>,
-    second: Blank<W>,
-    gate: &Counts,
-) -> Result<PoolReport, Fail>
+>(rt: &R, alloc: Global, first: Blank<W>, second: Blank<W>, gate: &Always) -> Result<Ran, Fail>
     requires first { (first.queue ≡ Y.queue 0) × (first.copy ≡ Y.copy 0) }
     requires second { (second.queue ≡ Y.queue 1) × (second.copy ≡ Y.copy 1) }
 {
     let one = heard::<Y, W, R>(rt, alloc, first, 0, &["a\n"])?;
     let two = heard::<Y, W, R>(rt, alloc, second, 1, &["b\n"])?;
-    let (first, second, report) = drained(rt, alloc, one.writer, two.writer, gate).ok_or(
-        "no pool",
-    )?;
+    let (first, second, ran) = drained(rt, alloc, one.writer, two.writer, gate).ok_or("no pool")?;
     let one = whole(rt, alloc, one.reader, first, one.viewers)?;
     let two = whole(rt, alloc, two.reader, second, two.viewers)?;
     assert!(rt; has_lines(&one.book, "oa\n") && has_lines(&two.book, "ob\n"));
-    Ok(report)
+    Ok(ran)
 }
 
 // What is left of a lane with these ends.

@@ -1,5 +1,5 @@
 use Rattle.std.proofs.Common.{cond, nat_eq}
-use Rattle.bm_lane.proofs.tests.pooled.pool_of_two.Given as goal
+use Rattle.bm_lane.proofs.tests.pooled.pool_on_two.Given as goal
 
 abbrev pub ghosts-pooled : goal.ghosts-pooled
 ghosts-pooled g a = record {
