@@ -3,7 +3,7 @@ use Rattle.std.proofs.Common.{◌≡◌, ℕ, zero, suc, ◌<◌, ◌-◌, List,
 use Rattle.bm_value.specs.Row.{row}
 use Rattle.bm_value.specs.Tree.{Tree, array, dict, Trees, TreePair, Pairs as TreePairs}
 use Rattle.bm_value.specs.View.{value_step, items_step, pair_step, pairs_step, tree, trees_of, pairs_of, pair_tree, items_tree, pairs_tree}
-use Rattle.bm_value.specs.Reading.{Gives, mapped, ◌>>=◌, length_at, pairs_at, map_with, value_at, value_with, row_with, inner}
+use Rattle.bm_value.specs.Reading.{Gives, mapped, ◌>>=◌, length_at, items_at, pairs_at, array_with, map_with, value_at, value_with, row_with, inner}
 use Rattle.bm_value.specs.declared.fault.DecodeError.{DecodeError}
 use Rattle.bm_value.specs.declared.fault.DecodeError.TheVariants.{Truncated}
 use Rattle.bm_value.specs.declared.row.Row.{Row}
@@ -54,6 +54,13 @@ pub gives_row : {X : Type 0} (view : X → Tree × List ℕ) (out : Result X Dec
     → Gives view out (row_with (inner room) r (take (length bytes - 1) (drop 1 bytes))) → Gives view out (value_at room bytes)
 gives_row view out room bytes r h is given =
     subst (λ x. Gives view out x) (ap (row_with (inner room) r) (tail_is bytes) ∙ sym (first_byte room bytes r h is)) given
+
+pub array_read : (room : ℕ) (s : Size) (bytes : List ℕ) (n : ℕ) (rest : List ℕ) (ts : Trees) (after : List ℕ) → 0 < room → length_at s bytes ≡ Ok (n, rest) → items_at (value_at (room - 1)) n rest ≡ Ok (ts, after)
+    → array_with (inner room) s bytes ≡ Ok (array ts, after)
+array_read zero s bytes n rest ts after lt e f = absurd (omega arith)
+array_read (suc room) s bytes n rest ts after lt e f =
+    let k : suc room - 1 ≡ room = omega arith in
+    ap (λ r. r >>= λ n. mapped array (items_at (value_at room) n.0 n.1)) e ∙ ap (mapped array) (ap (λ d. items_at (value_at d) n rest) (sym k) ∙ f)
 
 pub map_read : (room : ℕ) (s : Size) (bytes : List ℕ) (n : ℕ) (rest : List ℕ) (ps : TreePairs) (after : List ℕ) → 0 < room → length_at s bytes ≡ Ok (n, rest) → pairs_at (value_at (room - 1)) n rest ≡ Ok (ps, after)
     → map_with (inner room) s bytes ≡ Ok (dict ps, after)

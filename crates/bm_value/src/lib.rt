@@ -6,6 +6,7 @@
 //! they are.
 #![tactic(auto)]
 
+mod ascii;
 mod bytes;
 mod copying;
 mod fault;

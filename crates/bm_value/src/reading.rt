@@ -8,6 +8,7 @@ ghost use Rattle.bm_value.specs.Spelling.{Spells, Fails};
 ghost use Rattle.bm_value.specs.View.{tree, items_tree, pair_tree, pairs_tree};
 ghost use Rattle.bm_value.specs.Reading.{Gives, signed_at, text_at, binary_at, extension_at, plain_at, items_at, pair_at, pairs_at, inner, array_with, map_with, value_at};
 
+use crate::ascii::text_of;
 use crate::bytes::{Bytes, Text};
 use crate::fault::DecodeError;
 use crate::front::{eight, four, length, number, one, take, two};
@@ -46,10 +47,8 @@ fn text<A: Allocator>(alloc: A, size: Size, bytes: &[u8]) -> Result<(Text<A>, &[
 {
     let (n, rest) = length(size, bytes)?;
     let (front, rest) = take(n, rest)?;
-    match std::str::from_utf8(front) {
-        Ok(text) => Ok((Text::from_string(String::from_str(alloc, text)?), rest)),
-        Err(_) => Err(DecodeError::BadUtf8),
-    }
+    let text = text_of(front)?;
+    Ok((Text::from_string(String::from_str(alloc, text)?), rest))
 }
 
 #[tactic(auto, unfolding(crate::specs::Reading::binary_at))]
@@ -135,6 +134,16 @@ fn plain<A: Allocator + Copy>(
     }
 }
 
+/// How many places to take at once for so many entries: few, and none where there are fewer bytes than entries.
+#[inline(always)]
+fn first_places(count: u64, bytes: &[u8]) -> usize {
+    if count <= bytes.len() as u64 {
+        count.min(4) as usize
+    } else {
+        0
+    }
+}
+
 /// The value at the front, where arrays and maps may nest `room` deep.
 #[cycle(read)]
 fn read<A: Allocator + Copy>(
@@ -202,7 +211,7 @@ fn items<A: Allocator + Copy>(
 ) -> Result<(Items<A>, &[u8]), DecodeError>
     ensures { Gives (λ x. (items_tree x.0, x.1.now)) result (items_at (value_at room) count bytes.now) }
 {
-    let mut found = Vec::new(alloc);
+    let mut found = Vec::with_capacity(alloc, first_places(count, bytes))?;
     let mut rest = bytes;
     'items: for _ in 0..count {
         match read(alloc, rest, room) {
@@ -225,7 +234,7 @@ fn pairs<A: Allocator + Copy>(
 ) -> Result<(Pairs<A>, &[u8]), DecodeError>
     ensures { Gives (λ x. (pairs_tree x.0, x.1.now)) result (pairs_at (value_at room) count bytes.now) }
 {
-    let mut found = Vec::new(alloc);
+    let mut found = Vec::with_capacity(alloc, first_places(count, bytes))?;
     let mut rest = bytes;
     'pairs: for _ in 0..count {
         match pair(alloc, rest, room) {

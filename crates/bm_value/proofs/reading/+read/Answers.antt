@@ -1,8 +1,10 @@
 use Rattle.std.proofs.Common.{◌≡◌, [], ◌∷◌, ◌++◌, map, Ok, sym, ap, ◌∙◌, arith}
 use Rattle.std.proofs.lemmas.List.{map_push}
-use Rattle.bm_value.specs.View.{tree, pair_tree, pairs_tree}
+use Rattle.bm_value.specs.declared.row.Plain.{Plain}
+use Rattle.bm_value.specs.declared.row.Row.TheVariants as rows
+use Rattle.bm_value.specs.View.{tree, items_tree, pair_tree, pairs_tree}
 use Rattle.bm_value.specs.Reading.{value_at, items_at, pairs_at}
-use Rattle.bm_value.proofs.Values.{first_byte, no_byte, gives_row, map_read, items_tree-of, pairs_tree-of, tree-Map}
+use Rattle.bm_value.proofs.Values.{first_byte, no_byte, gives_row, array_read, map_read, items_tree-of, pairs_tree-of, tree-Array, tree-Map}
 use Rattle.bm_value.proofs.Loops.{item_read, item_refused, items_done, pair_read, pair_refused, pairs_done}
 use Rattle.bm_value.proofs.reading.+read.Goals as goal
 
@@ -17,6 +19,10 @@ items-items-preserved g t c =
 pub items-returns : goal.items-returns
 items-returns g t c =
     items_done (value_at c.args.room) (map tree c.items.found.items) c.args.count c.items.counter c.items.rest.now (items_at (value_at c.args.room) c.args.count c.args.bytes.now) c.items-test.false c.items.invariant ∙ ap (λ ts. Ok (ts, c.items.rest.now)) (sym (items_tree-of c.items.found))
+
+pub array-returns-in-Ok : goal.array-returns-in-Ok
+array-returns-in-Ok g t c =
+    array_read c.args.room c.args.size c.args.bytes.now c.in_ok-count.count c.in_ok-count.rest.now (items_tree c.in-Ok.items) c.in-Ok.rest.now (omega arith) c.in_ok-count.ensures c.in-Ok.ensures ∙ ap (λ x. Ok (x, c.in-Ok.rest.now)) (sym (tree-Array c.in-Ok.items))
 
 pub map-returns-in-Ok : goal.map-returns-in-Ok
 map-returns-in-Ok g t c =
