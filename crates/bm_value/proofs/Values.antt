@@ -55,6 +55,9 @@ pub gives_row : {X : Type 0} (view : X → Tree × List ℕ) (out : Result X Dec
 gives_row view out room bytes r h is given =
     subst (λ x. Gives view out x) (ap (row_with (inner room) r) (tail_is bytes) ∙ sym (first_byte room bytes r h is)) given
 
+pub behind_first : (room : ℕ) (bytes : List ℕ) → 0 < length bytes → row_with (inner room) (row (get_or bytes 0 0)) (take (length bytes - 1) (drop 1 bytes)) ≡ value_at room bytes
+behind_first room bytes h = ap (row_with (inner room) (row (get_or bytes 0 0))) (tail_is bytes) ∙ sym (first_byte room bytes (row (get_or bytes 0 0)) h refl)
+
 pub array_read : (room : ℕ) (s : Size) (bytes : List ℕ) (n : ℕ) (rest : List ℕ) (ts : Trees) (after : List ℕ) → 0 < room → length_at s bytes ≡ Ok (n, rest) → items_at (value_at (room - 1)) n rest ≡ Ok (ts, after)
     → array_with (inner room) s bytes ≡ Ok (array ts, after)
 array_read zero s bytes n rest ts after lt e f = absurd (omega arith)

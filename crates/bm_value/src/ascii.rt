@@ -1,33 +1,22 @@
 //! The test whether bytes are text.
 
-ghost use Rattle.std.specs.Prelude.{◌≡◌, MatchResult, IsTrue};
-ghost use Rattle.std.specs.Str.{IsUtf8, IsAscii};
+ghost use Rattle.std.specs.Prelude.{◌≡◌, ◌↔◌, IsTrue};
+ghost use Rattle.std.specs.Str.{IsUtf8};
 
-use crate::fault::DecodeError;
-use std::str::{from_utf8, from_utf8_unchecked};
+use std::str::from_utf8;
 
-/// The bytes as text. Most texts are short and ASCII, which takes less to see than UTF-8.
-#[inline(always)]
-pub fn text_of(bytes: &[u8]) -> Result<&str, DecodeError>
-    ensures { MatchResult result (λ text. (text.now ≡ bytes.now) × IsUtf8 bytes.now) (λ e. (e ≡ DecodeError.BadUtf8) × ¬ IsUtf8 bytes.now) }
-{
-    if is_ascii(bytes) {
-        return Ok(unsafe { from_utf8_unchecked(bytes) });
-    }
-    wide_text_of(bytes)
-}
-
+/// Whether the bytes are UTF-8. Most texts are short and ASCII, which takes less to see.
 #[inline(never)]
-fn is_ascii(bytes: &[u8]) -> bool
-    ensures { IsTrue result → IsAscii bytes.now }
+pub fn is_text(bytes: &[u8]) -> bool
+    ensures { IsTrue result ↔ IsUtf8 bytes.now }
 {
-    bytes.is_ascii()
+    bytes.is_ascii() || is_wide_text(bytes)
 }
 
 #[cold]
 #[inline(never)]
-fn wide_text_of(bytes: &[u8]) -> Result<&str, DecodeError>
-    ensures { MatchResult result (λ text. (text.now ≡ bytes.now) × IsUtf8 bytes.now) (λ e. (e ≡ DecodeError.BadUtf8) × ¬ IsUtf8 bytes.now) }
+fn is_wide_text(bytes: &[u8]) -> bool
+    ensures { IsTrue result ↔ IsUtf8 bytes.now }
 {
-    from_utf8(bytes).map_err(|_| DecodeError::BadUtf8)
+    from_utf8(bytes).is_ok()
 }

@@ -2,13 +2,15 @@
 
 ghost use Rattle.std.specs.Prelude.{◌≡◌, ◌≢◌, ◌≤◌, ℕ, take, length, IfOk, IfErr, Ok, Err};
 ghost use Rattle.bm_value.specs.declared.fault.DecodeError.{DecodeError};
+ghost use Rattle.bm_value.specs.declared.row.Plain.TheVariants as plain;
+ghost use Rattle.bm_value.specs.Row.{row};
 ghost use Rattle.bm_value.specs.Tree.{Tree, depth};
 ghost use Rattle.bm_value.specs.Decoding.{Reads, Decodes, DecodesWhole, Trails};
 ghost use Rattle.bm_value.specs.Spelling.{Spells, Fails};
 ghost use Rattle.bm_value.specs.View.{tree, items_tree, pair_tree, pairs_tree};
-ghost use Rattle.bm_value.specs.Reading.{Gives, signed_at, text_at, binary_at, extension_at, plain_at, items_at, pair_at, pairs_at, inner, array_with, map_with, value_at};
+ghost use Rattle.bm_value.specs.Reading.{Gives, signed_at, text_at, binary_at, extension_at, plain_at, items_at, pair_at, pairs_at, inner, array_with, map_with, row_with, value_at};
 
-use crate::ascii::text_of;
+use crate::ascii::is_text;
 use crate::bytes::{Bytes, Text};
 use crate::fault::DecodeError;
 use crate::front::{eight, four, length, number, one, take, two};
@@ -17,6 +19,7 @@ use crate::num::Num;
 use crate::row::{Plain, Row, Size, Wide, row_of};
 use crate::value::{Items, Pair, Pairs, Value};
 use std::alloc::Allocator;
+use std::str::from_utf8_unchecked;
 
 fn signed(wide: Wide, bytes: &[u8]) -> Result<(Num, &[u8]), DecodeError>
     ensures { Gives (λ x. (x.0, x.1.now)) result (signed_at wide bytes.now) }
@@ -41,13 +44,17 @@ fn signed(wide: Wide, bytes: &[u8]) -> Result<(Num, &[u8]), DecodeError>
     }
 }
 
+#[inline(always)]
 #[tactic(auto, using(crate::proofs::Utf8::utf8_tests), unfolding(crate::specs::Reading::text_at))]
 fn text<A: Allocator>(alloc: A, size: Size, bytes: &[u8]) -> Result<(Text<A>, &[u8]), DecodeError>
     ensures { Gives (λ x. (x.0, x.1.now)) result (text_at size bytes.now) }
 {
     let (n, rest) = length(size, bytes)?;
     let (front, rest) = take(n, rest)?;
-    let text = text_of(front)?;
+    if !is_text(front) {
+        return Err(DecodeError::BadUtf8);
+    }
+    let text = unsafe { from_utf8_unchecked(front) };
     Ok((Text::from_string(String::from_str(alloc, text)?), rest))
 }
 
@@ -80,6 +87,22 @@ fn extension<A: Allocator>(
         Bytes::from_vec(Vec::from_slice(alloc, front)?),
         rest,
     ))
+}
+
+/// A str, behind its first byte.
+#[inline(always)]
+#[tactic(auto, unfolding(crate::specs::Reading::plain_at))]
+fn string<A: Allocator + Copy>(
+    alloc: A,
+    size: Size,
+    bytes: &[u8],
+) -> Result<(Value<A>, &[u8]), DecodeError>
+    ensures { Gives (λ x. (tree x.0, x.1.now)) result (plain_at (plain.Str size) bytes.now) }
+{
+    match text(alloc, size, bytes) {
+        Ok((text, rest)) => Ok((Value::Str(text), rest)),
+        Err(e) => Err(e),
+    }
 }
 
 /// A value with no value inside, behind its first byte.
@@ -136,7 +159,10 @@ fn plain<A: Allocator + Copy>(
 
 /// How many places to take at once for so many entries: few, and none where there are fewer bytes than entries.
 #[inline(always)]
-fn first_places(count: u64, bytes: &[u8]) -> usize {
+fn first_places(count: u64, bytes: &[u8]) -> usize
+    ensures few { result ≤ 4 }
+    ensures there { result ≤ length bytes.now }
+{
     if count <= bytes.len() as u64 {
         count.min(4) as usize
     } else {
@@ -144,8 +170,10 @@ fn first_places(count: u64, bytes: &[u8]) -> usize {
     }
 }
 
-/// The value at the front, where arrays and maps may nest `room` deep.
+/// The value at the front, where arrays and maps may nest `room` deep. Most values are strs, and those are read in
+/// place.
 #[cycle(read)]
+#[inline(always)]
 fn read<A: Allocator + Copy>(
     alloc: A,
     bytes: &[u8],
@@ -156,11 +184,31 @@ fn read<A: Allocator + Copy>(
     match bytes {
         [] => Err(DecodeError::Truncated),
         [first, rest @ ..] => match row_of(*first) {
-            Row::Plain(row) => plain(alloc, row, rest),
-            Row::Array(size) => array(alloc, size, rest, room),
-            Row::Map(size) => map(alloc, size, rest, room),
-            Row::Reserved => Err(DecodeError::Reserved),
+            Row::Plain(Plain::Str(size)) => string(alloc, size, rest),
+            _ => match behind(alloc, *first, rest, room) {
+                Ok((value, rest)) => Ok((value, rest)),
+                Err(e) => Err(e),
+            },
         },
+    }
+}
+
+/// The value with this first byte, of any kind. It stands apart, so that what reads strs stays small.
+#[cycle(read)]
+#[inline(never)]
+fn behind<A: Allocator + Copy>(
+    alloc: A,
+    first: u8,
+    bytes: &[u8],
+    room: u32,
+) -> Result<(Value<A>, &[u8]), DecodeError>
+    ensures { Gives (λ x. (tree x.0, x.1.now)) result (row_with (inner room) (row first) bytes.now) }
+{
+    match row_of(first) {
+        Row::Plain(row) => plain(alloc, row, bytes),
+        Row::Array(size) => array(alloc, size, bytes, room),
+        Row::Map(size) => map(alloc, size, bytes, room),
+        Row::Reserved => Err(DecodeError::Reserved),
     }
 }
 
@@ -249,6 +297,7 @@ fn pairs<A: Allocator + Copy>(
 }
 
 #[cycle(read)]
+#[inline(always)]
 fn pair<A: Allocator + Copy>(
     alloc: A,
     bytes: &[u8],

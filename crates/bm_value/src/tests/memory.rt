@@ -62,7 +62,7 @@ fn each_refused_request_of_decode_is_want_of_memory(rt: HostRuntime) -> Result<(
 
 #[test]
 fn a_fault_before_the_refused_request_is_told(rt: HostRuntime) -> Result<(), Fail> {
-    // Two requests come before the fault: the first item's text, and the place of that item.
+    // Two requests come before the fault: the places of the items, and the first item's text.
     let heap = Refusing::new(rt.alloc(), 3);
     assert_eq!(rt;
         decode(&heap, b"\x92\xa1a\xc1").err(),

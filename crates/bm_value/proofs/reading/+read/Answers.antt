@@ -2,10 +2,12 @@ use Rattle.std.proofs.Common.{◌≡◌, [], ◌∷◌, ◌++◌, map, Ok, sym, 
 use Rattle.std.proofs.lemmas.List.{map_push}
 use Rattle.bm_value.specs.declared.row.Plain.{Plain}
 use Rattle.bm_value.specs.declared.row.Row.TheVariants as rows
+use Rattle.bm_value.specs.declared.row.Plain.{Plain}
+use Rattle.bm_value.specs.declared.row.Row.TheVariants as rows
 use Rattle.bm_value.specs.View.{tree, items_tree, pair_tree, pairs_tree}
 use Rattle.bm_value.specs.Reading.{value_at, items_at, pairs_at}
-use Rattle.bm_value.proofs.Values.{first_byte, no_byte, gives_row, array_read, map_read, items_tree-of, pairs_tree-of, tree-Array, tree-Map}
-use Rattle.bm_value.proofs.Loops.{item_read, item_refused, items_done, pair_read, pair_refused, pairs_done}
+use Rattle.bm_value.proofs.Values.{behind_first, no_byte, gives_row, array_read, map_read, items_tree-of, pairs_tree-of, tree-Array, tree-Map}
+use Rattle.bm_value.proofs.Loops.{refused-along, item_read, item_refused, items_done, pair_read, pair_refused, pairs_done}
 use Rattle.bm_value.proofs.reading.+read.Goals as goal
 
 pub items-returns-in-Err : goal.items-returns-in-Err
@@ -43,14 +45,11 @@ pairs-returns g t c =
 pub read-returns-in-empty : goal.read-returns-in-empty
 read-returns-in-empty g t c = no_byte c.args.room c.args.bytes.now (omega arith)
 
-pub read-returns-in-Plain : goal.read-returns-in-Plain
-read-returns-in-Plain g t c = gives_row _ c.plain.result c.args.room c.args.bytes.now _ (omega arith) c.in-Plain.ensures c.plain.ensures
+pub read-returns-in-Plain-Str : goal.read-returns-in-Plain-Str
+read-returns-in-Plain-Str g t c = gives_row _ c.string.result c.args.room c.args.bytes.now _ (omega arith) (ap (λ (p : Plain). rows.Plain p) (sym c.in-Plain-Str.field-0-is) ∙ c.in-Plain-Str.ensures) c.string.ensures
 
-pub read-returns-in-Array : goal.read-returns-in-Array
-read-returns-in-Array g t c = gives_row _ c.array.result c.args.room c.args.bytes.now _ (omega arith) c.in-Array.ensures c.array.ensures
+pub read-returns-in-Ok : goal.read-returns-in-Ok
+read-returns-in-Ok g t c = sym (behind_first c.args.room c.args.bytes.now (omega arith)) ∙ c.in-Ok.ensures
 
-pub read-returns-in-Map : goal.read-returns-in-Map
-read-returns-in-Map g t c = gives_row _ c.map.result c.args.room c.args.bytes.now _ (omega arith) c.in-Map.ensures c.map.ensures
-
-pub read-returns-in-Reserved : goal.read-returns-in-Reserved
-read-returns-in-Reserved g t c = first_byte c.args.room c.args.bytes.now _ (omega arith) c.in-Reserved.ensures
+pub read-returns-in-Err : goal.read-returns-in-Err
+read-returns-in-Err g t c = refused-along c.in-Err.e _ _ (behind_first c.args.room c.args.bytes.now (omega arith)) c.in-Err.ensures
