@@ -130,7 +130,7 @@ fn item<A: Allocator>(alloc: Global, item: &Value<A>) -> Result<Told, AllocError
 pub fn fields<A: Allocator>(alloc: Global, items: &Items<A>) -> Result<Option<Fields>, AllocError>
     ensures { IfOk result (λ f. f ≡ fields_of (items_tree items.now)) }
 {
-    let mut fields = Vec::new(alloc);
+    let mut fields = Vec::with_capacity(alloc, items.vec.len())?;
     for part in &items.vec {
         match item(alloc, part)? {
             Told::Carries(field) => fields.push(field)?,

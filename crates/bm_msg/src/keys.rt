@@ -54,6 +54,7 @@ pub fn number_at<A: Allocator>(message: &Value<A>) -> Option<u64>
 }
 
 /// The number below 2^63 whose decimal numeral this is: no sign, and no 0 in front of other digits.
+#[inline(always)]
 fn command_number(text: &str) -> Option<u64>
     ensures { result ≡ command_number text.now }
 {
@@ -70,6 +71,7 @@ fn command_number(text: &str) -> Option<u64>
 }
 
 /// The command that a message names.
+#[inline(always)]
 pub fn command_at<A: Allocator>(message: &Value<A>) -> Option<u64>
     ensures { result ≡ command_at (tree message.now) }
 {
