@@ -96,6 +96,7 @@ impl Block {
     }
 
     /// The lines of a text. Where it is one line, the text becomes that line's and isn't copied.
+    #[inline(always)]
     pub fn of_text(alloc: Global, letter: Letter, text: Text) -> Result<Block, AllocError>
         ensures { IfOk result (λ b. b ≡ lines_of letter text) }
     {
@@ -218,6 +219,7 @@ fn count_lines(text: &str) -> usize {
 }
 
 /// The line, without the line end, of a text that has one line.
+#[inline(always)]
 fn only_line(text: &str) -> Option<&str>
     ensures line { IfSome result (λ line. without_last_empty (slice_split (λ c. c == 10) text.now) ≡ line.now ∷ []) }
     ensures front { IfSome result (λ line. (text.now ≡ line.now) ⊎ (text.now ≡ line.now ++ 10 ∷ [])) }
@@ -233,6 +235,7 @@ fn only_line(text: &str) -> Option<&str>
 }
 
 /// The line, without the line end, of a text that has one line. Another text comes back.
+#[inline(always)]
 fn one_line(text: Text) -> Result<Text, Text>
     ensures line { IfOk result (λ line. without_last_empty (slice_split (λ c. c == 10) text) ≡ line ∷ []) }
     ensures back { IfErr result (λ t. t ≡ text) }
@@ -271,6 +274,8 @@ fn push_parts(out: &mut Vec<Line>, letter: Letter, text: &str) -> Result<(), All
 }
 
 /// The lines of a text: its parts between the characters `\n`, without a last empty part.
+#[cold]
+#[inline(never)]
 pub fn cut(alloc: Global, letter: Letter, text: &str) -> Result<Block, AllocError>
     ensures { IfOk result (λ b. b ≡ lines_of letter text.now) }
 {

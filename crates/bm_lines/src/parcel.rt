@@ -148,6 +148,8 @@ fn put(
 }
 
 /// Appends the lines of a text to the part at a place.
+#[cold]
+#[inline(never)]
 fn add_at(
     parts: &mut OneOrMany<Part>,
     i: usize,

@@ -7,7 +7,7 @@ ghost use Rattle.bm_store.specs.Kept.{Named, blocks_of, logs_kept, with_block, w
 use crate::chunk::LogState;
 use crate::named::NamedLog;
 use crate::placed::Placed;
-use bm_lines::{Parcel, Part};
+use bm_lines::{LogName, Parcel, Part};
 use bm_session::Results;
 use std::alloc::{AllocError, Global};
 use std::marker::Model;
@@ -33,10 +33,10 @@ impl Model for CommandLogs {
     ghost invariant = { λ k. have_blocks k.named.items ≡ true };
 }
 
-fn place_of(logs: &[NamedLog], name: &str) -> Option<usize>
+fn place_of(logs: &[NamedLog], name: &LogName) -> Option<usize>
     ensures { result ≡ position (λ l. bytes_eq l.name name.now) logs.now }
 {
-    logs.iter().position(|log| log.name().is(name))
+    logs.iter().position(|log| log.name().is_same(name))
 }
 
 /// The log with the name, if there is one.
@@ -51,7 +51,7 @@ fn add(logs: &mut Vec<NamedLog>, part: &Part) -> Result<(), AllocError>
     ensures ok { OnOk result (logs.new.items ≡ with_block part.now.name part.now.block logs.old.items) }
     ensures err { OnErr result (logs.new.items ≡ logs.old.items) }
 {
-    match place_of(logs.as_slice(), part.name.as_str()) {
+    match place_of(logs.as_slice(), &part.name) {
         Some(place) => logs[place].push(part.block.copy()?)?,
         None => {
             let log = NamedLog::new(*logs.allocator(), part.name.copy()?, part.block.copy()?)?;
@@ -62,7 +62,7 @@ fn add(logs: &mut Vec<NamedLog>, part: &Part) -> Result<(), AllocError>
 }
 
 /// Takes the last block under a name away, and a log that then has none.
-fn remove_last(logs: &mut Vec<NamedLog>, name: &str)
+fn remove_last(logs: &mut Vec<NamedLog>, name: &LogName)
     ensures { logs.new.items ≡ without_block name.now logs.old.items }
 {
     match place_of(logs.as_slice(), name) {
@@ -78,13 +78,15 @@ fn remove_last(logs: &mut Vec<NamedLog>, name: &str)
 }
 
 /// Undoes the adding of parts, the last one first.
+#[cold]
+#[inline(never)]
 fn take_back(logs: &mut Vec<NamedLog>, parts: &[Part])
     ensures { (base : List Named) → have_blocks base ≡ true → logs.old.items ≡ with_parts parts.now base → logs.new.items ≡ base }
 {
     let mut left = parts.len();
     while left > 0 {
         left -= 1;
-        remove_last(logs, parts[left].name.as_str());
+        remove_last(logs, &parts[left].name);
     }
 }
 

@@ -9,7 +9,7 @@ use Rattle.bm_store.proofs.kept.add.Goals as goal
 pub returns-in_ok-push-in-Some-clause-ok : goal.returns-in_ok-push-in-Some-clause-ok
 returns-in_ok-push-in-Some-clause-ok c =
     let at : position (is_named c.args.part.now.name) c.args.logs.now.items ≡ Some c.in-Some.place =
-    sym (c.in-Some.ensures ∙ ap (λ ls. position (is_named c.as_str.result.now) ls) c.as_slice.ensures.value ∙ ap (λ n. position (is_named n) c.args.logs.now.items) c.as_str.ensures.text) in
+    sym (c.in-Some.ensures ∙ ap (position (is_named c.args.part.now.name)) c.as_slice.ensures.value) in
     let place = position-some (is_named c.args.part.now.name) c.args.logs.now.items c.in-Some.place at in
     let facts : (old : Named) → slice_get c.args.logs.now.items c.in-Some.place ≡ Some old → c.push.new.self ≡ record { name = old.name; blocks = old.blocks ++ c.args.part.now.block ∷ [] } =
     λ old g. let same : c.index_mut.result.now ≡ old = c.index_mut.ensures.value ∙ get_or_from_slice_get c.args.logs.now.items c.in-Some.place old _ g in
@@ -22,7 +22,7 @@ returns-in_ok-push-in-Some-clause-ok c =
 pub returns-in_ok-push-in-None-clause-ok : goal.returns-in_ok-push-in-None-clause-ok
 returns-in_ok-push-in-None-clause-ok c =
     let at : position (is_named c.args.part.now.name) c.args.logs.now.items ≡ None =
-    sym (c.in-None.ensures ∙ ap (λ ls. position (is_named c.as_str.result.now) ls) c.as_slice.ensures.value ∙ ap (λ n. position (is_named n) c.args.logs.now.items) c.as_str.ensures.text) in
+    sym (c.in-None.ensures ∙ ap (position (is_named c.args.part.now.name)) c.as_slice.ensures.value) in
     let past = position-none (is_named c.args.part.now.name) c.args.logs.now.items at in
     let name : c.in_ok-copy-in-None.field-0 ≡ c.args.part.now.name = c.in_ok-copy-in-None.ensures in
     let block : c.in_ok-copy-in-None-2.field-0 ≡ c.args.part.now.block = c.in_ok-copy-in-None-2.ensures in
