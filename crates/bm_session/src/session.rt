@@ -146,6 +146,7 @@ impl Session {
 
     /// Takes the event of the plan: answers what the master sends, and the event's item unless it was taken from the
     /// plan before.
+    #[inline(always)]
     pub fn commit(&mut self, plan: Plan) -> (Reply, Option<Item>)
         requires { IsPlanFor self.old plan }
         ensures trace { self.new.trace ≡ self.old.trace ++ plan.event ∷ [] }
@@ -190,6 +191,7 @@ impl Session {
     }
 
     /// Gives the event of the plan back. Nothing was done.
+    #[inline(always)]
     pub fn withdraw(&mut self, plan: Plan) -> Event
         ensures event { result ≡ plan.event }
         ensures same { self.new ≡ self.old }

@@ -93,18 +93,16 @@ impl World {
             Err((event, Refusal::Mem)) => return Err(event),
             Err((_, reason)) => return Ok(Answer::Refused(reason)),
         };
-        let Some(item) = plan.take_item() else {
-            let (reply, _) = self.session.commit(plan);
-            return Ok(Answer::Heard(reply));
-        };
-        if self.queue.len() >= self.capacity {
-            let _ = self.session.withdraw(plan);
-            return Ok(Answer::Busy);
+        if let Some(item) = plan.take_item() {
+            if self.queue.len() >= self.capacity {
+                let _ = self.session.withdraw(plan);
+                return Ok(Answer::Busy);
+            }
+            if self.queue.reserve(1).is_err() {
+                return Err(self.session.withdraw(plan));
+            }
+            self.queue.push_back_reserved(item);
         }
-        if self.queue.reserve(1).is_err() {
-            return Err(self.session.withdraw(plan));
-        }
-        self.queue.push_back_reserved(item);
         let (reply, _) = self.session.commit(plan);
         Ok(Answer::Heard(reply))
     }
