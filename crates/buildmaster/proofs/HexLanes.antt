@@ -18,54 +18,82 @@ pub both_true : (a b : Bool) → (a && b) ≡ true → (a ≡ true) × (b ≡ tr
 both_true true b is = (refl, is)
 both_true false b is = absurd (cc)
 
--- what the vector code computes of one byte
-abbrev pub lane : (ℕ → ℕ → ℕ) → (ℕ → ℕ → ℕ) → (ℕ → ℕ → ℕ) → (ℕ → ℕ → ℕ) → ℕ → ℕ
-lane below sub or add x =
-    cond (top 7 (below (sub x 48) 10)) (sub x 48)
-    (cond (top 7 (below (sub (or x 32) 97) 6)) (add (sub (or x 32) 97) 10) 255)
+-- what the vector code computes of one byte: as a digit up to 9, as a letter, and the lesser of both
+abbrev pub as_number : (ℕ → ℕ → ℕ) → (ℕ → ℕ → ℕ) → (ℕ → ℕ → ℕ) → ℕ → ℕ
+as_number below sub add x = sub (sub (cond (top 7 (below (add x 198) 6)) 6 (add x 198)) 6) 240
+
+abbrev pub as_letter : (ℕ → ℕ → ℕ) → (ℕ → ℕ → ℕ) → (ℕ → ℕ → ℕ) → (ℕ → ℕ → ℕ) → (ℕ → ℕ) → ℕ → ℕ
+as_letter below sub add or flip x =
+    add (sub (or x 32) 97) (cond (top 7 (below 10 (flip (sub (or x 32) 97)))) 10 (flip (sub (or x 32) 97)))
+
+abbrev pub lane : (ℕ → ℕ → ℕ) → (ℕ → ℕ → ℕ) → (ℕ → ℕ → ℕ) → (ℕ → ℕ → ℕ) → (ℕ → ℕ) → ℕ → ℕ
+lane below sub add or flip x =
+    cond (top 7 (below (as_number below sub add x) (as_letter below sub add or flip x))) (as_number below sub add x) (as_letter below sub add or flip x)
 
 -- the same of each byte of a vector
-abbrev pub lanes : (ℕ → ℕ → ℕ) → (ℕ → ℕ → ℕ) → (ℕ → ℕ → ℕ) → (ℕ → ℕ → ℕ) → ℕ → List ℕ → List ℕ
-lanes below sub or add n xs =
-    sel_l (map (top 7) (zip2 below (zip2 sub xs (replicate n 48)) (replicate n 10)))
-    (zip2 sub xs (replicate n 48))
-    (sel_l (map (top 7) (zip2 below (zip2 sub (zip2 or xs (replicate n 32)) (replicate n 97)) (replicate n 6)))
-    (zip2 add (zip2 sub (zip2 or xs (replicate n 32)) (replicate n 97)) (replicate n 10))
-    (replicate n 255))
+abbrev pub numbers : (ℕ → ℕ → ℕ) → (ℕ → ℕ → ℕ) → (ℕ → ℕ → ℕ) → ℕ → List ℕ → List ℕ
+numbers below sub add n xs =
+    zip2 sub (zip2 sub (sel_l (map (top 7) (zip2 below (zip2 add xs (replicate n 198)) (replicate n 6))) (replicate n 6) (zip2 add xs (replicate n 198))) (replicate n 6)) (replicate n 240)
+
+abbrev pub letters : (ℕ → ℕ → ℕ) → (ℕ → ℕ → ℕ) → (ℕ → ℕ → ℕ) → (ℕ → ℕ → ℕ) → (ℕ → ℕ) → ℕ → List ℕ → List ℕ
+letters below sub add or flip n xs =
+    zip2 add (zip2 sub (zip2 or xs (replicate n 32)) (replicate n 97))
+    (sel_l (map (top 7) (zip2 below (replicate n 10) (map flip (zip2 sub (zip2 or xs (replicate n 32)) (replicate n 97)))))
+    (replicate n 10)
+    (map flip (zip2 sub (zip2 or xs (replicate n 32)) (replicate n 97))))
+
+abbrev pub lanes : (ℕ → ℕ → ℕ) → (ℕ → ℕ → ℕ) → (ℕ → ℕ → ℕ) → (ℕ → ℕ → ℕ) → (ℕ → ℕ) → ℕ → List ℕ → List ℕ
+lanes below sub add or flip n xs =
+    sel_l (map (top 7) (zip2 below (numbers below sub add n xs) (letters below sub add or flip n xs)))
+    (numbers below sub add n xs)
+    (letters below sub add or flip n xs)
+
+lanes-map : (below sub add or : ℕ → ℕ → ℕ) (flip : ℕ → ℕ) (n : ℕ) (xs : List ℕ) → length xs ≡ n → lanes below sub add or flip n xs ≡ map (lane below sub add or flip) xs
+lanes-map below sub add or flip zero [] long = refl
+lanes-map below sub add or flip (suc n) [] long = refl
+lanes-map below sub add or flip zero (x ∷ xs) long = absurd (omega arith)
+lanes-map below sub add or flip (suc n) (x ∷ xs) long = ap (λ ys. lane below sub add or flip x ∷ ys) (lanes-map below sub add or flip n xs (omega arith))
+
+-- a value below 16, or else 255, as of a byte that is no digit
+abbrev small : ℕ → ℕ
+small v = cond (nat_lt v 16) v 255
+
+small_is : (v d : ℕ) → small v ≡ d → d < 16 → v ≡ d
+small_is v d is lt = grind (arith, nat_tests)
 
 -- a test of each byte below n
-abbrev pub reads_digits : (ℕ → ℕ → ℕ) → (ℕ → ℕ → ℕ) → (ℕ → ℕ → ℕ) → (ℕ → ℕ → ℕ) → ℕ → Bool
-reads_digits below sub or add zero = true
-reads_digits below sub or add (suc n) = (lane below sub or add n == digit_value n) && reads_digits below sub or add n
+abbrev pub reads_digits : (ℕ → ℕ) → ℕ → Bool
+reads_digits lane zero = true
+reads_digits lane (suc n) = (small (lane n) == digit_value n) && reads_digits lane n
 
-lane_reads : (below sub or add : ℕ → ℕ → ℕ) → reads_digits below sub or add 256 ≡ true → (x : ℕ) → x < 256 → lane below sub or add x ≡ digit_value x
-lane_reads below sub or add is x lt =
-    (Decides-below_and (λ k. lane below sub or add k == digit_value k) (λ k. lane below sub or add k ≡ digit_value k) (reads_digits below sub or add) (λ k. Decides-eqb (lane below sub or add k) (digit_value k)) refl (λ _. refl) 256).0 is x lt
+digit_read : (lane : ℕ → ℕ) → reads_digits lane 256 ≡ true → (x : ℕ) → x < 256 → IsDigit x → lane x ≡ digit_value x
+digit_read lane is x lt digit =
+    let e : small (lane x) ≡ digit_value x = (Decides-below_and (λ k. small (lane k) == digit_value k) (λ k. small (lane k) ≡ digit_value k) (reads_digits lane) (λ k. Decides-eqb (small (lane k)) (digit_value k)) refl (λ _. refl) 256).0 is x lt in
+    small_is (lane x) (digit_value x) e digit
 
-pub lanes_read : (below sub or add : ℕ → ℕ → ℕ) → reads_digits below sub or add 256 ≡ true → (n : ℕ) (xs : List ℕ) → length xs ≡ n → Each1 (λ x. x < 256) xs → lanes below sub or add n xs ≡ map digit_value xs
-lanes_read below sub or add is n [] long bytes = refl
-lanes_read below sub or add is zero (x ∷ xs) long bytes = absurd (omega arith)
-lanes_read below sub or add is (suc n) (x ∷ xs) long (byte, bytes) =
-    both_sides (lane_reads below sub or add is x byte) (lanes_read below sub or add is n xs (omega arith) bytes)
+digits_read : (lane : ℕ → ℕ) → reads_digits lane 256 ≡ true → (xs : List ℕ) → Each1 (λ x. x < 256) xs → Each1 IsDigit xs → map lane xs ≡ map digit_value xs
+digits_read lane is [] bytes digits = refl
+digits_read lane is (x ∷ xs) (byte, bytes) (digit, digits) =
+    both_sides (digit_read lane is x byte digit) (digits_read lane is xs bytes digits)
 
 -- the lanes that are no digits, as a mask
-abbrev pub wrong : (ℕ → ℕ → ℕ) → ℕ → List ℕ → ℕ
-wrong below n xs = mask_l (map (top 7) (zip2 below (replicate n 15) (map digit_value xs)))
+abbrev pub wrong : (ℕ → ℕ → ℕ) → (ℕ → ℕ) → ℕ → List ℕ → ℕ
+wrong below lane n xs = mask_l (map (top 7) (zip2 below (replicate n 15) (map lane xs)))
 
--- a test of each byte below n
-abbrev pub is_wrong : (ℕ → ℕ → ℕ) → ℕ → ℕ
-is_wrong below x = cond (top 7 (below 15 (digit_value x))) 1 0
+-- a test of each byte below n: whether it is no digit
+abbrev pub is_wrong : (ℕ → ℕ → ℕ) → (ℕ → ℕ) → ℕ → ℕ
+is_wrong below lane x = cond (top 7 (below 15 (lane x))) 1 0
 
 abbrev pub wants_wrong : ℕ → ℕ
 wants_wrong x = cond (nat_lt (digit_value x) 16) 0 1
 
-abbrev pub finds_wrong : (ℕ → ℕ → ℕ) → ℕ → Bool
-finds_wrong below zero = true
-finds_wrong below (suc n) = (is_wrong below n == wants_wrong n) && finds_wrong below n
+abbrev pub finds_wrong : (ℕ → ℕ → ℕ) → (ℕ → ℕ) → ℕ → Bool
+finds_wrong below lane zero = true
+finds_wrong below lane (suc n) = (is_wrong below lane n == wants_wrong n) && finds_wrong below lane n
 
-wrong_found : (below : ℕ → ℕ → ℕ) → finds_wrong below 256 ≡ true → (x : ℕ) → x < 256 → is_wrong below x ≡ wants_wrong x
-wrong_found below is x lt =
-    (Decides-below_and (λ k. is_wrong below k == wants_wrong k) (λ k. is_wrong below k ≡ wants_wrong k) (finds_wrong below) (λ k. Decides-eqb (is_wrong below k) (wants_wrong k)) refl (λ _. refl) 256).0 is x lt
+wrong_found : (below : ℕ → ℕ → ℕ) (lane : ℕ → ℕ) → finds_wrong below lane 256 ≡ true → (x : ℕ) → x < 256 → is_wrong below lane x ≡ wants_wrong x
+wrong_found below lane is x lt =
+    (Decides-below_and (λ k. is_wrong below lane k == wants_wrong k) (λ k. is_wrong below lane k ≡ wants_wrong k) (finds_wrong below lane) (λ k. Decides-eqb (is_wrong below lane k) (wants_wrong k)) refl (λ _. refl) 256).0 is x lt
 
 none_wrong : (v m r : ℕ) → m ≡ cond (nat_lt v 16) 0 1 → m + 2 * r ≡ 0 → (v < 16) × (r ≡ 0)
 none_wrong v m r is none = (grind (arith, nat_tests), omega arith)
@@ -73,19 +101,19 @@ none_wrong v m r is none = (grind (arith, nat_tests), omega arith)
 some_wrong : (v m r : ℕ) → m ≡ cond (nat_lt v 16) 0 1 → v < 16 → r ≡ 0 → m + 2 * r ≡ 0
 some_wrong v m r is small rest = grind (arith, nat_tests)
 
-pub digits_if : (below : ℕ → ℕ → ℕ) → finds_wrong below 256 ≡ true → (n : ℕ) (xs : List ℕ) → length xs ≡ n → Each1 (λ x. x < 256) xs → wrong below n xs ≡ 0 → Each1 IsDigit xs
-digits_if below is n [] long bytes none = tt
-digits_if below is zero (x ∷ xs) long bytes none = absurd (omega arith)
-digits_if below is (suc n) (x ∷ xs) long (byte, bytes) none =
-    let here = none_wrong (digit_value x) (is_wrong below x) (wrong below n xs) (wrong_found below is x byte) none in
-    (here.0, digits_if below is n xs (omega arith) bytes here.1)
+digits_if : (below : ℕ → ℕ → ℕ) (lane : ℕ → ℕ) → finds_wrong below lane 256 ≡ true → (n : ℕ) (xs : List ℕ) → length xs ≡ n → Each1 (λ x. x < 256) xs → wrong below lane n xs ≡ 0 → Each1 IsDigit xs
+digits_if below lane is n [] long bytes none = tt
+digits_if below lane is zero (x ∷ xs) long bytes none = absurd (omega arith)
+digits_if below lane is (suc n) (x ∷ xs) long (byte, bytes) none =
+    let here = none_wrong (digit_value x) (is_wrong below lane x) (wrong below lane n xs) (wrong_found below lane is x byte) none in
+    (here.0, digits_if below lane is n xs (omega arith) bytes here.1)
 
-pub none_if : (below : ℕ → ℕ → ℕ) → finds_wrong below 256 ≡ true → (n : ℕ) (xs : List ℕ) → length xs ≡ n → Each1 (λ x. x < 256) xs → Each1 IsDigit xs → wrong below n xs ≡ 0
-none_if below is zero [] long bytes digits = refl
-none_if below is (suc n) [] long bytes digits = refl
-none_if below is zero (x ∷ xs) long bytes digits = absurd (omega arith)
-none_if below is (suc n) (x ∷ xs) long (byte, bytes) (digit, digits) =
-    some_wrong (digit_value x) (is_wrong below x) (wrong below n xs) (wrong_found below is x byte) digit (none_if below is n xs (omega arith) bytes digits)
+none_if : (below : ℕ → ℕ → ℕ) (lane : ℕ → ℕ) → finds_wrong below lane 256 ≡ true → (n : ℕ) (xs : List ℕ) → length xs ≡ n → Each1 (λ x. x < 256) xs → Each1 IsDigit xs → wrong below lane n xs ≡ 0
+none_if below lane is zero [] long bytes digits = refl
+none_if below lane is (suc n) [] long bytes digits = refl
+none_if below lane is zero (x ∷ xs) long bytes digits = absurd (omega arith)
+none_if below lane is (suc n) (x ∷ xs) long (byte, bytes) (digit, digits) =
+    some_wrong (digit_value x) (is_wrong below lane x) (wrong below lane n xs) (wrong_found below lane is x byte) digit (none_if below lane is n xs (omega arith) bytes digits)
 
 -- a test of each byte below n: it is made of its high and low four bits
 abbrev pub joins : (ℕ → ℕ → ℕ) → (ℕ → ℕ → ℕ) → ℕ → Bool
@@ -111,19 +139,30 @@ bytes_join mul add is (suc n) (h ∷ hs) [] long same high low = refl
 bytes_join mul add is (suc n) (h ∷ hs) (l ∷ ls) long same (digit, high) (digit', low) =
     both_sides (joined_of mul add is (digit_value h) (digit_value l) digit digit') (bytes_join mul add is n hs ls (omega arith) (omega arith) high low)
 
+tells : (below : ℕ → ℕ → ℕ) (lane : ℕ → ℕ) → finds_wrong below lane 256 ≡ true → (xs : List ℕ) → length xs ≡ 16 → Each1 (λ x. x < 256) xs
+    → IsTrue (wrong below lane 16 xs % 2 ^ 64 == 0) ↔ Each1 IsDigit xs
+tells below lane finds xs long bytes =
+    let few : length (map (top 7) (zip2 below (replicate 16 15) (map lane xs))) ≤ 64 = omega (arith, length-map (zip2 below (replicate 16 15) (map lane xs)) (top 7), length-zip2 below (replicate 16 15) (map lane xs) (sym (length-map xs lane ∙ long))) in
+    let small = mask_l-mod (map (top 7) (zip2 below (replicate 16 15) (map lane xs))) 64 few in
+    let tests = Decides-eqb (wrong below lane 16 xs % 2 ^ 64) 0 in (
+      λ is. digits_if below lane finds 16 xs long bytes (sym small ∙ tests.0 is),
+      λ digits. tests.1 (small ∙ none_if below lane finds 16 xs long bytes digits),
+    )
+
 -- what the mask's test tells
-pub test_tells : (below sub or add : ℕ → ℕ → ℕ) → reads_digits below sub or add 256 ≡ true → finds_wrong below 256 ≡ true → (xs : List ℕ) → length xs ≡ 16 → Each1 (λ x. x < 256) xs
-    → IsTrue (mask_l (map (top 7) (zip2 below (replicate 16 15) (lanes below sub or add 16 xs))) % 2 ^ 64 == 0) ↔ Each1 IsDigit xs
-test_tells below sub or add reads finds xs long bytes =
-    let few : length (map (top 7) (zip2 below (replicate 16 15) (map digit_value xs))) ≤ 64 = omega (arith, length-map (zip2 below (replicate 16 15) (map digit_value xs)) (top 7), length-zip2 below (replicate 16 15) (map digit_value xs) (sym (length-map xs digit_value ∙ long))) in
-    let small = mask_l-mod (map (top 7) (zip2 below (replicate 16 15) (map digit_value xs))) 64 few in
-    let tests = Decides-eqb (wrong below 16 xs % 2 ^ 64) 0 in
-    let e = lanes_read below sub or add reads 16 xs long bytes in
-    let told : IsTrue (wrong below 16 xs % 2 ^ 64 == 0) ↔ Each1 IsDigit xs = (
-      λ is. digits_if below finds 16 xs long bytes (sym small ∙ tests.0 is),
-      λ digits. tests.1 (small ∙ none_if below finds 16 xs long bytes digits),
-    ) in
-    rw e told
+pub test_tells : (below sub add or : ℕ → ℕ → ℕ) (flip : ℕ → ℕ) → finds_wrong below (lane below sub add or flip) 256 ≡ true → (xs : List ℕ) → length xs ≡ 16 → Each1 (λ x. x < 256) xs
+    → IsTrue (mask_l (map (top 7) (zip2 below (replicate 16 15) (lanes below sub add or flip 16 xs))) % 2 ^ 64 == 0) ↔ Each1 IsDigit xs
+test_tells below sub add or flip finds xs long bytes =
+    let same = lanes-map below sub add or flip 16 xs long in
+    let told = tells below (lane below sub add or flip) finds xs long bytes in
+    rw same told
+
+-- where it tells that all are digits, the lanes are their values
+pub lanes_read : (below sub add or : ℕ → ℕ → ℕ) (flip : ℕ → ℕ) → reads_digits (lane below sub add or flip) 256 ≡ true → finds_wrong below (lane below sub add or flip) 256 ≡ true → (xs : List ℕ) → length xs ≡ 16 → Each1 (λ x. x < 256) xs
+    → IsTrue (mask_l (map (top 7) (zip2 below (replicate 16 15) (lanes below sub add or flip 16 xs))) % 2 ^ 64 == 0) → lanes below sub add or flip 16 xs ≡ map digit_value xs
+lanes_read below sub add or flip reads finds xs long bytes is =
+    let digits = (test_tells below sub add or flip finds xs long bytes).0 is in
+    lanes-map below sub add or flip 16 xs long ∙ digits_read (lane below sub add or flip) reads xs bytes digits
 
 -- the places of the first and of the second digit of each of sixteen pairs
 abbrev pub first_places : List ℕ

@@ -11,14 +11,30 @@ use std::io::Write;
 /// Writes what a lane answered to a step: `silent` where an event was taken that nothing is sent for.
 ///
 /// The answers to an update and to a drain are written as bytes, since most lines of a script are those.
+#[inline(always)]
 pub fn write_answer<W: Write>(output: &mut W, answer: Answer, silent: &str) -> io::Result<()> {
+    match answer {
+        Answer::Heard(Reply::Answer(number, Verdict::Done)) => {
+            output.write_all(b"answer ")?;
+            output.write_all(Buffer::new().format(number).as_bytes())?;
+            output.write_all(b" nil\n")
+        }
+        Answer::Took => output.write_all(b"took\n"),
+        _ => write_words(output, answer, silent),
+    }
+}
+
+/// Writes any answer. Kept apart, it takes nothing from the frequent ones.
+#[cold]
+#[inline(never)]
+fn write_words<W: Write>(output: &mut W, answer: Answer, silent: &str) -> io::Result<()> {
     match answer {
         Answer::Heard(reply) => write_reply(output, reply, silent),
         Answer::Refused(refusal) => writeln!(output, "refused {refusal}"),
-        Answer::Busy => output.write_all(b"busy\n"),
-        Answer::Took => output.write_all(b"took\n"),
-        Answer::Empty => output.write_all(b"empty\n"),
-        Answer::NoLog => output.write_all(b"no log\n"),
+        Answer::Busy => writeln!(output, "busy"),
+        Answer::Took => writeln!(output, "took"),
+        Answer::Empty => writeln!(output, "empty"),
+        Answer::NoLog => writeln!(output, "no log"),
         Answer::Chunk(chunk) => {
             let first_line = chunk.first_line;
             let lines = chunk.lines;
@@ -31,11 +47,7 @@ pub fn write_answer<W: Write>(output: &mut W, answer: Answer, silent: &str) -> i
 fn write_reply<W: Write>(output: &mut W, reply: Reply, silent: &str) -> io::Result<()> {
     match reply {
         Reply::Silent => writeln!(output, "{silent}"),
-        Reply::Answer(number, Verdict::Done) => {
-            output.write_all(b"answer ")?;
-            output.write_all(Buffer::new().format(number).as_bytes())?;
-            output.write_all(b" nil\n")
-        }
+        Reply::Answer(number, Verdict::Done) => writeln!(output, "answer {number} nil"),
         Reply::Answer(number, verdict) => {
             writeln!(output, "answer {number} exception {verdict}")
         }

@@ -39,20 +39,19 @@ fn digit_value(digit: u8) -> u8
     }
 }
 
-/// What each of sixteen bytes stands for as a digit, and whether all are digits.
+/// What each of sixteen bytes stands for as a digit, and whether all are digits. Of a byte that is none it is 16 or more.
 #[inline(always)]
 fn digit_values(digits: u8x16) -> (u8x16, bool)
     requires long { length digits ≡ 16 }
     requires bytes { Each1 (λ x. x < 256) digits }
-    ensures values { result.0 ≡ map digit_value digits }
+    ensures values { IsTrue result.1 → result.0 ≡ map digit_value digits }
     ensures good { IsTrue result.1 ↔ Each1 IsDigit digits }
 {
-    let number = digits - u8x16::splat(b'0');
+    // `0` to `9` go to the last ten bytes of all, of which the six before them are taken away.
+    let last = digits + u8x16::splat(255 - b'9');
+    let number = last.saturating_sub(u8x16::splat(6)) - u8x16::splat(240);
     let letter = (digits | u8x16::splat(0x20)) - u8x16::splat(b'a');
-    let of_letter = letter
-        .simd_lt(u8x16::splat(6))
-        .select(letter + u8x16::splat(10), u8x16::splat(255));
-    let values = number.simd_lt(u8x16::splat(10)).select(number, of_letter);
+    let values = number.simd_min(letter.saturating_add(u8x16::splat(10)));
     let wrong = values.simd_gt(u8x16::splat(15)).to_bitmask();
     (values, wrong == 0)
 }

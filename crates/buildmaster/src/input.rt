@@ -1,30 +1,76 @@
-//! The whole of a replay's input.
+//! The whole of a replay's input, in pieces.
 
-use std::alloc::Global;
-use std::io;
+ghost use Rattle.std.specs.Prelude.{◌≡◌, ◌<◌, ◌≤◌, ◌++◌, ◌∷◌, length, IfOk, IfSome, MatchOption};
+
+use memchr::memrchr;
+use std::alloc::{AllocError, Global};
 use std::io::Read;
+use std::{io, mem};
 
 /// A script may have so many bytes.
 const MOST_BYTES: usize = 67_108_864;
 
-/// How many bytes one read may give.
+/// How many bytes one read may give, and how many a piece has at least, but for the last one.
 const PIECE: usize = 65_536;
 
-/// Reads the input to its end. An interrupted read is an error like any other, and so is an input
-/// that is too long.
-pub fn read_input<R: Read + Drop>(alloc: Global, input: R) -> io::Result<Vec<u8>> {
+/// Reads the input to its end, in pieces that part at line ends, which belong to none of them: so each is some whole
+/// lines, and can be given back as soon as these are answered. An interrupted read is an error like any other, and so is
+/// an input that is too long.
+pub fn read_input<R: Read + Drop>(alloc: Global, input: R) -> io::Result<Vec<Vec<u8>>> {
     let mut input = input;
-    let mut bytes = Vec::new(alloc);
+    let mut pieces = Vec::new(alloc);
     let mut piece = vec![in alloc; 0u8; PIECE]?;
+    // So many bytes of the piece were read, and so many in all.
+    let mut filled: usize = 0;
+    let mut total: usize = 0;
     for _ in 0..=MOST_BYTES {
-        let count = input.read(piece.as_mut_slice())?;
+        let count = input.read(&mut piece[filled..])?;
         if count == 0 {
-            return Ok(bytes);
+            piece.truncate(filled);
+            pieces.push(piece)?;
+            return Ok(pieces);
         }
-        if count > MOST_BYTES - bytes.len() {
+        if count > MOST_BYTES - total {
             break;
         }
-        bytes.extend_from_slice(&piece[..count])?;
+        total += count;
+        filled += count;
+        if filled == piece.len() {
+            filled = make_room(alloc, &mut pieces, &mut piece)?;
+        }
     }
     Err(io::Error::from(io::ErrorKind::FileTooLarge))
+}
+
+/// Makes room behind the bytes of a full piece, and answers how many bytes stand before it. Where the piece has a line end,
+/// the lines before the last one go to the pieces, and what stands behind it begins the next piece.
+fn make_room(
+    alloc: Global,
+    pieces: &mut Vec<Vec<u8>>,
+    piece: &mut Vec<u8>,
+) -> Result<usize, AllocError>
+    requires { length piece.old.items ≤ 67108864 }
+    ensures { IfOk result (λ filled. (filled ≤ length piece.old.items) × (filled < length piece.new.items)) }
+{
+    let mut filled = piece.len();
+    if let Some(rest) = cut_last_line(alloc, piece)? {
+        filled = rest.len();
+        pieces.push(mem::replace(piece, rest))?;
+    }
+    // A line of many pieces is searched for its end in pieces that double.
+    piece.resize(filled + filled.max(PIECE), 0)?;
+    Ok(filled)
+}
+
+/// Takes what stands behind the last line end away, with that line end. None where there is no line end.
+fn cut_last_line(alloc: Global, piece: &mut Vec<u8>) -> Result<Option<Vec<u8>>, AllocError>
+    ensures cut { IfOk result (λ rest. MatchOption rest (piece.new.items ≡ piece.old.items) (λ r. piece.old.items ≡ piece.new.items ++ 10 ∷ r.items)) }
+    ensures shorter { IfOk result (λ rest. IfSome rest (λ r. length r.items ≤ length piece.old.items)) }
+{
+    let Some(end) = memrchr(b'\n', piece.as_slice()) else {
+        return Ok(None);
+    };
+    let rest = Vec::from_slice(alloc, &piece[end + 1..])?;
+    piece.truncate(end);
+    Ok(Some(rest))
 }

@@ -82,11 +82,17 @@ fn replay<R: Read + Drop, W: Write + Drop>(
         world: World::new(alloc, capacity as usize)?,
         arena: Bump::new(alloc),
     };
-    let ended = lane.answer_lines(script.as_slice(), &mut output);
+    let ended = lane.answer_script(script, &mut output);
     output.flush()?;
     // The program ends next, and its memory goes as a whole.
     mem::forget(lane);
     ended
+}
+
+#[cold]
+#[inline(never)]
+fn write_unread<W: Write>(output: &mut W, unread: &Unread) -> io::Result<()> {
+    writeln!(output, "bad {unread}")
 }
 
 /// A lane whose steps come from a script.
@@ -99,50 +105,66 @@ struct Lane {
 }
 
 impl Lane {
-    fn answer_lines<W: Write>(&mut self, script: &[u8], output: &mut W) -> Result<(), Halt> {
+    /// Answers a script, a piece of whole lines at a time. A piece is given back once its lines are answered, so the lane
+    /// grows into its memory.
+    fn answer_script<W: Write>(
+        &mut self,
+        script: Vec<Vec<u8>>,
+        output: &mut W,
+    ) -> Result<(), Halt> {
         let mut number: u64 = 0;
-        let mut left = Some(script);
+        for piece in script {
+            self.answer_lines(piece.as_slice(), &mut number, output)?;
+        }
+        Ok(())
+    }
+
+    /// Answers the lines of a piece, of which the first has the number after `number`.
+    fn answer_lines<W: Write>(
+        &mut self,
+        piece: &[u8],
+        number: &mut u64,
+        output: &mut W,
+    ) -> Result<(), Halt> {
+        let mut left = Some(piece);
         'lines: while let Some(text) = left {
             let (line, rest) = cut_line(text);
-            number = number.saturating_add(1);
+            *number = number.saturating_add(1);
             match read_line(line) {
                 ScriptLine::Blank => {}
-                ScriptLine::Unknown => return Err(Halt::NotUnderstood(number)),
-                ScriptLine::Asks(request) => self.answer(number, request, output)?,
+                ScriptLine::In(digits) => self.take_in(*number, digits, output)?,
+                ScriptLine::Drain => self.step(Step::Drain, "ok", output)?,
+                ScriptLine::Asks(request) => self.answer(request, output)?,
+                ScriptLine::Unknown => return Err(Halt::NotUnderstood(*number)),
             }
             left = rest;
         }
         Ok(())
     }
 
-    fn answer<W: Write>(
-        &mut self,
-        number: u64,
-        request: Request<'_>,
-        output: &mut W,
-    ) -> Result<(), Halt> {
-        match request {
-            Request::Up => self.step(Step::Hear(Event::Up), "ok", output),
-            Request::Cut => self.step(Step::Hear(Event::Cut), "ok", output),
-            Request::Down => self.step(Step::Hear(Event::Down), "ok", output),
-            Request::Go => self.step(Step::Hear(Event::Go), "ok", output),
-            Request::Stop(command) => self.step(Step::Hear(Event::Stop(command)), "ok", output),
-            Request::In(digits) => self.take_in(number, digits, output),
-            Request::Drain => self.step(Step::Drain, "ok", output),
+    /// Answers what is neither a message nor a drain. Kept apart, it takes nothing from these.
+    #[cold]
+    #[inline(never)]
+    fn answer<W: Write>(&mut self, request: Request<'_>, output: &mut W) -> Result<(), Halt> {
+        let step = match request {
+            Request::Up => Step::Hear(Event::Up),
+            Request::Cut => Step::Hear(Event::Cut),
+            Request::Down => Step::Hear(Event::Down),
+            Request::Go => Step::Hear(Event::Go),
+            Request::Stop(command) => Step::Hear(Event::Stop(command)),
             Request::Look {
                 command,
                 offset,
                 limit,
                 name,
-            } => {
-                let name = Text::from_str(self.alloc, name)?;
-                self.step(Step::Look(command, name, offset, limit), "ok", output)
-            }
-            Request::Log { command, name } => self.show_log(command, name, output),
-        }
+            } => Step::Look(command, Text::from_str(self.alloc, name)?, offset, limit),
+            Request::Log { command, name } => return self.show_log(command, name, output),
+        };
+        self.step(step, "ok", output)
     }
 
     /// Does the step, and answers `silent` where an event was taken that nothing is sent for.
+    #[inline(always)]
     fn step<W: Write>(&mut self, step: Step, silent: &str, output: &mut W) -> Result<(), Halt> {
         match self.world.step(step) {
             Ok(answer) => Ok(write_answer(output, answer, silent)?),
@@ -164,7 +186,7 @@ impl Lane {
             Ok(event) => self.step(Step::Hear(event), "noted", output),
             Err(Unread::Hex) => Err(Halt::NotUnderstood(number)),
             Err(Unread::OutOfMemory) => Err(Halt::Failed),
-            Err(unread) => Ok(writeln!(output, "bad {unread}")?),
+            Err(unread) => Ok(write_unread(output, &unread)?),
         }
     }
 

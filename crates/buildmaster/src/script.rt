@@ -9,7 +9,7 @@ use memchr::memchr;
 /// header lines, as in the Buildbot manual.
 const STDIO: &str = "stdio";
 
-/// What one line of a script asks.
+/// What a line of a script asks that is neither a message nor a drain.
 #[derive(Clone, Copy, Debug, PartialEq, Eq)]
 pub enum Request<'a> {
     /// A connection of the worker begins.
@@ -22,10 +22,6 @@ pub enum Request<'a> {
     Go,
     /// The command with this number is ordered to stop.
     Stop(u64),
-    /// A message of the worker, as hex digits with spaces among them.
-    In(&'a [u8]),
-    /// One item goes from the queue into the book.
-    Drain,
     /// So many lines of a log at the most, from the offset on, as viewers see it.
     Look {
         command: u64,
@@ -45,6 +41,10 @@ pub enum Request<'a> {
 pub enum ScriptLine<'a> {
     /// An empty line or a comment.
     Blank,
+    /// A message of the worker, as hex digits with spaces among them.
+    In(&'a [u8]),
+    /// One item goes from the queue into the book.
+    Drain,
     Asks(Request<'a>),
     /// A line of another form.
     Unknown,
@@ -64,19 +64,27 @@ pub fn cut_line(text: &[u8]) -> (&[u8], Option<&[u8]>)
 
 /// Reads one line, without its line end. Words stand apart by exactly one space.
 pub fn read_line(line: &[u8]) -> ScriptLine<'_> {
-    let request = match line {
-        [] | [b'#', ..] => return ScriptLine::Blank,
-        [b'i', b'n', b' ', digits @ ..] => Some(Request::In(digits)),
-        b"drain" => Some(Request::Drain),
+    match line {
+        [] | [b'#', ..] => ScriptLine::Blank,
+        [b'i', b'n', b' ', digits @ ..] => ScriptLine::In(digits),
+        b"drain" => ScriptLine::Drain,
+        _ => match read_request(line) {
+            Some(request) => ScriptLine::Asks(request),
+            None => ScriptLine::Unknown,
+        },
+    }
+}
+
+/// Reads a line that is neither a message nor a drain. Kept apart, it takes nothing from these.
+#[cold]
+#[inline(never)]
+fn read_request(line: &[u8]) -> Option<Request<'_>> {
+    match line {
         b"up" => Some(Request::Up),
         b"cut" => Some(Request::Cut),
         b"down" => Some(Request::Down),
         b"go" => Some(Request::Go),
         _ => read_words(line),
-    };
-    match request {
-        Some(request) => ScriptLine::Asks(request),
-        None => ScriptLine::Unknown,
     }
 }
 

@@ -6,6 +6,7 @@ mod faults;
 mod forms;
 mod memory;
 mod messages;
+mod pieces;
 mod rows;
 mod schedules;
 mod viewing;
