@@ -2,8 +2,6 @@ use Rattle.std.proofs.Common.{◌≡◌, [], ◌∷◌, ◌++◌, map, Ok, sym, 
 use Rattle.std.proofs.lemmas.List.{map_push}
 use Rattle.bm_value.specs.declared.row.Plain.{Plain}
 use Rattle.bm_value.specs.declared.row.Row.TheVariants as rows
-use Rattle.bm_value.specs.declared.row.Plain.{Plain}
-use Rattle.bm_value.specs.declared.row.Row.TheVariants as rows
 use Rattle.bm_value.specs.View.{tree, items_tree, pair_tree, pairs_tree}
 use Rattle.bm_value.specs.Reading.{value_at, items_at, pairs_at}
 use Rattle.bm_value.proofs.Values.{behind_first, no_byte, gives_row, array_read, map_read, items_tree-of, pairs_tree-of, tree-Array, tree-Map}
