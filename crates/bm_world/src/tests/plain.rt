@@ -1,78 +1,11 @@
 //! A lane by its definition: the trace is cut, and each look walks the events that viewers see.
 
 use super::super::*;
-use bm_lines::{Letter, LogName, Parcel, Text, content};
-use bm_session::{Body, Event, Refusal, Reply, Session};
+use super::script::{Script, event};
+use bm_lines::{Text, content};
+use bm_session::{Event, Refusal, Reply, Session};
 use bm_store::Chunk;
 use std::alloc::{AllocError, Global};
-
-pub const NAMES: [&str; 3] = ["stdio", "l", "m"];
-
-pub const TEXTS: [&str; 4] = ["a\n", "b\nc", "", "d\n\n"];
-
-/// A step that can be made twice.
-#[derive(Clone, Copy)]
-pub enum Script {
-    Up,
-    Go,
-    Stop(u64),
-    Cut,
-    Down,
-    Update(u64, u64, usize, usize),
-    Complete(u64, u64, bool),
-    Answered(u64, bool),
-    BadArgs(u64),
-    Drain,
-    Look(u64, usize, u64, u64),
-}
-
-fn parcel(alloc: Global, name: usize, text: usize) -> Result<Parcel, AllocError> {
-    let mut parcel = Parcel::new(alloc);
-    let Some(name) = LogName::new(alloc, NAMES[name % 3])? else {
-        return Err(AllocError);
-    };
-    parcel.add(&name, Letter::E, TEXTS[text % 4])?;
-    Ok(parcel)
-}
-
-fn event(alloc: Global, script: Script) -> Result<Option<Event>, AllocError> {
-    Ok(Some(match script {
-        Script::Up => Event::Up,
-        Script::Go => Event::Go,
-        Script::Stop(k) => Event::Stop(k),
-        Script::Cut => Event::Cut,
-        Script::Down => Event::Down,
-        Script::Update(seq, command, name, text) => {
-            let parcel = parcel(alloc, name, text)?;
-            let rc = None;
-            Event::In(
-                seq,
-                Body::Update {
-                    command,
-                    parcel,
-                    rc,
-                },
-            )
-        }
-        Script::Complete(seq, command, fault) => Event::In(seq, Body::Complete { command, fault }),
-        Script::Answered(seq, fault) => Event::In(seq, Body::Answered { fault }),
-        Script::BadArgs(seq) => Event::bad_args(seq),
-        Script::Drain | Script::Look(_, _, _, _) => return Ok(None),
-    }))
-}
-
-pub fn step(alloc: Global, script: Script) -> Result<Step, AllocError> {
-    if let Some(event) = event(alloc, script)? {
-        return Ok(Step::Hear(event));
-    }
-    match script {
-        Script::Look(k, name, offset, limit) => {
-            let name = Text::from_str(alloc, NAMES[name % 3])?;
-            Ok(Step::Look(k, name, offset, limit))
-        }
-        _ => Ok(Step::Drain),
-    }
-}
 
 /// The events that were taken, how many of them stood when each item came, and how many items viewers see.
 #[derive(Drop)]
@@ -100,9 +33,7 @@ impl Plain {
             return self.hear(event, script);
         }
         match script {
-            Script::Look(k, name, offset, limit) => {
-                self.look(alloc, k, NAMES[name % 3], offset, limit)
-            }
+            Script::Look(k, name, offset, limit) => self.look(alloc, k, name, offset, limit),
             _ => Ok(self.drain()),
         }
     }

@@ -3,7 +3,9 @@
 ghost use Rattle.std.specs.Prelude.{◌≤◌, ◌<◌};
 
 use super::super::*;
-use super::plain::{Plain, Script, step};
+use super::plain::Plain;
+use super::script::{Script, step};
+use bm_lines::Letter;
 use rand_core::utils::NextWord;
 use rand_pcg::Pcg32;
 use std::alloc::{AllocError, Global};
@@ -12,6 +14,10 @@ use std::test::Fail;
 const SCRIPTS: u64 = 320;
 
 const STEPS: u64 = 60;
+
+const NAMES: [&str; 3] = ["stdio", "l", "m"];
+
+const TEXTS: [&str; 4] = ["a\n", "b\nc", "", "d\n\n"];
 
 fn agree(a: &Answer, b: &Answer) -> bool {
     match (a, b) {
@@ -39,8 +45,8 @@ fn below(random: &mut Pcg32, n: u64) -> u64
 fn script(random: &mut Pcg32) -> Script {
     let seq = below(random, 40);
     let k = below(random, 8).saturating_sub(4);
-    let name = below(random, 3) as usize;
-    let text = below(random, 4) as usize;
+    let name = NAMES[below(random, 3) as usize];
+    let text = TEXTS[below(random, 4) as usize];
     let fault = below(random, 2) == 0;
     match below(random, 64) {
         0..=2 => Script::Up,
@@ -48,7 +54,7 @@ fn script(random: &mut Pcg32) -> Script {
         4 | 5 => Script::Cut,
         6..=10 => Script::Go,
         11 => Script::Stop(k),
-        12..=31 => Script::Update(seq, k, name, text),
+        12..=31 => Script::Update(seq, k, name, Letter::E, text),
         32 => Script::Complete(seq, k, fault),
         33 => Script::Answered(k, fault),
         34 => Script::BadArgs(seq),

@@ -1,0 +1,243 @@
+//! Worked scripts: each row is a step and its answer.
+
+use super::says::Says::*;
+use super::script::Script::*;
+use super::{play_copies, played, run};
+use bm_lines::Letter::{E, H, O};
+use bm_session::{Refusal, Results};
+use std::test::Fail;
+
+#[test]
+fn nothing_is_there_at_first(rt: HostRuntime) -> Result<(), Fail> {
+    let rows = [
+        (Look(0, "stdio", 0, 10), NoLog),
+        (Stop(0), Refused(Refusal::NotUp)),
+        (Drain, Empty),
+    ];
+    played(&rt, 4, &rows)?;
+    Ok(())
+}
+
+#[test]
+fn lines_are_seen_once_drained(rt: HostRuntime) -> Result<(), Fail> {
+    let rows = [
+        (Up, Silent),
+        (Go, Start(0, 0)),
+        (Update(0, 0, "stdio", O, "a\n"), Done(0)),
+        (Look(0, "stdio", 0, 10), NoLog),
+        (Drain, Took),
+        (Look(0, "stdio", 0, 10), Lines(0, 0, "")),
+        (Drain, Took),
+        (Look(0, "stdio", 0, 10), Lines(0, 1, "oa\n")),
+        (Drain, Empty),
+    ];
+    played(&rt, 4, &rows)?;
+    Ok(())
+}
+
+#[test]
+fn full_queue_is_busy_until_drained(rt: HostRuntime) -> Result<(), Fail> {
+    let rows = [
+        (Up, Silent),
+        (Go, Start(0, 0)),
+        (Down, Busy),
+        (Drain, Took),
+        (Down, Silent),
+        (Up, Silent),
+        (Look(0, "stdio", 0, 9), Lines(0, 0, "")),
+    ];
+    run(&rt, &rows)
+}
+
+#[test]
+fn busy_lane_takes_after_drain(rt: HostRuntime) -> Result<(), Fail> {
+    let rows = [
+        (Up, Silent),
+        (Go, Start(0, 0)),
+        (Update(0, 0, "stdio", O, "a\n"), Done(0)),
+        (Update(1, 0, "stdio", O, "a\n"), Done(1)),
+        (Update(2, 0, "stdio", O, "a\n"), Done(2)),
+        (Update(3, 0, "stdio", O, "a\n"), Busy),
+        (Stop(0), Interrupt(1, 0)),
+        (Drain, Took),
+        (Update(3, 0, "stdio", O, "a\n"), Done(3)),
+        (Look(0, "stdio", 0, 9), Lines(0, 0, "")),
+    ];
+    let world = played(&rt, 4, &rows)?;
+    assert_eq!(rt; world.session().trace().len(), 7);
+    Ok(())
+}
+
+#[test]
+fn numbers_start_afresh_after_a_loss(rt: HostRuntime) -> Result<(), Fail> {
+    let rows = [
+        (Up, Silent),
+        (Go, Start(0, 0)),
+        (Update(0, 0, "stdio", O, "a\n"), Done(0)),
+        (Down, Silent),
+        (Up, Silent),
+        (Update(0, 0, "stdio", O, "a\n"), NoCommand(0)),
+        (Go, Start(0, 1)),
+        (Update(1, 1, "stdio", O, "n\n"), Done(1)),
+        (Update(0, 1, "stdio", O, "z\n"), NoCommand(0)),
+        (Drain, Took),
+        (Drain, Took),
+        (Drain, Took),
+        (Drain, Took),
+        (Drain, Took),
+        (Look(0, "stdio", 0, 9), Lines(0, 1, "oa\n")),
+        (Look(1, "stdio", 0, 9), Lines(0, 1, "on\n")),
+        (Drain, Empty),
+    ];
+    let world = played(&rt, 8, &rows)?;
+    assert_eq!(rt; world.session().outcome(0), Some(Results::Retry));
+    assert_eq!(rt; world.session().outcome(1), None);
+    Ok(())
+}
+
+#[test]
+fn update_after_complete_is_not_kept(rt: HostRuntime) -> Result<(), Fail> {
+    let rows = [
+        (Up, Silent),
+        (Go, Start(0, 0)),
+        (Stop(0), Interrupt(1, 0)),
+        (Complete(0, 0, false), Done(0)),
+        (Update(1, 0, "stdio", O, "b\n"), NoCommand(1)),
+        (Complete(0, 0, false), Done(0)),
+        (Drain, Took),
+        (Drain, Took),
+        (Drain, Empty),
+        (Look(0, "stdio", 0, 9), Lines(0, 0, "")),
+    ];
+    let world = played(&rt, 4, &rows)?;
+    assert_eq!(rt; world.session().outcome(0), Some(Results::Cancelled));
+    Ok(())
+}
+
+#[test]
+fn four_commands_are_open_at_most(rt: HostRuntime) -> Result<(), Fail> {
+    let rows = [
+        (Up, Silent),
+        (Up, Refused(Refusal::AlreadyUp)),
+        (Go, Start(0, 0)),
+        (Go, Start(1, 1)),
+        (Go, Start(2, 2)),
+        (Go, Start(3, 3)),
+        (Go, Refused(Refusal::TooManyOpen)),
+    ];
+    played(&rt, 8, &rows)?;
+    Ok(())
+}
+
+#[test]
+fn named_log_is_seen_under_its_name(rt: HostRuntime) -> Result<(), Fail> {
+    let rows = [
+        (Up, Silent),
+        (Go, Start(0, 0)),
+        (Update(0, 0, "l", O, "x\n"), Done(0)),
+        (Look(0, "l", 0, 10), NoLog),
+        (Drain, Took),
+        (Drain, Took),
+        (Look(0, "l", 0, 9), Lines(0, 1, "ox\n")),
+        (Look(0, "stdio", 0, 9), Lines(0, 0, "")),
+        (Look(0, "m", 0, 10), NoLog),
+    ];
+    played(&rt, 4, &rows)?;
+    Ok(())
+}
+
+#[test]
+fn resumed_session_doubles_no_line(rt: HostRuntime) -> Result<(), Fail> {
+    let rows = [
+        (Up, Silent),
+        (Go, Start(0, 0)),
+        (Update(0, 0, "stdio", O, "a\n"), Done(0)),
+        (Update(1, 0, "stdio", O, "b\n"), Done(1)),
+        (Cut, Silent),
+        (Up, Silent),
+        (Update(1, 0, "stdio", O, "b\n"), Done(1)),
+        (Update(2, 0, "stdio", O, "c\n"), Done(2)),
+        (Drain, Took),
+        (Drain, Took),
+        (Drain, Took),
+        (Drain, Took),
+        (Drain, Empty),
+        (Look(0, "stdio", 0, 9), Lines(0, 3, "oa\nob\noc\n")),
+    ];
+    let world = played(&rt, 8, &rows)?;
+    assert_eq!(rt; world.session().outcome(0), None);
+    Ok(())
+}
+
+#[test]
+fn cut_session_is_resumed_or_given_up(rt: HostRuntime) -> Result<(), Fail> {
+    let rows = [
+        (Up, Silent),
+        (Go, Start(0, 0)),
+        (Cut, Silent),
+        (Cut, Refused(Refusal::NotUp)),
+        (Go, Refused(Refusal::NotUp)),
+        (Up, Silent),
+        (Go, Start(1, 1)),
+        (Cut, Silent),
+        (Down, Silent),
+        (Up, Silent),
+        (Go, Start(0, 2)),
+    ];
+    let world = played(&rt, 8, &rows)?;
+    assert_eq!(rt; world.session().outcome(0), Some(Results::Retry));
+    Ok(())
+}
+
+#[test]
+fn lines_are_seen_from_a_place_on(rt: HostRuntime) -> Result<(), Fail> {
+    let rows = [
+        (Up, Silent),
+        (Go, Start(0, 0)),
+        (Update(0, 0, "stdio", O, "a\nb\n"), Done(0)),
+        (Update(1, 0, "stdio", E, "c\n"), Done(1)),
+        (Update(2, 0, "stdio", H, "d\n"), Done(2)),
+        (Drain, Took),
+        (Drain, Took),
+        (Drain, Took),
+        (Drain, Took),
+        (Look(0, "stdio", 1, 2), Lines(1, 2, "ob\nec\n")),
+        (Look(0, "stdio", 3, 9), Lines(3, 1, "hd\n")),
+        (Look(0, "stdio", 4, 9), Lines(4, 0, "")),
+        (Look(0, "stdio", 7, 9), Lines(7, 0, "")),
+        (Look(0, "stdio", 1, 0), Lines(1, 0, "")),
+    ];
+    played(&rt, 4, &rows)?;
+    Ok(())
+}
+
+#[test]
+fn refused_start_ends_its_command(rt: HostRuntime) -> Result<(), Fail> {
+    let rows = [
+        (Up, Silent),
+        (Go, Start(0, 0)),
+        (Answered(0, true), Silent),
+        (Update(0, 0, "stdio", O, "a\n"), NoCommand(0)),
+        (Stop(0), Refused(Refusal::NoSuchCommand)),
+    ];
+    let world = played(&rt, 4, &rows)?;
+    assert_eq!(rt; world.session().outcome(0), Some(Results::Exception));
+    Ok(())
+}
+
+#[test]
+fn copies_are_equal(rt: HostRuntime) -> Result<(), Fail> {
+    let rows = [
+        (Up, Silent),
+        (Up, Refused(Refusal::AlreadyUp)),
+        (Go, Start(0, 0)),
+        (Update(0, 0, "stdio", O, "a\n"), Busy),
+        (Look(0, "stdio", 0, 1), NoLog),
+        (Drain, Took),
+        (Update(0, 0, "stdio", O, "a\n"), Done(0)),
+        (Drain, Took),
+        (Drain, Empty),
+        (Look(0, "stdio", 0, 1), Lines(0, 1, "oa\n")),
+    ];
+    play_copies(&rt, &rows)
+}
