@@ -63,31 +63,47 @@ fn answer(world: &mut World, step: Step) -> Result<Answer, AllocError> {
     Err(AllocError)
 }
 
+/// The answer to the step of a script.
+fn answer_to(alloc: Global, world: &mut World, script: Script) -> Result<Answer, AllocError> {
+    let step = again(|| step(alloc, script))?;
+    answer(world, step)
+}
+
+/// A copy of the answer to a copy of the step.
+fn copied_answer_to(
+    alloc: Global,
+    world: &mut World,
+    script: Script,
+) -> Result<Answer, AllocError> {
+    let step = again(|| step(alloc, script))?;
+    let step = again(|| step.copy())?;
+    let answer = answer(world, step)?;
+    again(|| answer.copy())
+}
+
+fn assert_says(rt: &impl Abort, n: usize, says: &Says, answer: &Answer) {
+    assert!(rt; says.is(answer), "row {n}: {answer:?}");
+}
+
 /// A world after the steps of the rows, each of which had its answer.
 fn played(rt: &(impl AllocGlobal + Abort), capacity: usize, rows: &[Row]) -> Result<World, Fail>
     requires some { 1 ≤ capacity }
     requires few { capacity ≤ 65536 }
 {
-    let alloc = rt.alloc();
-    let mut world = new_world(alloc, capacity)?;
+    let mut world = new_world(rt.alloc(), capacity)?;
     for (n, (script, says)) in rows.iter().enumerate() {
-        let step = again(|| step(alloc, *script))?;
-        let answer = answer(&mut world, step)?;
-        assert!(rt; says.is(&answer), "row {n}: {answer:?}");
+        let answer = answer_to(rt.alloc(), &mut world, *script)?;
+        assert_says(rt, n, says, &answer);
     }
     Ok(world)
 }
 
-/// Plays rows by copies: each step is a copy, and each answer is copied before it is compared.
+/// Plays the rows by copies of their steps and of the answers.
 fn play_copies(rt: &(impl AllocGlobal + Abort), rows: &[Row]) -> Result<(), Fail> {
-    let alloc = rt.alloc();
-    let mut world = new_world(alloc, 1)?;
+    let mut world = new_world(rt.alloc(), 1)?;
     for (n, (script, says)) in rows.iter().enumerate() {
-        let step = again(|| step(alloc, *script))?;
-        let step = again(|| step.copy())?;
-        let answer = answer(&mut world, step)?;
-        let answer = again(|| answer.copy())?;
-        assert!(rt; says.is(&answer), "row {n}: {answer:?}");
+        let answer = copied_answer_to(rt.alloc(), &mut world, *script)?;
+        assert_says(rt, n, says, &answer);
     }
     Ok(())
 }
@@ -107,7 +123,7 @@ fn run(rt: &(impl AllocGlobal + Abort), rows: &[Row]) -> Result<(), Fail> {
     let answers = again(|| try_run(alloc, rows))?;
     assert_eq!(rt; answers.len(), rows.len());
     for (n, (answer, (_, says))) in answers.iter().zip(rows).enumerate() {
-        assert!(rt; says.is(answer), "row {n}: {answer:?}");
+        assert_says(rt, n, says, answer);
     }
     Ok(())
 }

@@ -17,6 +17,15 @@ pub struct Plain {
     shown: usize,
 }
 
+/// Takes an event that was taken before by another session.
+fn take(session: &mut Session, event: Event) -> Result<(), AllocError> {
+    let Ok(plan) = session.ready(event) else {
+        return Err(AllocError);
+    };
+    let _ = session.commit(plan);
+    Ok(())
+}
+
 impl Plain {
     pub fn new(alloc: Global, capacity: usize) -> Result<Plain, AllocError> {
         Ok(Plain {
@@ -44,19 +53,26 @@ impl Plain {
             Err((_, Refusal::Mem)) => return Err(AllocError),
             Err((_, reason)) => return Ok(Answer::Refused(reason)),
         };
-        let item = plan.take_item();
-        if item.is_some()
-            && self.productive.len() - self.shown.min(self.productive.len()) >= self.capacity
-        {
+        let has_item = plan.take_item().is_some();
+        if has_item && self.is_full() {
             let _ = self.session.withdraw(plan);
             return Ok(Answer::Busy);
         }
         let (reply, _): (Reply, _) = self.session.commit(plan);
+        self.keep(script, has_item)?;
+        Ok(Answer::Heard(reply))
+    }
+
+    fn is_full(&self) -> bool {
+        self.productive.len().saturating_sub(self.shown) >= self.capacity
+    }
+
+    fn keep(&mut self, script: Script, has_item: bool) -> Result<(), AllocError> {
         self.taken.push(script)?;
-        if item.is_some() {
+        if has_item {
             self.productive.push(self.taken.len())?;
         }
-        Ok(Answer::Heard(reply))
+        Ok(())
     }
 
     fn drain(&mut self) -> Answer {
@@ -77,10 +93,7 @@ impl Plain {
         let mut session = Session::new(alloc)?;
         for script in self.taken.iter().take(count) {
             if let Some(event) = event(alloc, *script)? {
-                let Ok(plan) = session.ready(event) else {
-                    return Err(AllocError);
-                };
-                let _ = session.commit(plan);
+                take(&mut session, event)?;
             }
         }
         Ok(session)

@@ -42,24 +42,45 @@ fn below(random: &mut Pcg32, n: u64) -> u64
     u64::from(random.next_word()) % n
 }
 
-fn script(random: &mut Pcg32) -> Script {
-    let seq = below(random, 40);
-    let k = below(random, 8).saturating_sub(4);
-    let name = NAMES[below(random, 3) as usize];
-    let text = TEXTS[below(random, 4) as usize];
-    let fault = below(random, 2) == 0;
-    match below(random, 64) {
+/// What a step is made of.
+#[derive(Clone, Copy)]
+struct Parts {
+    kind: u64,
+    seq: u64,
+    k: u64,
+    name: &'static str,
+    text: &'static str,
+    fault: bool,
+    offset: u64,
+    limit: u64,
+}
+
+fn drawn(random: &mut Pcg32) -> Parts {
+    Parts {
+        kind: below(random, 64),
+        seq: below(random, 40),
+        k: below(random, 8).saturating_sub(4),
+        name: NAMES[below(random, 3) as usize],
+        text: TEXTS[below(random, 4) as usize],
+        fault: below(random, 2) == 0,
+        offset: below(random, 4),
+        limit: below(random, 9),
+    }
+}
+
+fn script(parts: Parts) -> Script {
+    match parts.kind {
         0..=2 => Script::Up,
         3 => Script::Down,
         4 | 5 => Script::Cut,
         6..=10 => Script::Go,
-        11 => Script::Stop(k),
-        12..=31 => Script::Update(seq, k, name, Letter::E, text),
-        32 => Script::Complete(seq, k, fault),
-        33 => Script::Answered(k, fault),
-        34 => Script::BadArgs(seq),
+        11 => Script::Stop(parts.k),
+        12..=31 => Script::Update(parts.seq, parts.k, parts.name, Letter::E, parts.text),
+        32 => Script::Complete(parts.seq, parts.k, parts.fault),
+        33 => Script::Answered(parts.k, parts.fault),
+        34 => Script::BadArgs(parts.seq),
         35..=49 => Script::Drain,
-        _ => Script::Look(k, name, below(random, 4), below(random, 9)),
+        _ => Script::Look(parts.k, parts.name, parts.offset, parts.limit),
     }
 }
 
@@ -73,7 +94,7 @@ fn plays(alloc: Global, seed: u64, seen: &mut u64) -> Result<bool, AllocError> {
         let script = match turn {
             0 => Script::Up,
             1 => Script::Go,
-            _ => script(&mut random),
+            _ => script(drawn(&mut random)),
         };
         let wanted = plain.answer(alloc, script)?;
         match world.step(step(alloc, script)?) {

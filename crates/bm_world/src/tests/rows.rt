@@ -2,25 +2,25 @@
 
 use super::says::Says::*;
 use super::script::Script::*;
-use super::{play_copies, played, run};
+use super::{Row, play_copies, played, run};
 use bm_lines::Letter::{E, H, O};
 use bm_session::{Refusal, Results};
 use std::test::Fail;
 
 #[test]
 fn nothing_is_there_at_first(rt: HostRuntime) -> Result<(), Fail> {
-    let rows = [
+    static ROWS: [Row; 3] = [
         (Look(0, "stdio", 0, 10), NoLog),
         (Stop(0), Refused(Refusal::NotUp)),
         (Drain, Empty),
     ];
-    played(&rt, 4, &rows)?;
+    played(&rt, 4, &ROWS)?;
     Ok(())
 }
 
 #[test]
 fn lines_are_seen_once_drained(rt: HostRuntime) -> Result<(), Fail> {
-    let rows = [
+    static ROWS: [Row; 9] = [
         (Up, Silent),
         (Go, Start(0, 0)),
         (Update(0, 0, "stdio", O, "a\n"), Done(0)),
@@ -31,13 +31,13 @@ fn lines_are_seen_once_drained(rt: HostRuntime) -> Result<(), Fail> {
         (Look(0, "stdio", 0, 10), Lines(0, 1, "oa\n")),
         (Drain, Empty),
     ];
-    played(&rt, 4, &rows)?;
+    played(&rt, 4, &ROWS)?;
     Ok(())
 }
 
 #[test]
 fn full_queue_is_busy_until_drained(rt: HostRuntime) -> Result<(), Fail> {
-    let rows = [
+    static ROWS: [Row; 7] = [
         (Up, Silent),
         (Go, Start(0, 0)),
         (Down, Busy),
@@ -46,12 +46,12 @@ fn full_queue_is_busy_until_drained(rt: HostRuntime) -> Result<(), Fail> {
         (Up, Silent),
         (Look(0, "stdio", 0, 9), Lines(0, 0, "")),
     ];
-    run(&rt, &rows)
+    run(&rt, &ROWS)
 }
 
 #[test]
 fn busy_lane_takes_after_drain(rt: HostRuntime) -> Result<(), Fail> {
-    let rows = [
+    static ROWS: [Row; 10] = [
         (Up, Silent),
         (Go, Start(0, 0)),
         (Update(0, 0, "stdio", O, "a\n"), Done(0)),
@@ -63,14 +63,14 @@ fn busy_lane_takes_after_drain(rt: HostRuntime) -> Result<(), Fail> {
         (Update(3, 0, "stdio", O, "a\n"), Done(3)),
         (Look(0, "stdio", 0, 9), Lines(0, 0, "")),
     ];
-    let world = played(&rt, 4, &rows)?;
+    let world = played(&rt, 4, &ROWS)?;
     assert_eq!(rt; world.session().trace().len(), 7);
     Ok(())
 }
 
 #[test]
 fn numbers_start_afresh_after_a_loss(rt: HostRuntime) -> Result<(), Fail> {
-    let rows = [
+    static ROWS: [Row; 17] = [
         (Up, Silent),
         (Go, Start(0, 0)),
         (Update(0, 0, "stdio", O, "a\n"), Done(0)),
@@ -89,7 +89,7 @@ fn numbers_start_afresh_after_a_loss(rt: HostRuntime) -> Result<(), Fail> {
         (Look(1, "stdio", 0, 9), Lines(0, 1, "on\n")),
         (Drain, Empty),
     ];
-    let world = played(&rt, 8, &rows)?;
+    let world = played(&rt, 8, &ROWS)?;
     assert_eq!(rt; world.session().outcome(0), Some(Results::Retry));
     assert_eq!(rt; world.session().outcome(1), None);
     Ok(())
@@ -97,7 +97,7 @@ fn numbers_start_afresh_after_a_loss(rt: HostRuntime) -> Result<(), Fail> {
 
 #[test]
 fn update_after_complete_is_not_kept(rt: HostRuntime) -> Result<(), Fail> {
-    let rows = [
+    static ROWS: [Row; 10] = [
         (Up, Silent),
         (Go, Start(0, 0)),
         (Stop(0), Interrupt(1, 0)),
@@ -109,14 +109,14 @@ fn update_after_complete_is_not_kept(rt: HostRuntime) -> Result<(), Fail> {
         (Drain, Empty),
         (Look(0, "stdio", 0, 9), Lines(0, 0, "")),
     ];
-    let world = played(&rt, 4, &rows)?;
+    let world = played(&rt, 4, &ROWS)?;
     assert_eq!(rt; world.session().outcome(0), Some(Results::Cancelled));
     Ok(())
 }
 
 #[test]
 fn four_commands_are_open_at_most(rt: HostRuntime) -> Result<(), Fail> {
-    let rows = [
+    static ROWS: [Row; 7] = [
         (Up, Silent),
         (Up, Refused(Refusal::AlreadyUp)),
         (Go, Start(0, 0)),
@@ -125,13 +125,13 @@ fn four_commands_are_open_at_most(rt: HostRuntime) -> Result<(), Fail> {
         (Go, Start(3, 3)),
         (Go, Refused(Refusal::TooManyOpen)),
     ];
-    played(&rt, 8, &rows)?;
+    played(&rt, 8, &ROWS)?;
     Ok(())
 }
 
 #[test]
 fn named_log_is_seen_under_its_name(rt: HostRuntime) -> Result<(), Fail> {
-    let rows = [
+    static ROWS: [Row; 9] = [
         (Up, Silent),
         (Go, Start(0, 0)),
         (Update(0, 0, "l", O, "x\n"), Done(0)),
@@ -142,13 +142,13 @@ fn named_log_is_seen_under_its_name(rt: HostRuntime) -> Result<(), Fail> {
         (Look(0, "stdio", 0, 9), Lines(0, 0, "")),
         (Look(0, "m", 0, 10), NoLog),
     ];
-    played(&rt, 4, &rows)?;
+    played(&rt, 4, &ROWS)?;
     Ok(())
 }
 
 #[test]
 fn resumed_session_doubles_no_line(rt: HostRuntime) -> Result<(), Fail> {
-    let rows = [
+    static ROWS: [Row; 14] = [
         (Up, Silent),
         (Go, Start(0, 0)),
         (Update(0, 0, "stdio", O, "a\n"), Done(0)),
@@ -164,14 +164,14 @@ fn resumed_session_doubles_no_line(rt: HostRuntime) -> Result<(), Fail> {
         (Drain, Empty),
         (Look(0, "stdio", 0, 9), Lines(0, 3, "oa\nob\noc\n")),
     ];
-    let world = played(&rt, 8, &rows)?;
+    let world = played(&rt, 8, &ROWS)?;
     assert_eq!(rt; world.session().outcome(0), None);
     Ok(())
 }
 
 #[test]
 fn cut_session_is_resumed_or_given_up(rt: HostRuntime) -> Result<(), Fail> {
-    let rows = [
+    static ROWS: [Row; 11] = [
         (Up, Silent),
         (Go, Start(0, 0)),
         (Cut, Silent),
@@ -184,14 +184,14 @@ fn cut_session_is_resumed_or_given_up(rt: HostRuntime) -> Result<(), Fail> {
         (Up, Silent),
         (Go, Start(0, 2)),
     ];
-    let world = played(&rt, 8, &rows)?;
+    let world = played(&rt, 8, &ROWS)?;
     assert_eq!(rt; world.session().outcome(0), Some(Results::Retry));
     Ok(())
 }
 
 #[test]
 fn lines_are_seen_from_a_place_on(rt: HostRuntime) -> Result<(), Fail> {
-    let rows = [
+    static ROWS: [Row; 14] = [
         (Up, Silent),
         (Go, Start(0, 0)),
         (Update(0, 0, "stdio", O, "a\nb\n"), Done(0)),
@@ -207,27 +207,27 @@ fn lines_are_seen_from_a_place_on(rt: HostRuntime) -> Result<(), Fail> {
         (Look(0, "stdio", 7, 9), Lines(7, 0, "")),
         (Look(0, "stdio", 1, 0), Lines(1, 0, "")),
     ];
-    played(&rt, 4, &rows)?;
+    played(&rt, 4, &ROWS)?;
     Ok(())
 }
 
 #[test]
 fn refused_start_ends_its_command(rt: HostRuntime) -> Result<(), Fail> {
-    let rows = [
+    static ROWS: [Row; 5] = [
         (Up, Silent),
         (Go, Start(0, 0)),
         (Answered(0, true), Silent),
         (Update(0, 0, "stdio", O, "a\n"), NoCommand(0)),
         (Stop(0), Refused(Refusal::NoSuchCommand)),
     ];
-    let world = played(&rt, 4, &rows)?;
+    let world = played(&rt, 4, &ROWS)?;
     assert_eq!(rt; world.session().outcome(0), Some(Results::Exception));
     Ok(())
 }
 
 #[test]
 fn copies_are_equal(rt: HostRuntime) -> Result<(), Fail> {
-    let rows = [
+    static ROWS: [Row; 10] = [
         (Up, Silent),
         (Up, Refused(Refusal::AlreadyUp)),
         (Go, Start(0, 0)),
@@ -239,5 +239,5 @@ fn copies_are_equal(rt: HostRuntime) -> Result<(), Fail> {
         (Drain, Empty),
         (Look(0, "stdio", 0, 1), Lines(0, 1, "oa\n")),
     ];
-    play_copies(&rt, &rows)
+    play_copies(&rt, &ROWS)
 }

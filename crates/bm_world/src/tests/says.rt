@@ -23,7 +23,7 @@ pub enum Says {
 
 impl Says {
     /// Whether the answer is this one.
-    pub fn is(self, answer: &Answer) -> bool {
+    pub fn is(&self, answer: &Answer) -> bool {
         match answer {
             Answer::Heard(reply) => self.reply() == Some(*reply),
             Answer::Refused(reason) => self.reason() == Some(*reason),
@@ -35,30 +35,30 @@ impl Says {
         }
     }
 
-    fn reply(self) -> Option<Reply> {
+    fn reply(&self) -> Option<Reply> {
         match self {
             Says::Silent => Some(Reply::Silent),
-            Says::Start(seq, command) => Some(Reply::Start(seq, command)),
-            Says::Interrupt(seq, command) => Some(Reply::Interrupt(seq, command)),
-            Says::Done(seq) => Some(Reply::Answer(seq, Verdict::Done)),
-            Says::NoCommand(seq) => Some(Reply::Answer(seq, Verdict::NoCommand)),
+            Says::Start(seq, command) => Some(Reply::Start(*seq, *command)),
+            Says::Interrupt(seq, command) => Some(Reply::Interrupt(*seq, *command)),
+            Says::Done(seq) => Some(Reply::Answer(*seq, Verdict::Done)),
+            Says::NoCommand(seq) => Some(Reply::Answer(*seq, Verdict::NoCommand)),
             _ => None,
         }
     }
 
-    fn reason(self) -> Option<Refusal> {
+    fn reason(&self) -> Option<Refusal> {
         match self {
-            Says::Refused(reason) => Some(reason),
+            Says::Refused(reason) => Some(*reason),
             _ => None,
         }
     }
 
-    fn are_lines(self, chunk: &Chunk) -> bool {
+    fn are_lines(&self, chunk: &Chunk) -> bool {
         match self {
             Says::Lines(first_line, lines, content) => {
-                chunk.first_line == first_line
-                    && chunk.lines == lines
-                    && chunk.content.as_str() == content
+                chunk.first_line == *first_line
+                    && chunk.lines == *lines
+                    && chunk.content.as_str() == *content
             }
             _ => false,
         }
