@@ -81,6 +81,7 @@ fn copied_answer_to(
     again(|| answer.copy())
 }
 
+/// The answer is that of its row; rows count from 0.
 fn assert_says(rt: &impl Abort, n: usize, says: &Says, answer: &Answer) {
     assert!(rt; says.is(answer), "row {n}: {answer:?}");
 }

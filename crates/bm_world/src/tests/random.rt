@@ -84,6 +84,37 @@ fn script(parts: Parts) -> Script {
     }
 }
 
+fn next_script(turn: u64, random: &mut Pcg32) -> Script {
+    match turn {
+        0 => Script::Up,
+        1 => Script::Go,
+        _ => script(drawn(random)),
+    }
+}
+
+/// The answer of both to a step, or None where they differ.
+fn same_answer(
+    alloc: Global,
+    world: &mut World,
+    plain: &mut Plain,
+    script: Script,
+) -> Result<Option<Answer>, AllocError> {
+    let wanted = plain.answer(alloc, script)?;
+    let answer = super::answer(world, step(alloc, script)?)?;
+    if agree(&answer, &wanted) {
+        Ok(Some(answer))
+    } else {
+        Ok(None)
+    }
+}
+
+fn lines_in(answer: &Answer) -> u64 {
+    match answer {
+        Answer::Chunk(chunk) => chunk.lines,
+        _ => 0,
+    }
+}
+
 /// Whether both give the same answers; how many of them were lines counts in `seen`.
 fn plays(alloc: Global, seed: u64, seen: &mut u64) -> Result<bool, AllocError> {
     let mut random = Pcg32::new(seed, 54);
@@ -91,22 +122,10 @@ fn plays(alloc: Global, seed: u64, seen: &mut u64) -> Result<bool, AllocError> {
     let mut world = World::new(alloc, capacity)?;
     let mut plain = Plain::new(alloc, capacity)?;
     for turn in 0..STEPS {
-        let script = match turn {
-            0 => Script::Up,
-            1 => Script::Go,
-            _ => script(drawn(&mut random)),
-        };
-        let wanted = plain.answer(alloc, script)?;
-        match world.step(step(alloc, script)?) {
-            Ok(answer) => {
-                if !agree(&answer, &wanted) {
-                    return Ok(false);
-                }
-                if let Answer::Chunk(chunk) = &answer {
-                    *seen = seen.saturating_add(chunk.lines);
-                }
-            }
-            Err((_, error)) => return Err(error),
+        let script = next_script(turn, &mut random);
+        match same_answer(alloc, &mut world, &mut plain, script)? {
+            Some(answer) => *seen = seen.saturating_add(lines_in(&answer)),
+            None => return Ok(false),
         }
     }
     Ok(true)
