@@ -22,3 +22,4 @@ mod SmallNumbers
 mod Hex
 mod HexLanes
 mod Lines
+mod Pieces

@@ -3,3 +3,4 @@ pub mod Resumed
 pub mod Laws
 pub mod Wire
 pub mod Hex
+pub mod Script

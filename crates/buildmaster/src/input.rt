@@ -1,6 +1,8 @@
 //! The whole of a replay's input, in pieces.
 
-ghost use Rattle.std.specs.Prelude.{◌≡◌, ◌<◌, ◌≤◌, ◌++◌, ◌∷◌, length, IfOk, IfSome, MatchOption};
+ghost use Rattle.std.specs.Prelude.{◌≡◌, ◌<◌, ◌≤◌, ◌+◌, ◌++◌, ◌∷◌, length, take, drop, IfOk, IfSome, MatchOption};
+ghost use Rattle.std.specs.Io.KnownBytes.{Consumes, IsAtEnd};
+ghost use Rattle.buildmaster.specs.Script.{script_of, ended};
 
 use memchr::memrchr;
 use std::alloc::{AllocError, Global};
@@ -16,7 +18,10 @@ const PIECE: usize = 65_536;
 /// Reads the input to its end, in pieces that part at line ends, which belong to none of them: so each is some whole
 /// lines, and can be given back as soon as these are answered. An interrupted read is an error like any other, and so is
 /// an input that is too long.
-pub fn read_input<R: Read + Drop>(alloc: Global, input: R) -> io::Result<Vec<Vec<u8>>> {
+pub fn read_input<R: Read + Drop>(alloc: Global, input: R) -> io::Result<Vec<Vec<u8>>>
+    // The pieces are all that the input had, where that is known.
+    ensures { IfOk result (λ pieces. IfSome (R.remaining input) (λ bytes. script_of pieces.items ≡ bytes)) }
+{
     let mut input = input;
     let mut pieces = Vec::new(alloc);
     let mut piece = vec![in alloc; 0u8; PIECE]?;
@@ -24,7 +29,7 @@ pub fn read_input<R: Read + Drop>(alloc: Global, input: R) -> io::Result<Vec<Vec
     let mut filled: usize = 0;
     let mut total: usize = 0;
     for _ in 0..=MOST_BYTES {
-        let count = input.read(&mut piece[filled..])?;
+        let count = read_behind(&mut input, &mut piece, filled)?;
         if count == 0 {
             piece.truncate(filled);
             pieces.push(piece)?;
@@ -42,6 +47,30 @@ pub fn read_input<R: Read + Drop>(alloc: Global, input: R) -> io::Result<Vec<Vec
     Err(io::Error::from(io::ErrorKind::FileTooLarge))
 }
 
+/// Reads into the room behind the first `filled` bytes, and answers how many bytes came: none at the input's end alone.
+fn read_behind<R: Read>(input: &mut R, piece: &mut Vec<u8>, filled: usize) -> io::Result<usize>
+    requires { filled < length piece.old.items }
+    ensures long { length piece.new.items ≡ length piece.old.items }
+    ensures front { take filled piece.new.items ≡ take filled piece.old.items }
+    ensures fits { IfOk result (λ n. filled + n ≤ length piece.new.items) }
+    ensures read { IfOk result (λ n. Consumes (R.remaining input.old) (R.remaining input.new) (take n (drop filled piece.new.items))) }
+    ensures end { IfOk result (λ n. n ≡ 0 → IsAtEnd (R.remaining input.new)) }
+{
+    read_into(input, piece.as_mut_slice(), filled)
+}
+
+/// The same, into a slice.
+fn read_into<R: Read>(input: &mut R, piece: &mut [u8], filled: usize) -> io::Result<usize>
+    requires { filled < length piece.old }
+    ensures long { length piece.new ≡ length piece.old }
+    ensures front { take filled piece.new ≡ take filled piece.old }
+    ensures fits { IfOk result (λ n. filled + n ≤ length piece.new) }
+    ensures read { IfOk result (λ n. Consumes (R.remaining input.old) (R.remaining input.new) (take n (drop filled piece.new))) }
+    ensures end { IfOk result (λ n. n ≡ 0 → IsAtEnd (R.remaining input.new)) }
+{
+    input.read(&mut piece[filled..])
+}
+
 /// Makes room behind the bytes of a full piece, and answers how many bytes stand before it. Where the piece has a line end,
 /// the lines before the last one go to the pieces, and what stands behind it begins the next piece.
 fn make_room(
@@ -50,7 +79,8 @@ fn make_room(
     piece: &mut Vec<u8>,
 ) -> Result<usize, AllocError>
     requires { length piece.old.items ≤ 67108864 }
-    ensures { IfOk result (λ filled. (filled ≤ length piece.old.items) × (filled < length piece.new.items)) }
+    ensures room { IfOk result (λ filled. (filled ≤ length piece.old.items) × (filled < length piece.new.items)) }
+    ensures kept { IfOk result (λ filled. ended pieces.new.items ++ take filled piece.new.items ≡ ended pieces.old.items ++ piece.old.items) }
 {
     let mut filled = piece.len();
     if let Some(rest) = cut_last_line(alloc, piece)? {

@@ -1,5 +1,4 @@
-use Rattle.std.proofs.Common.{◌<◌, sym}
-use Rattle.buildmaster.proofs.Lines.{cut_shortens, left_over}
+use Rattle.buildmaster.proofs.Lines.{cut_shortens}
 use Rattle.buildmaster.proofs.replay.Lane.answer_lines.Goals as goal
 
 pub lines-smaller : goal.lines-smaller
