@@ -12,7 +12,7 @@ use std::{io, mem};
 /// A script may have so many bytes.
 const MOST_BYTES: usize = 67_108_864;
 
-/// How many bytes one read may give, and how many a piece has at least, but for the last one.
+/// So much room, in bytes, a piece has at least behind what it begins with.
 const PIECE: usize = 65_536;
 
 /// Reads the input to its end, in pieces that part at line ends, which belong to none of them: so each is some whole
