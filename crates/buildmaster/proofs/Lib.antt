@@ -22,4 +22,5 @@ mod SmallNumbers
 mod Hex
 mod HexLanes
 mod Lines
-mod Pieces
+mod Windows
+mod Scripts

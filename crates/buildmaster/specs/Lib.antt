@@ -3,4 +3,5 @@ pub mod Resumed
 pub mod Laws
 pub mod Wire
 pub mod Hex
+pub mod Window
 pub mod Script

@@ -1,14 +1,14 @@
--- A script in pieces that part at line ends, which belong to none of them.
-use Rattle.std.specs.Prelude.{ℕ, List, [], ◌∷◌, ◌++◌, Vec}
-use Rattle.std.specs.Global.{Global}
+-- A script, as a reader gives it: some whole lines at a time.
+use Rattle.std.specs.Prelude.{ℕ, Bool, true, false, List, [], ◌∷◌, ◌++◌, drop, Option}
+use Rattle.std.specs.Io.KnownBytes.{Consumes, IsAtEnd, prepend_known}
+use Rattle.buildmaster.specs.declared.reader.ScriptReader.{ScriptReader}
+use Rattle.buildmaster.specs.Window.{items}
 
--- the bytes of a script that is held in these pieces: a line end stands between each two
-unfoldable pub script_of : List (Vec ℕ Global) → List ℕ
-script_of [] = []
-script_of (piece ∷ []) = piece.items
-script_of (piece ∷ next ∷ pieces) = piece.items ++ 10 ∷ script_of (next ∷ pieces)
+-- what a reader has left of its script: what it read and didn't give, and then what its input has left, where that is known
+abbrev pub left : {R : Type 0} → (R → Option (List ℕ)) → ScriptReader R → Option (List ℕ)
+left remaining r = prepend_known (drop r.given (items r.window)) (remaining r.input)
 
--- the bytes of pieces of which each has its line end
-unfoldable pub ended : List (Vec ℕ Global) → List ℕ
-ended [] = []
-ended (piece ∷ pieces) = piece.items ++ 10 ∷ ended pieces
+-- a reader that had `old` left gave these lines, and has `new` left: a line end parts the two, unless the lines are the last
+abbrev pub Gives : Option (List ℕ) → Option (List ℕ) → Bool → List ℕ → Type 0
+Gives old new false lines = Consumes old new (lines ++ 10 ∷ [])
+Gives old new true lines = Consumes old new lines × IsAtEnd new

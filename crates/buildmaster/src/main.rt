@@ -5,13 +5,14 @@ mod answers;
 mod arguments;
 mod hex_digits;
 mod incoming;
-mod input;
 pub mod laws;
 mod numbers;
+mod reader;
 mod replay;
 mod script;
 #[cfg(test)]
 mod tests;
+mod window;
 
 use arguments::{Job, USAGE, read_job};
 use replay::replay_run;

@@ -5,6 +5,7 @@ use super::{joined, replay_bytes, replay_script};
 use crate::replay::replay_run;
 use std::io;
 use std::io::{Read, Write};
+use std::process::Abort;
 use std::test::Fail;
 
 /// A reader that gives its bytes and then fails.
@@ -109,19 +110,29 @@ fn text_that_is_no_utf8_is_passed_over_in_a_comment_alone(rt: HostRuntime) -> Re
     Ok(())
 }
 
+/// A read that fails after these bytes ends the replay with status 1, and nothing is answered or told.
+fn assert_unanswered(rt: &(impl AllocGlobal + Abort), bytes: &[u8], kind: io::ErrorKind) {
+    let mut output = Vec::new(rt.alloc());
+    let mut faults = Vec::new(rt.alloc());
+    let input = FailingReader { bytes, kind };
+    let status = replay_run(rt.alloc(), 4, input, &mut output, &mut faults);
+    assert_eq!(rt; status, 1);
+    assert!(rt; output.is_empty());
+    assert!(rt; faults.is_empty());
+}
+
 #[test]
 fn failed_read_answers_nothing(rt: HostRuntime) -> Result<(), Fail> {
     for kind in [io::ErrorKind::ConnectionReset, io::ErrorKind::Interrupted] {
-        let input = FailingReader {
-            bytes: b"up\ngo\n",
-            kind,
-        };
-        let mut output = Vec::new(rt.alloc());
-        let mut faults = Vec::new(rt.alloc());
-        let status = replay_run(rt.alloc(), 4, input, &mut output, &mut faults);
-        assert_eq!(rt; status, 1);
-        assert!(rt; output.is_empty());
-        assert!(rt; faults.is_empty());
+        assert_unanswered(&rt, b"up\ngo\n", kind);
+    }
+    // Lines were answered before the read fails, and one that isn't understood may have been met.
+    for first in ["up\n", "no\n"] {
+        let mut script = String::from_str(rt.alloc(), first)?;
+        for _ in 0..30_000 {
+            script.push_str("up\n")?;
+        }
+        assert_unanswered(&rt, script.as_bytes(), io::ErrorKind::ConnectionReset);
     }
     Ok(())
 }
