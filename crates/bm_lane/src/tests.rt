@@ -5,3 +5,5 @@ mod many;
 mod named;
 mod one;
 mod pooled;
+mod says;
+mod script;

@@ -13,13 +13,18 @@ use std::test::Fail;
 /// How often a call is made where one request for memory is refused.
 pub const TRIES: usize = 2;
 
+// Adds a text to the log with that name.
+fn add_part(parcel: &mut Parcel, alloc: Global, name: &str, text: &str) -> Result<(), AllocError> {
+    let Some(name) = LogName::new(alloc, name)? else {
+        return Err(AllocError);
+    };
+    parcel.add(&name, Letter::O, text)
+}
+
 fn try_parcel(alloc: Global, parts: &[(&str, &str)]) -> Result<Parcel, AllocError> {
     let mut parcel = Parcel::new(alloc);
     for (name, text) in parts {
-        let Some(name) = LogName::new(alloc, name)? else {
-            return Err(AllocError);
-        };
-        parcel.add(&name, Letter::O, text)?;
+        add_part(&mut parcel, alloc, name, text)?;
     }
     Ok(parcel)
 }
@@ -61,21 +66,32 @@ pub fn blank<W: Wait + Copy + Drop>(
     open(rt, alloc, capacity, viewers)
 }
 
+// What the reader's end says to the event, which comes back where memory is wanting.
+fn try_hear<Y: Yard, R: Wait>(
+    rt: &R,
+    reader: &mut ReaderEnd<Y>,
+    event: Event,
+) -> Result<Result<Reply, HearRefusal>, Event> {
+    match reader.hear(rt, event) {
+        Ok(reply) => Ok(Ok(reply)),
+        Err((back, HearRefusal::Session(Refusal::Mem))) => Err(back),
+        Err((_, reason)) => Ok(Err(reason)),
+    }
+}
+
 /// Hears the event.
 pub fn hear<Y: Yard, R: Wait>(
     rt: &R,
     reader: &mut ReaderEnd<Y>,
     event: Event,
 ) -> Result<Reply, HearRefusal> {
-    let mut event = event;
-    for _ in 0..TRIES {
-        match reader.hear(rt, event) {
-            Ok(reply) => return Ok(reply),
-            Err((back, HearRefusal::Session(Refusal::Mem))) => event = back,
-            Err((_, reason)) => return Err(reason),
-        }
+    match try_hear(rt, reader, event) {
+        Ok(answer) => answer,
+        Err(event) => match try_hear(rt, reader, event) {
+            Ok(answer) => answer,
+            Err(_) => Err(HearRefusal::Session(Refusal::Mem)),
+        },
     }
-    Err(HearRefusal::Session(Refusal::Mem))
 }
 
 /// Drains once.
@@ -132,19 +148,6 @@ pub fn has_lines(book: &Book, text: &str) -> bool {
     }
 }
 
-/// How many lines command 0 has, as far as this viewer sees, and whether it is open.
-pub fn open_lines<Y: Yard>(viewer: &mut Viewer<Y>) -> Option<u64> {
-    open_lines_of(viewer, "stdio")
-}
-
-/// How many lines a log of command 0 has, as far as this viewer sees, and whether it is open.
-pub fn open_lines_of<Y: Yard>(viewer: &mut Viewer<Y>, name: &str) -> Option<u64> {
-    match viewer.state(0, name) {
-        Ok(state) if state.ended.is_none() => Some(state.lines),
-        _ => None,
-    }
-}
-
 /// The answer of a call of the reader's end, which is made again where it met want of memory.
 pub fn again<Y: Yard, R: Wait>(
     rt: &R,
@@ -175,6 +178,26 @@ pub fn ends_of<Y: Yard, W: Wait + Drop>(
     }
 }
 
+// Whether the lane hears these texts of its command, from request 0 on.
+fn hears_texts<Y: Yard, R: Wait>(
+    rt: &R,
+    alloc: Global,
+    reader: &mut ReaderEnd<Y>,
+    texts: &[&str],
+) -> bool {
+    let mut seq = 0;
+    for text in texts {
+        let Ok(event) = update(alloc, seq, text) else {
+            return false;
+        };
+        if hear(rt, reader, event).is_err() {
+            return false;
+        }
+        seq = seq.saturating_add(1);
+    }
+    true
+}
+
 /// The ends of a lane that heard of a connection, the start of a command and these texts of it.
 pub fn heard<Y: Yard, W: Wait + Drop, R: Wait>(
     rt: &R,
@@ -186,18 +209,30 @@ pub fn heard<Y: Yard, W: Wait + Drop, R: Wait>(
     requires { (blank.queue ≡ Y.queue lane) × (blank.copy ≡ Y.copy lane) }
 {
     let mut ends = ends_of::<Y, W>(alloc, blank, lane)?;
-    let is_up = hear(rt, &mut ends.reader, Event::Up).is_ok();
-    if !is_up || hear(rt, &mut ends.reader, Event::Go).is_err() {
-        return Err(AllocError);
+    let reader = &mut ends.reader;
+    if hear(rt, reader, Event::Up).is_ok()
+        && hear(rt, reader, Event::Go).is_ok()
+        && hears_texts(rt, alloc, reader, texts)
+    {
+        Ok(ends)
+    } else {
+        Err(AllocError)
     }
-    let mut seq = 0;
-    for text in texts {
-        if hear(rt, &mut ends.reader, update(alloc, seq, text)?).is_err() {
-            return Err(AllocError);
-        }
-        seq = seq.saturating_add(1);
+}
+
+// What is left of a lane, or its ends where they aren't all there or memory is wanting.
+fn try_settled<Y: Yard, W: Wait + Drop, R: Wait>(
+    rt: &R,
+    alloc: Global,
+    ends: Ends<Y, W>,
+) -> Result<Settled, Ends<Y, W>> {
+    if !same_lane(&ends.reader, &ends.writer, ends.viewers.as_slice()) {
+        return Err(ends);
     }
-    Ok(ends)
+    match settle(rt, alloc, ends) {
+        Ok(settled) => Ok(settled),
+        Err((ends, _)) => Err(ends),
+    }
 }
 
 /// What is left of a lane whose ends are all there.
@@ -207,19 +242,22 @@ pub fn settled<Y: Yard, W: Wait + Drop, R: Wait + Abort>(
     ends: Ends<Y, W>,
 ) -> Result<Settled, Fail> {
     assert!(rt; same_lane(&ends.reader, &ends.writer, ends.viewers.as_slice()));
-    if !same_lane(&ends.reader, &ends.writer, ends.viewers.as_slice()) {
-        return Err(Fail::from(AllocError));
-    }
-    match settle(rt, alloc, ends) {
+    match try_settled(rt, alloc, ends) {
         Ok(settled) => Ok(settled),
-        Err((ends, _)) => {
-            if !same_lane(&ends.reader, &ends.writer, ends.viewers.as_slice()) {
-                return Err(Fail::from(AllocError));
-            }
-            match settle(rt, alloc, ends) {
-                Ok(settled) => Ok(settled),
-                Err(_) => Err(Fail::from(AllocError)),
-            }
-        }
+        Err(ends) => match try_settled(rt, alloc, ends) {
+            Ok(settled) => Ok(settled),
+            Err(_) => Err(Fail::from(AllocError)),
+        },
     }
+}
+
+/// Whether the book that is left of a lane has these lines of command 0.
+pub fn leaves<Y: Yard, W: Wait + Drop, R: Wait + Abort>(
+    rt: &R,
+    alloc: Global,
+    ends: Ends<Y, W>,
+    text: &str,
+) -> Result<bool, Fail> {
+    let settled = settled(rt, alloc, ends)?;
+    Ok(has_lines(&settled.book, text))
 }

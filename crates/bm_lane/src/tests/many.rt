@@ -2,8 +2,11 @@
 ghost use Rattle.std.specs.Prelude.{◌≡◌};
 
 use super::hand::*;
+use super::says::Says::*;
+use super::script::Call::{Chunk as Lookup, Drain, Hear, Update};
+use super::script::{Order, Row, play};
 use crate::*;
-use bm_session::{Event, Reply};
+use bm_session::Event;
 use bm_store::{Chunk, ViewRefusal};
 use std::alloc::{AllocError, Global};
 use std::marker::Brand;
@@ -42,6 +45,19 @@ fn apart<Y: Yard + Send + Sync, R: Threads + Wait + Sync>(
     back
 }
 
+// Whether the last viewer has this chunk in a thread of its own. It comes first then.
+fn last_is_apart<Y: Yard + Send + Sync, R: Threads + Wait + Sync>(
+    rt: &R,
+    viewers: &mut Vec<Viewer<Y>>,
+    text: &str,
+) -> bool {
+    let Some(viewer) = viewers.pop() else {
+        return false;
+    };
+    let (viewer, is_there) = apart(rt, viewer, text);
+    viewers.insert(0, viewer).is_ok() && is_there
+}
+
 fn viewers_apart<Y: Yard + Send + Sync, W: Wait + Drop, R: Threads + Wait + Abort + Sync>(
     rt: &R,
     alloc: Global,
@@ -49,33 +65,21 @@ fn viewers_apart<Y: Yard + Send + Sync, W: Wait + Drop, R: Threads + Wait + Abor
 ) -> Result<(), Fail>
     requires { (blank.queue ≡ Y.queue 7) × (blank.copy ≡ Y.copy 7) }
 {
-    let Ends {
-        mut reader,
-        mut writer,
-        mut viewers,
-    } = ends_of::<Y, W>(alloc, blank, 7)?;
-    let second = viewers.pop().ok_or("no viewer")?;
-    let first = viewers.pop().ok_or("no viewer")?;
-    assert_eq!(rt; hear(rt, &mut reader, Event::Up), Ok(Reply::Silent));
-    assert_eq!(rt; hear(rt, &mut reader, Event::Go), Ok(Reply::Start(0, 0)));
-    assert!(rt; hear(rt, &mut reader, update(alloc, 0, "a\n")?).is_ok());
-    assert!(rt; hear(rt, &mut reader, update(alloc, 1, "b\n")?).is_ok());
-    assert_eq!(rt; drain(&mut writer), Ok(Drained::Took));
-    assert_eq!(rt; drain(&mut writer), Ok(Drained::Took));
-    let (first, is_one) = apart(rt, first, "oa\n");
-    assert!(rt; is_one);
-    assert_eq!(rt; drain(&mut writer), Ok(Drained::Took));
-    let (second, is_two) = apart(rt, second, "oa\nob\n");
-    assert!(rt; is_two);
-    let (first, is_two) = apart(rt, first, "oa\nob\n");
-    assert!(rt; is_two);
-    viewers.push(first).map_err(|_| AllocError)?;
-    viewers.push(second).map_err(|_| AllocError)?;
-    let ends = Ends {
-        reader,
-        writer,
-        viewers,
-    };
+    static FIRST: [Row; 6] = [
+        (Hear(Order::Up), Silent),
+        (Hear(Order::Go), Start(0, 0)),
+        (Update(0, &[("stdio", "a\n")]), Done(0)),
+        (Update(1, &[("stdio", "b\n")]), Done(1)),
+        (Drain, Took),
+        (Drain, Took),
+    ];
+    static THEN: [Row; 1] = [(Drain, Took)];
+    let mut ends = ends_of::<Y, W>(alloc, blank, 7)?;
+    play(rt, alloc, &mut ends, &FIRST);
+    assert!(rt; last_is_apart(rt, &mut ends.viewers, "oa\n"));
+    play(rt, alloc, &mut ends, &THEN);
+    assert!(rt; last_is_apart(rt, &mut ends.viewers, "oa\nob\n"));
+    assert!(rt; last_is_apart(rt, &mut ends.viewers, "oa\nob\n"));
     let settled = settled(rt, alloc, ends)?;
     assert_eq!(rt; settled.seen.as_slice(), [3, 3].as_slice());
     Ok(())
@@ -87,6 +91,14 @@ fn many_updates_go_through_a_short_queue(rt: HostRuntime) -> Result<(), Fail> {
     many_updates::<Brand, _, _>(&rt, rt.alloc(), blank)
 }
 
+// Hears the event, or gives it back.
+fn hear_once<Y: Yard, R: Wait>(rt: &R, reader: &mut ReaderEnd<Y>, event: Event) -> Option<Event> {
+    match reader.hear(rt, event) {
+        Ok(_) => None,
+        Err((back, _)) => Some(back),
+    }
+}
+
 // Hears the event, again after Busy.
 fn hear_at_last<Y: Yard, R: Wait>(
     rt: &R,
@@ -96,9 +108,9 @@ fn hear_at_last<Y: Yard, R: Wait>(
 ) -> bool {
     let mut event = event;
     for _ in 0..rounds {
-        match reader.hear(rt, event) {
-            Ok(_) => return true,
-            Err((back, _)) => event = back,
+        match hear_once(rt, reader, event) {
+            None => return true,
+            Some(back) => event = back,
         }
         thread::yield_now();
     }
@@ -171,31 +183,31 @@ fn watch<Y: Yard>(viewer: &mut Viewer<Y>) -> bool {
     false
 }
 
+// Whether this is the line of that number.
+fn is_line(alloc: Global, line: Option<&str>, seq: u64) -> Result<bool, AllocError> {
+    let text = format!(in alloc; "o{seq}")?;
+    Ok(line == Some(text.as_str()))
+}
+
 // Whether the lines of the whole log are the numbers in order.
 fn is_counted(alloc: Global, answer: &Chunk) -> Result<bool, AllocError> {
     let mut lines = answer.content.as_str().lines();
     for seq in 0..UPDATES {
-        let text = format!(in alloc; "o{seq}")?;
-        if lines.next() != Some(text.as_str()) {
+        if !is_line(alloc, lines.next(), seq)? {
             return Ok(false);
         }
     }
     Ok(answer.lines == UPDATES)
 }
 
-fn many_updates<
-    Y: Yard + Send + Sync,
-    W: Wait + Drop + Send + Sync,
-    R: Threads + Wait + Abort + Sync,
->(rt: &R, alloc: Global, blank: Blank<W>) -> Result<(), Fail>
-    requires { (blank.queue ≡ Y.queue 0) × (blank.copy ≡ Y.copy 0) }
-{
-    let Ends {
-        mut reader,
-        mut writer,
-        mut viewers,
-    } = ends_of::<Y, W>(alloc, blank, 0)?;
-    let mut viewer = viewers.pop().ok_or("no viewer")?;
+// Each end in a thread of its own, and back again; whether all was heard, drained and seen.
+fn side_by_side<Y: Yard + Send + Sync, W: Wait + Drop + Send + Sync, R: Threads + Wait + Sync>(
+    rt: &R,
+    alloc: Global,
+    mut reader: ReaderEnd<Y>,
+    mut writer: WriterEnd<Y, W>,
+    mut viewer: Viewer<Y>,
+) -> (ReaderEnd<Y>, WriterEnd<Y, W>, Viewer<Y>, bool) {
     let ((reader, is_heard), ((writer, is_drained), (viewer, is_seen))) = join(
         rt,
         move || {
@@ -216,21 +228,34 @@ fn many_updates<
             )
         },
     );
-    assert!(rt; is_heard && is_drained && is_seen);
-    let mut viewer = viewer;
-    assert!(rt;
-        is_text(
-            &chunk(&mut viewer, 990, 5),
-            "o990\no991\no992\no993\no994\n"
-        )
-    );
-    viewers.push(viewer).map_err(|_| AllocError)?;
-    let ends = Ends {
+    (reader, writer, viewer, is_heard && is_drained && is_seen)
+}
+
+// A lane with one viewer, whose ends went through threads of their own.
+fn after_threads<Y: Yard + Send + Sync, W: Wait + Drop + Send + Sync, R: Threads + Wait + Sync>(
+    rt: &R,
+    alloc: Global,
+    ends: Ends<Y, W>,
+) -> Option<Ends<Y, W>> {
+    let Ends {
+        reader,
+        writer,
+        mut viewers,
+    } = ends;
+    let viewer = viewers.pop()?;
+    let (reader, writer, viewer, is_done) = side_by_side(rt, alloc, reader, writer, viewer);
+    if viewers.push(viewer).is_err() || !is_done {
+        return None;
+    }
+    Some(Ends {
         reader,
         writer,
         viewers,
-    };
-    let settled = settled(rt, alloc, ends)?;
+    })
+}
+
+// The whole log is there, each number in order.
+fn assert_whole(rt: &impl Abort, alloc: Global, settled: &Settled) -> Result<(), Fail> {
     assert_eq!(rt; settled.trace.len() as u64, UPDATES + 2);
     assert_eq!(rt; settled.seen.as_slice(), [UPDATES + 1].as_slice());
     let Ok(whole) = settled.book.slice(0, "stdio", 0, UPDATES) else {
@@ -238,4 +263,24 @@ fn many_updates<
     };
     assert!(rt; is_counted(alloc, &whole)?);
     Ok(())
+}
+
+fn many_updates<
+    Y: Yard + Send + Sync,
+    W: Wait + Drop + Send + Sync,
+    R: Threads + Wait + Abort + Sync,
+>(rt: &R, alloc: Global, blank: Blank<W>) -> Result<(), Fail>
+    requires { (blank.queue ≡ Y.queue 0) × (blank.copy ≡ Y.copy 0) }
+{
+    static MIDDLE: [Row; 1] = [(
+        Lookup(0, "stdio", 990, 5),
+        Lines("o990\no991\no992\no993\no994\n"),
+    )];
+    let ends = ends_of::<Y, W>(alloc, blank, 0)?;
+    let after = after_threads(rt, alloc, ends);
+    assert!(rt; after.is_some(), "not all was heard, drained and seen");
+    let mut ends = after.ok_or("no ends")?;
+    play(rt, alloc, &mut ends, &MIDDLE);
+    let settled = settled(rt, alloc, ends)?;
+    assert_whole(rt, alloc, &settled)
 }

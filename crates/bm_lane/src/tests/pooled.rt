@@ -120,6 +120,20 @@ fn room_for_two<T: Drop>(alloc: Global) -> Result<Vec<T>, AllocError>
     }
 }
 
+// The writer's end of a lane that heard these texts.
+fn writer_of<Y: Yard, W: Wait + Drop, R: Wait>(
+    rt: &R,
+    alloc: Global,
+    blank: Blank<W>,
+    lane: u64,
+    texts: &[&str],
+) -> Result<WriterEnd<Y, W>, AllocError>
+    requires { (blank.queue ≡ Y.queue lane) × (blank.copy ≡ Y.copy lane) }
+{
+    let Ends { writer, .. } = heard::<Y, W, R>(rt, alloc, blank, lane, texts)?;
+    Ok(writer)
+}
+
 // The report of so many threads that drain lanes with these texts; None where a thread or memory was refused.
 fn pooled<
     Y: Yard + Send + Sync,
@@ -139,16 +153,8 @@ fn pooled<
     requires first { (first.queue ≡ Y.queue 0) × (first.copy ≡ Y.copy 0) }
     requires second { (second.queue ≡ Y.queue 1) × (second.copy ≡ Y.copy 1) }
 {
-    let Ends {
-        reader: _,
-        writer: one,
-        viewers: _,
-    } = heard::<Y, W, R>(rt, alloc, first, 0, texts)?;
-    let Ends {
-        reader: _,
-        writer: two,
-        viewers: _,
-    } = heard::<Y, W, R>(rt, alloc, second, 1, texts)?;
+    let one = writer_of::<Y, W, R>(rt, alloc, first, 0, texts)?;
+    let two = writer_of::<Y, W, R>(rt, alloc, second, 1, texts)?;
     let mut lanes = room_for_two(alloc)?;
     lanes.push_reserved(Mutex::new(one));
     lanes.push_reserved(Mutex::new(two));
@@ -206,18 +212,19 @@ fn taken<R: Threads + Wait + Sync>(
 
 #[test]
 fn pool_drains_the_lanes_that_its_gate_lets_it(rt: HostRuntime) -> Result<(), Fail> {
-    let (go, skip, stop) = (Pass::Go, Pass::Skip, Pass::Stop);
-    for (answers, threads, took, asked, drains) in [
-        ([go, go], 2, 4, 2_000, 2_000),
-        ([go, go], 1, 4, 1_000, 1_000),
-        ([go, skip], 2, 2, 2_000, 1_000),
-        ([skip, go], 1, 2, 1_000, 500),
-        ([skip, skip], 2, 0, 2_000, 0),
-        ([go, stop], 1, 1, 2, 1),
-        ([stop, stop], 2, 0, 2, 0),
-    ] {
-        let (items, told) = taken(&rt, rt.alloc(), answers, threads)?;
-        assert_eq!(rt; (items, told.asked, told.drains), (took, asked, drains));
+    // The answers for both lanes and the threads, and what was taken, asked and drained.
+    static ROWS: [(Pass, Pass, usize, u128, u64, u64); 7] = [
+        (Pass::Go, Pass::Go, 2, 4, 2_000, 2_000),
+        (Pass::Go, Pass::Go, 1, 4, 1_000, 1_000),
+        (Pass::Go, Pass::Skip, 2, 2, 2_000, 1_000),
+        (Pass::Skip, Pass::Go, 1, 2, 1_000, 500),
+        (Pass::Skip, Pass::Skip, 2, 0, 2_000, 0),
+        (Pass::Go, Pass::Stop, 1, 1, 2, 1),
+        (Pass::Stop, Pass::Stop, 2, 0, 2, 0),
+    ];
+    for (first, second, threads, took, asked, drains) in &ROWS {
+        let (items, told) = taken(&rt, rt.alloc(), [*first, *second], *threads)?;
+        assert_eq!(rt; (items, told.asked, told.drains), (*took, *asked, *drains));
     }
     Ok(())
 }
@@ -295,6 +302,28 @@ fn drained<Y: Yard + Send + Sync, W: Wait + Drop + Send + Sync, R: Threads + Wai
     Some((first, second, ran))
 }
 
+// The ends of two lanes after a pool of their writer's ends.
+fn after_pool<Y: Yard + Send + Sync, W: Wait + Drop + Send + Sync, R: Threads + Wait + Sync>(
+    rt: &R,
+    alloc: Global,
+    one: Ends<Y, W>,
+    two: Ends<Y, W>,
+    gate: &Always,
+) -> Option<(Ends<Y, W>, Ends<Y, W>, Ran)> {
+    let (first, second, ran) = drained(rt, alloc, one.writer, two.writer, gate)?;
+    let one = Ends {
+        reader: one.reader,
+        writer: first,
+        viewers: one.viewers,
+    };
+    let two = Ends {
+        reader: two.reader,
+        writer: second,
+        viewers: two.viewers,
+    };
+    Some((one, two, ran))
+}
+
 // A pool drains two lanes, which are then settled: a held item has gone first, so each book is whole and in order.
 fn under_pressure<
     Y: Yard + Send + Sync,
@@ -306,28 +335,8 @@ fn under_pressure<
 {
     let one = heard::<Y, W, R>(rt, alloc, first, 0, &["a\n"])?;
     let two = heard::<Y, W, R>(rt, alloc, second, 1, &["b\n"])?;
-    let (first, second, ran) = drained(rt, alloc, one.writer, two.writer, gate).ok_or("no pool")?;
-    let one = whole(rt, alloc, one.reader, first, one.viewers)?;
-    let two = whole(rt, alloc, two.reader, second, two.viewers)?;
-    assert!(rt; has_lines(&one.book, "oa\n") && has_lines(&two.book, "ob\n"));
+    let (one, two, ran) = after_pool(rt, alloc, one, two, gate).ok_or("no pool")?;
+    assert!(rt; leaves(rt, alloc, one, "oa\n")?);
+    assert!(rt; leaves(rt, alloc, two, "ob\n")?);
     Ok(ran)
-}
-
-// What is left of a lane with these ends.
-fn whole<Y: Yard, W: Wait + Drop, R: Wait + Abort>(
-    rt: &R,
-    alloc: Global,
-    reader: ReaderEnd<Y>,
-    writer: WriterEnd<Y, W>,
-    viewers: Vec<Viewer<Y>>,
-) -> Result<Settled, Fail> {
-    settled(
-        rt,
-        alloc,
-        Ends {
-            reader,
-            writer,
-            viewers,
-        },
-    )
 }
