@@ -59,6 +59,7 @@ impl World {
 
     /// Does one step. Out of memory, the step comes back and nothing has changed; so it may be where the queue is full,
     /// too, since a plan takes its memory first.
+    #[inline(always)]
     pub fn step(&mut self, step: Step) -> Result<Answer, (Step, AllocError)>
         ensures answer { IfOk result (λ a. a ≡ (stepped self.old step).0) }
         ensures after { OnOk result (self.new ≡ (stepped self.old step).1) }
@@ -82,6 +83,7 @@ impl World {
     }
 
     /// Takes an event whose item has room. Out of memory, the event comes back.
+    #[inline(never)]
     fn hear(&mut self, event: Event) -> Result<Answer, Event>
         ensures answer { IfOk result (λ a. a ≡ (heard self.old event (refusal_of self.old.trace event)).0) }
         ensures after { OnOk result (self.new ≡ (heard self.old event (refusal_of self.old.trace event)).1) }
@@ -108,6 +110,7 @@ impl World {
     }
 
     /// Takes one item out of the queue into the book. Out of memory, it stays in the queue.
+    #[inline(never)]
     fn drain(&mut self) -> Result<Answer, AllocError>
         ensures answer { IfOk result (λ a. a ≡ (drained self.old).0) }
         ensures after { OnOk result (self.new ≡ (drained self.old).1) }
@@ -122,6 +125,8 @@ impl World {
     }
 
     /// The asked lines of what viewers see.
+    #[cold]
+    #[inline(never)]
     fn look(&self, k: u64, name: &Text, offset: u64, limit: u64) -> Result<Answer, AllocError>
         ensures { IfOk result (λ a. a ≡ seen self.now k name.now offset limit) }
     {
