@@ -220,6 +220,23 @@ pub fn heard<Y: Yard, W: Wait + Drop, R: Wait>(
     }
 }
 
+/// The ends of lanes 0 and 1, which heard these texts.
+pub fn both_heard<Y: Yard, W: Wait + Drop, R: Wait>(
+    rt: &R,
+    alloc: Global,
+    first: Blank<W>,
+    second: Blank<W>,
+    ours: &[&str],
+    theirs: &[&str],
+) -> Result<(Ends<Y, W>, Ends<Y, W>), AllocError>
+    requires first { (first.queue ≡ Y.queue 0) × (first.copy ≡ Y.copy 0) }
+    requires second { (second.queue ≡ Y.queue 1) × (second.copy ≡ Y.copy 1) }
+{
+    let one = heard::<Y, W, R>(rt, alloc, first, 0, ours)?;
+    let two = heard::<Y, W, R>(rt, alloc, second, 1, theirs)?;
+    Ok((one, two))
+}
+
 // What is left of a lane, or its ends where they aren't all there or memory is wanting.
 fn try_settled<Y: Yard, W: Wait + Drop, R: Wait>(
     rt: &R,

@@ -108,8 +108,7 @@ fn two_lanes<Y: Yard, W: Wait + Drop, R: Wait + Abort>(
     requires first { (first.queue ≡ Y.queue 0) × (first.copy ≡ Y.copy 0) }
     requires second { (second.queue ≡ Y.queue 1) × (second.copy ≡ Y.copy 1) }
 {
-    let one = heard::<Y, W, R>(rt, alloc, first, 0, &["a\n"])?;
-    let two = heard::<Y, W, R>(rt, alloc, second, 1, &["b\n", "c\n"])?;
+    let (one, two) = both_heard::<Y, W, R>(rt, alloc, first, second, &["a\n"], &["b\n", "c\n"])?;
     assert!(rt; are_apart(&one, &two) && are_apart(&two, &one));
     assert!(rt; leaves(rt, alloc, one, "oa\n")?);
     assert!(rt; leaves(rt, alloc, two, "ob\noc\n")?);

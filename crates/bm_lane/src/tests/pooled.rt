@@ -333,8 +333,7 @@ fn under_pressure<
     requires first { (first.queue ≡ Y.queue 0) × (first.copy ≡ Y.copy 0) }
     requires second { (second.queue ≡ Y.queue 1) × (second.copy ≡ Y.copy 1) }
 {
-    let one = heard::<Y, W, R>(rt, alloc, first, 0, &["a\n"])?;
-    let two = heard::<Y, W, R>(rt, alloc, second, 1, &["b\n"])?;
+    let (one, two) = both_heard::<Y, W, R>(rt, alloc, first, second, &["a\n"], &["b\n"])?;
     let (one, two, ran) = after_pool(rt, alloc, one, two, gate).ok_or("no pool")?;
     assert!(rt; leaves(rt, alloc, one, "oa\n")?);
     assert!(rt; leaves(rt, alloc, two, "ob\n")?);
