@@ -2,3 +2,4 @@ pub mod Names
 pub mod Lines
 pub mod Parcels
 pub mod OneOrMany
+pub mod Places

@@ -6,6 +6,10 @@ use Rattle.bm_lines.specs.Names.{Name}
 use Rattle.bm_lines.specs.declared.line.Line.{Line}
 use Rattle.bm_lines.specs.declared.parcel.Part.{Part}
 
+-- the names of the parts
+abbrev pub names_of : List Part → List Name
+names_of ps = map (λ (p : Part). p.name) ps
+
 -- no name twice
 abbrev pub are_distinct : List Part → Bool
 are_distinct [] = true

@@ -6,6 +6,7 @@
 mod block;
 mod line;
 mod log_name;
+mod name_table;
 mod one_or_many;
 mod parcel;
 #[cfg(test)]
@@ -15,5 +16,6 @@ mod text;
 pub use block::{Block, append_content, content, cut};
 pub use line::{Letter, Line};
 pub use log_name::LogName;
+pub use name_table::NameTable;
 pub use parcel::{Parcel, Part};
 pub use text::Text;

@@ -1,19 +1,24 @@
-ghost use Rattle.std.specs.Prelude.{◌≡◌, ◌<◌, [], true, OnOk, OnErr, bytes_eq, IfOk, length};
+ghost use Rattle.std.specs.Prelude.{◌≡◌, ◌<◌, [], ◌∷◌, ◌++◌, true, OnOk, OnErr, bytes_eq, IfOk, length};
 ghost use Rattle.std.specs.Option.{option_copied};
 ghost use Rattle.std.specs.List.{position_or_len};
 ghost use Rattle.bm_lines.specs.Lines.{lines_of};
 ghost use Rattle.bm_lines.specs.Names.{Name};
 ghost use Rattle.bm_lines.specs.OneOrMany.{items_of};
-ghost use Rattle.bm_lines.specs.Parcels.{are_distinct, with_item, block_under};
+ghost use Rattle.bm_lines.specs.Parcels.{are_distinct, names_of, with_item, block_under};
+ghost use Rattle.bm_lines.specs.Places.{HasPlaces, HasPlacesIfAny};
 
 use crate::block::Block;
 use crate::line::Letter;
 use crate::log_name::LogName;
+use crate::name_table::NameTable;
 use crate::one_or_many::OneOrMany;
 use crate::text::Text;
 use std::alloc::{AllocError, Global};
 use std::marker::Model;
 use std::slice;
+
+/// As many parts are looked through faster than a table is made.
+const FEW: usize = 8;
 
 /// The lines that one update carries for one log.
 #[derive(Drop)]
@@ -39,19 +44,22 @@ impl Part {
 pub struct Parcel {
     alloc: Global,
     parts: OneOrMany<Part>,
+    /// The places of the parts' names, where there are more than a few.
+    places: Option<NameTable>,
 }
 
 impl Model for Parcel {
     ghost use Rattle.std.specs.Prelude.{List, true, ◌≡◌};
     ghost use Rattle.bm_lines.specs.declared.parcel.Part.{Part};
     ghost use Rattle.bm_lines.specs.OneOrMany.{items_of};
-    ghost use Rattle.bm_lines.specs.Parcels.{are_distinct};
+    ghost use Rattle.bm_lines.specs.Parcels.{are_distinct, names_of};
+    ghost use Rattle.bm_lines.specs.Places.{HasPlacesIfAny};
 
     ghost Value = { List Part };
 
     ghost view = { λ p. items_of p.parts };
 
-    ghost invariant = { λ p. are_distinct (items_of p.parts) ≡ true };
+    ghost invariant = { λ p. (are_distinct (items_of p.parts) ≡ true) × HasPlacesIfAny p.places (names_of (items_of p.parts)) };
 }
 
 impl Parcel {
@@ -62,6 +70,7 @@ impl Parcel {
         Parcel {
             alloc,
             parts: OneOrMany::new(alloc),
+            places: None,
         }
     }
 
@@ -77,7 +86,7 @@ impl Parcel {
         ensures { option_copied result ≡ block_under name.now self.now }
     {
         let parts = slice_of(&self.parts);
-        let i = place(parts, name);
+        let i = known_place(&self.places, parts, name);
         if i < parts.len() {
             Some(&parts[i].block)
         } else {
@@ -99,10 +108,31 @@ impl Parcel {
         ensures ok { OnOk result (self.new ≡ with_item name.now (lines_of letter text) self.old) }
         ensures err { OnErr result (self.new ≡ self.old) }
     {
-        put(self.alloc, &mut self.parts, name, letter, text)
+        if self.places.is_none() && slice_of(&self.parts).len() < FEW {
+            return put(self.alloc, &mut self.parts, name, letter, text);
+        }
+        self.add_by_table(name, letter, text)
     }
 
-    /// An equal parcel, whose blocks share their lines with those of this one.
+    /// The same where a walk would take long.
+    ///
+    /// After want of memory there is no table; the next call makes it.
+    #[cold]
+    #[inline(never)]
+    fn add_by_table(&mut self, name: &LogName, letter: Letter, text: Text) -> Result<(), AllocError>
+        ensures ok { OnOk result (self.new ≡ with_item name.now (lines_of letter text) self.old) }
+        ensures err { OnErr result (self.new ≡ self.old) }
+    {
+        let places = match self.places.take() {
+            Some(places) => places,
+            None => table_of(self.alloc, slice_of(&self.parts))?,
+        };
+        let places = put_by_table(self.alloc, &mut self.parts, places, name, letter, text)?;
+        self.places = Some(places);
+        Ok(())
+    }
+
+    /// An equal parcel, whose blocks share their lines with those of this one. It has no table.
     pub fn copy(&self) -> Result<Parcel, AllocError>
         ensures { IfOk result (λ p. p ≡ self.now) }
     {
@@ -113,6 +143,7 @@ impl Parcel {
         Ok(Parcel {
             alloc: self.alloc,
             parts,
+            places: None,
         })
     }
 }
@@ -142,9 +173,60 @@ fn put(
     if i < slice.len() {
         return add_at(parts, i, letter, text.as_str());
     }
+    push(alloc, parts, name, letter, text)
+}
+
+/// Appends a new part with the lines of a text.
+#[inline(always)]
+fn push(
+    alloc: Global,
+    parts: &mut OneOrMany<Part>,
+    name: &LogName,
+    letter: Letter,
+    text: Text,
+) -> Result<(), AllocError>
+    ensures ok { OnOk result (items_of parts.new ≡ items_of parts.old ++ record { name = name.now; block = lines_of letter text } ∷ []) }
+    ensures err { OnErr result (items_of parts.new ≡ items_of parts.old) }
+{
     let block = Block::of_text(alloc, letter, text)?;
     let name = name.copy()?;
     parts.push(alloc, Part { name, block })
+}
+
+/// Appends the lines of a text to the part with this name, or to a new part at the end. The table that is given tells the
+/// places of the old parts, the one that comes back those of the new.
+fn put_by_table(
+    alloc: Global,
+    parts: &mut OneOrMany<Part>,
+    places: NameTable,
+    name: &LogName,
+    letter: Letter,
+    text: Text,
+) -> Result<NameTable, AllocError>
+    requires { HasPlaces places (names_of (items_of parts.old)) }
+    ensures ok { OnOk result (items_of parts.new ≡ with_item name.now (lines_of letter text) (items_of parts.old)) }
+    ensures places { IfOk result (λ t. HasPlaces t (names_of (with_item name.now (lines_of letter text) (items_of parts.old)))) }
+    ensures err { OnErr result (items_of parts.new ≡ items_of parts.old) }
+{
+    if let Some(i) = places.place(name.as_str()) {
+        add_at(parts, i, letter, text.as_str())?;
+        return Ok(places);
+    }
+    let mut places = places;
+    places.add(alloc, name.as_str(), slice_of(parts).len())?;
+    push(alloc, parts, name, letter, text)?;
+    Ok(places)
+}
+
+/// The places of the parts' names.
+fn table_of(alloc: Global, parts: &[Part]) -> Result<NameTable, AllocError>
+    ensures { IfOk result (λ t. HasPlaces t (names_of parts.now)) }
+{
+    let mut places = NameTable::new(alloc)?;
+    for i in 0..parts.len() {
+        places.add(alloc, parts[i].name.as_str(), i)?;
+    }
+    Ok(places)
 }
 
 /// Appends the lines of a text to the part at a place.
@@ -181,6 +263,17 @@ fn copies(alloc: Global, parts: &[Part]) -> Result<Vec<Part>, AllocError>
 }
 
 /// The place of the first part with this name, or the number of parts.
+fn known_place(places: &Option<NameTable>, parts: &[Part], name: &str) -> usize
+    requires { HasPlacesIfAny places.now (names_of parts.now) }
+    ensures { result ≡ position_or_len (λ p. bytes_eq p.name name.now) parts.now }
+{
+    match places {
+        Some(places) => places.place(name).unwrap_or(parts.len()),
+        None => place(parts, name),
+    }
+}
+
+/// The same by a walk.
 fn place(parts: &[Part], name: &str) -> usize
     ensures { result ≡ position_or_len (λ p. bytes_eq p.name name.now) parts.now }
 {

@@ -1,5 +1,6 @@
 //! What no clause says: worked examples, that calls succeed, and that copies keep what they had.
 
+mod many_names;
 mod memory;
 
 use crate::{Block, Letter, Line, LogName, Parcel, Text, append_content, content, cut};

@@ -102,6 +102,26 @@ fn refused_given_text_leaves_the_parts(rt: HostRuntime) -> Result<(), Fail> {
     Ok(())
 }
 
+/// More names than a parcel has without a table.
+static NAMES: [&str; 10] = ["k", "a", "stdio", "c", "b", "e", "d", "g", "f", "h"];
+
+#[test]
+fn refused_table_leaves_the_parts(rt: HostRuntime) -> Result<(), Fail> {
+    let alloc = rt.alloc();
+    let mut parcel = Parcel::new(alloc);
+    for said in ["a", "b"] {
+        for name in NAMES {
+            give(&rt, alloc, &mut parcel, name, said)?;
+        }
+    }
+    assert_eq!(rt; parcel.parts().len(), NAMES.len());
+    for name in NAMES {
+        let block = parcel.of(name).expect(&rt, "the part");
+        assert_eq!(rt; told(alloc, block.lines())?.as_str(), "oa\nob\n");
+    }
+    Ok(())
+}
+
 #[test]
 fn refused_text_can_be_copied_again(rt: HostRuntime) -> Result<(), Fail> {
     let alloc = rt.alloc();

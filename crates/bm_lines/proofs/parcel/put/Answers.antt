@@ -1,4 +1,4 @@
-use Rattle.std.proofs.Common.{◌≡◌, ◌∙◌, ◌++◌, ◌∷◌, [], ◌≤◌, ap, length, bytes_eq, arith}
+use Rattle.std.proofs.Common.{◌≡◌, ◌∙◌, ◌≤◌, ap, length, bytes_eq, arith}
 use Rattle.std.proofs.lemmas.Result.{IfOk-equal}
 use Rattle.std.specs.List.{position_or_len}
 use Rattle.bm_lines.specs.Lines.{lines_of}
@@ -24,7 +24,4 @@ returns-clause-ok c =
     ∙ ap (λ ps. position_or_len (λ (q : Part). bytes_eq q.name c.as_str.result.now) ps) c.slice_of-slice.ensures
     ∙ ap (λ n. position_or_len (λ (q : Part). bytes_eq q.name n) (items_of c.args.parts.now)) c.as_str.ensures.text in
     let past : length (items_of c.args.parts.now) ≤ position_or_len (λ q. bytes_eq q.name c.args.name.now) (items_of c.args.parts.now) = omega (arith, at, ap length c.slice_of-slice.ensures) in
-    IfOk-equal c.push.result _ _ _ c.push.ensures.ok
-    (ap (λ n. items_of c.args.parts.now ++ record { name = n; block = c.in_ok-block.block } ∷ []) c.in_ok-name.ensures
-    ∙ with_item-past (items_of c.args.parts.now) c.args.name.now c.in_ok-block.block past
-    ∙ ap (λ ls. with_item c.args.name.now ls (items_of c.args.parts.now)) c.in_ok-block.ensures)
+    IfOk-equal c.push.result _ _ _ c.push.ensures.ok (with_item-past (items_of c.args.parts.now) c.args.name.now (lines_of c.args.letter c.args.text) past)

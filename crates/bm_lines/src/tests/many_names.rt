@@ -1,0 +1,74 @@
+//! A parcel of many names, which has a table of them.
+
+use super::{named, told, told_under};
+use crate::{Letter, LogName, Parcel};
+use std::alloc::{AllocError, Global};
+use std::process::Abort;
+use std::test::Fail;
+
+const NAMES: u32 = 3000;
+
+/// The number of the name at a place: each below `NAMES` once, in no order that a table could have.
+fn number_at(place: u32) -> u32 {
+    place.wrapping_mul(7919) % NAMES
+}
+
+/// The name that is a number's digits.
+fn numbered(rt: &impl Abort, alloc: Global, number: u32) -> Result<LogName, AllocError> {
+    let digits = format!(in alloc; "{number}")?;
+    named(rt, alloc, digits.as_str())
+}
+
+/// Whether the part at the place has the place's name, and what was said under it.
+fn is_at(
+    rt: &impl Abort,
+    alloc: Global,
+    parcel: &Parcel,
+    place: u32,
+    said: &str,
+) -> Result<bool, AllocError> {
+    let name = numbered(rt, alloc, number_at(place))?;
+    let part = parcel
+        .parts()
+        .get(place as usize)
+        .expect(rt, "a part at that place");
+    Ok(
+        part.name.is_same(&name)
+            && told(alloc, &part.block)?.as_str() == said
+            && told_under(rt, alloc, parcel, name.as_str())?.as_str() == said,
+    )
+}
+
+/// Whether the parts are those of all names, in their order, each with what was said.
+fn is_whole(
+    rt: &impl Abort,
+    alloc: Global,
+    parcel: &Parcel,
+    said: &str,
+) -> Result<bool, AllocError> {
+    for place in 0..NAMES {
+        if !is_at(rt, alloc, parcel, place, said)? {
+            return Ok(false);
+        }
+    }
+    Ok(parcel.parts().len() == NAMES as usize && parcel.of("a").is_none())
+}
+
+#[test]
+fn many_names_keep_their_places(rt: HostRuntime) -> Result<(), Fail> {
+    let alloc = rt.alloc();
+    let mut parcel = Parcel::new(alloc);
+    for place in 0..NAMES {
+        let name = numbered(&rt, alloc, number_at(place))?;
+        parcel.add(&name, Letter::O, "a")?;
+    }
+    assert!(rt; is_whole(&rt, alloc, &parcel, "oa\n")?);
+    let mut copy = parcel.copy()?;
+    for number in 0..NAMES {
+        let name = numbered(&rt, alloc, number)?;
+        copy.add(&name, Letter::E, "b")?;
+    }
+    assert!(rt; is_whole(&rt, alloc, &copy, "oa\neb\n")?);
+    assert!(rt; is_whole(&rt, alloc, &parcel, "oa\n")?);
+    Ok(())
+}
