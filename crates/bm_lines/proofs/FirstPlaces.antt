@@ -1,5 +1,5 @@
 -- First places in a list that grows at its end.
-use Rattle.std.proofs.Common.{◌≡◌, refl, sym, subst, ◌∙◌, ap, ℕ, ◌+◌, ◌≤◌, ◌<◌, Bool, true, false, cond, not, List, [], ◌∷◌, ◌++◌, length, map, Option, Some, None, nat_eq, nat_lt, unwrap_or, arith}
+use Rattle.std.proofs.Common.{◌≡◌, refl, sym, ◌∙◌, ap, ℕ, ◌+◌, ◌≤◌, ◌<◌, Bool, true, false, cond, not, List, [], ◌∷◌, ◌++◌, length, map, Option, Some, None, nat_eq, nat_lt, arith}
 use Rattle.std.specs.Prelude.{bytes_eq, position}
 use Rattle.std.specs.List.{position_or_len}
 use Rattle.std.specs.Option.{option_or, is_some}
@@ -9,19 +9,11 @@ use Rattle.std.proofs.lemmas.List.{length_push, length-map}
 use Rattle.std.proofs.lemmas.List.Folds.{position_or_len_push}
 use Rattle.std.proofs.lemmas.List.Sums.{prefix_len-le-length}
 use Rattle.bm_lines.specs.Names.{Name}
-use Rattle.bm_lines.specs.Places.{HasPlaces, HasPlacesIfAny, place_in, first_place}
+use Rattle.bm_lines.specs.Places.{HasPlaces, place_in, first_place}
 use Rattle.bm_lines.specs.declared.name_table.NameTable.{NameTable}
 use Rattle.bm_lines.proofs.PartLists.{same_name}
 
 -- ---- places in any list
-
--- the place, or the length where there is none
-pub position-or_len : {A : Type 0} (p : A → Bool) (xs : List A) → unwrap_or (position p xs) (length xs) ≡ position_or_len p xs
-position-or_len p xs = go (nat_lt (position_or_len p xs) (length xs)) refl (prefix_len-le-length (λ x. not (p x)) xs)
-  where
-    go : (b : Bool) → nat_lt (position_or_len p xs) (length xs) ≡ b → position_or_len p xs ≤ length xs → unwrap_or (cond b (Some (position_or_len p xs)) None) (length xs) ≡ position_or_len p xs
-    go true e h = refl
-    go false e h = grind (arith, nat_tests)
 
 pub position-found : {A : Type 0} (p : A → Bool) (xs : List A) (i : ℕ) → position p xs ≡ Some i → (i ≡ position_or_len p xs) × (i < length xs)
 position-found p xs i h = go (nat_lt (position_or_len p xs) (length xs)) refl h
@@ -80,9 +72,6 @@ position-push p xs y = grown (position_or_len p xs) (length xs) _ _ (p y) (prefi
 
 -- ---- tables
 
-pub has_places-in : (o : Option NameTable) (table : NameTable) (names : List Name) → o ≡ Some table → HasPlacesIfAny o names → HasPlaces table names
-has_places-in o table names is has = subst (λ x. HasPlacesIfAny x names) is has
-
 or_none : {A : Type 0} (o : Option A) → option_or o None ≡ o
 or_none None = refl
 or_none (Some x) = refl
@@ -115,7 +104,3 @@ none_there (Some x) h = absurd cc
 pub some_there : {A : Type 0} (o : Option A) → is_some o ≡ true → (x : A) × (o ≡ Some x)
 some_there None h = absurd cc
 some_there (Some x) h = (x, refl)
-
-pub no_table : (o : Option NameTable) (names : List Name) → is_some o ≡ false → HasPlacesIfAny o names
-no_table None names h = tt
-no_table (Some t) names h = absurd cc

@@ -4,6 +4,7 @@
 #![tactic(auto)]
 
 mod block;
+mod builder;
 mod line;
 mod log_name;
 mod name_table;
@@ -14,6 +15,7 @@ mod tests;
 mod text;
 
 pub use block::{Block, append_content, content, cut};
+pub use builder::ParcelBuilder;
 pub use line::{Letter, Line};
 pub use log_name::LogName;
 pub use name_table::NameTable;

@@ -5,7 +5,7 @@ ghost use Rattle.bm_lines.specs.Lines.{lines_of};
 ghost use Rattle.bm_lines.specs.Names.{Name};
 ghost use Rattle.bm_lines.specs.OneOrMany.{items_of};
 ghost use Rattle.bm_lines.specs.Parcels.{are_distinct, names_of, with_item, block_under};
-ghost use Rattle.bm_lines.specs.Places.{HasPlaces, HasPlacesIfAny};
+ghost use Rattle.bm_lines.specs.Places.{HasPlaces};
 
 use crate::block::Block;
 use crate::line::Letter;
@@ -16,9 +16,6 @@ use crate::text::Text;
 use std::alloc::{AllocError, Global};
 use std::marker::Model;
 use std::slice;
-
-/// As many parts are looked through faster than a table is made.
-const FEW: usize = 8;
 
 /// The lines that one update carries for one log.
 #[derive(Drop)]
@@ -44,22 +41,19 @@ impl Part {
 pub struct Parcel {
     alloc: Global,
     parts: OneOrMany<Part>,
-    /// The places of the parts' names, where there are more than a few.
-    places: Option<NameTable>,
 }
 
 impl Model for Parcel {
     ghost use Rattle.std.specs.Prelude.{List, true, ◌≡◌};
     ghost use Rattle.bm_lines.specs.declared.parcel.Part.{Part};
     ghost use Rattle.bm_lines.specs.OneOrMany.{items_of};
-    ghost use Rattle.bm_lines.specs.Parcels.{are_distinct, names_of};
-    ghost use Rattle.bm_lines.specs.Places.{HasPlacesIfAny};
+    ghost use Rattle.bm_lines.specs.Parcels.{are_distinct};
 
     ghost Value = { List Part };
 
     ghost view = { λ p. items_of p.parts };
 
-    ghost invariant = { λ p. (are_distinct (items_of p.parts) ≡ true) × HasPlacesIfAny p.places (names_of (items_of p.parts)) };
+    ghost invariant = { λ p. are_distinct (items_of p.parts) ≡ true };
 }
 
 impl Parcel {
@@ -70,7 +64,6 @@ impl Parcel {
         Parcel {
             alloc,
             parts: OneOrMany::new(alloc),
-            places: None,
         }
     }
 
@@ -86,7 +79,7 @@ impl Parcel {
         ensures { option_copied result ≡ block_under name.now self.now }
     {
         let parts = slice_of(&self.parts);
-        let i = known_place(&self.places, parts, name);
+        let i = place(parts, name);
         if i < parts.len() {
             Some(&parts[i].block)
         } else {
@@ -108,31 +101,26 @@ impl Parcel {
         ensures ok { OnOk result (self.new ≡ with_item name.now (lines_of letter text) self.old) }
         ensures err { OnErr result (self.new ≡ self.old) }
     {
-        if self.places.is_none() && slice_of(&self.parts).len() < FEW {
-            return put(self.alloc, &mut self.parts, name, letter, text);
-        }
-        self.add_by_table(name, letter, text)
+        put(self.alloc, &mut self.parts, name, letter, text)
     }
 
-    /// The same where a walk would take long.
-    ///
-    /// After want of memory there is no table; the next call makes it.
-    #[cold]
-    #[inline(never)]
-    fn add_by_table(&mut self, name: &LogName, letter: Letter, text: Text) -> Result<(), AllocError>
+    /// The same, where a table tells the places of the parts' names. The one that comes back tells those of the new parts.
+    pub(crate) fn add_by_table(
+        &mut self,
+        places: NameTable,
+        name: &LogName,
+        letter: Letter,
+        text: Text,
+    ) -> Result<NameTable, AllocError>
+        requires { HasPlaces places (names_of self.old) }
         ensures ok { OnOk result (self.new ≡ with_item name.now (lines_of letter text) self.old) }
+        ensures places { IfOk result (λ t. HasPlaces t (names_of (with_item name.now (lines_of letter text) self.old))) }
         ensures err { OnErr result (self.new ≡ self.old) }
     {
-        let places = match self.places.take() {
-            Some(places) => places,
-            None => table_of(self.alloc, slice_of(&self.parts))?,
-        };
-        let places = put_by_table(self.alloc, &mut self.parts, places, name, letter, text)?;
-        self.places = Some(places);
-        Ok(())
+        put_by_table(self.alloc, &mut self.parts, places, name, letter, text)
     }
 
-    /// An equal parcel, whose blocks share their lines with those of this one. It has no table.
+    /// An equal parcel, whose blocks share their lines with those of this one.
     pub fn copy(&self) -> Result<Parcel, AllocError>
         ensures { IfOk result (λ p. p ≡ self.now) }
     {
@@ -143,7 +131,6 @@ impl Parcel {
         Ok(Parcel {
             alloc: self.alloc,
             parts,
-            places: None,
         })
     }
 }
@@ -218,17 +205,6 @@ fn put_by_table(
     Ok(places)
 }
 
-/// The places of the parts' names.
-fn table_of(alloc: Global, parts: &[Part]) -> Result<NameTable, AllocError>
-    ensures { IfOk result (λ t. HasPlaces t (names_of parts.now)) }
-{
-    let mut places = NameTable::new(alloc)?;
-    for i in 0..parts.len() {
-        places.add(alloc, parts[i].name.as_str(), i)?;
-    }
-    Ok(places)
-}
-
 /// Appends the lines of a text to the part at a place.
 #[cold]
 #[inline(never)]
@@ -263,17 +239,6 @@ fn copies(alloc: Global, parts: &[Part]) -> Result<Vec<Part>, AllocError>
 }
 
 /// The place of the first part with this name, or the number of parts.
-fn known_place(places: &Option<NameTable>, parts: &[Part], name: &str) -> usize
-    requires { HasPlacesIfAny places.now (names_of parts.now) }
-    ensures { result ≡ position_or_len (λ p. bytes_eq p.name name.now) parts.now }
-{
-    match places {
-        Some(places) => places.place(name).unwrap_or(parts.len()),
-        None => place(parts, name),
-    }
-}
-
-/// The same by a walk.
 fn place(parts: &[Part], name: &str) -> usize
     ensures { result ≡ position_or_len (λ p. bytes_eq p.name name.now) parts.now }
 {

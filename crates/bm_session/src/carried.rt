@@ -3,18 +3,18 @@ ghost use Rattle.std.specs.Prelude.{◌≡◌, IfOk};
 ghost use Rattle.std.specs.Option.{option_or};
 ghost use Rattle.bm_msg.specs.Carried.{carried, last_rc as last_rc_of, with_field, exit_code_of};
 
-use bm_lines::{Letter, LogName, Parcel};
+use bm_lines::{Letter, LogName, Parcel, ParcelBuilder};
 use bm_msg::{Field, Fields};
 use bm_value::Num;
 use std::alloc::{AllocError, Global};
 
 /// Adds what the item carries.
-fn add_field(parcel: &mut Parcel, field: Field) -> Result<(), AllocError>
-    ensures { IfOk result (λ u. parcel.new ≡ with_field parcel.old field) }
+fn add_field(builder: &mut ParcelBuilder, field: Field) -> Result<(), AllocError>
+    ensures { IfOk result (λ u. builder.new ≡ with_field builder.old field) }
 {
     match field {
-        Field::Text(letter, text) => parcel.add_text(&LogName::stdio(), letter, text),
-        Field::Named(name, text) => parcel.add_text(&name, Letter::O, text),
+        Field::Text(letter, text) => builder.add_text(&LogName::stdio(), letter, text),
+        Field::Named(name, text) => builder.add_text(&name, Letter::O, text),
         Field::Rc(_) => Ok(()),
     }
 }
@@ -24,11 +24,11 @@ fn add_field(parcel: &mut Parcel, field: Field) -> Result<(), AllocError>
 pub fn parcel(alloc: Global, fields: Fields) -> Result<Parcel, AllocError>
     ensures { IfOk result (λ parcel. parcel ≡ carried fields) }
 {
-    let mut parcel = Parcel::new(alloc);
+    let mut builder = ParcelBuilder::new(alloc);
     for field in fields.into_vec() {
-        add_field(&mut parcel, field)?;
+        add_field(&mut builder, field)?;
     }
-    Ok(parcel)
+    Ok(builder.into_parcel())
 }
 
 /// The exit code of the item, or the one before it.

@@ -1,7 +1,7 @@
-//! A parcel of many names, which has a table of them.
+//! A parcel of many names, put together with a table of them.
 
 use super::{named, told, told_under};
-use crate::{Letter, LogName, Parcel};
+use crate::{Letter, LogName, Parcel, ParcelBuilder, Text};
 use std::alloc::{AllocError, Global};
 use std::process::Abort;
 use std::test::Fail;
@@ -57,11 +57,12 @@ fn is_whole(
 #[test]
 fn many_names_keep_their_places(rt: HostRuntime) -> Result<(), Fail> {
     let alloc = rt.alloc();
-    let mut parcel = Parcel::new(alloc);
+    let mut builder = ParcelBuilder::new(alloc);
     for place in 0..NAMES {
         let name = numbered(&rt, alloc, number_at(place))?;
-        parcel.add(&name, Letter::O, "a")?;
+        builder.add_text(&name, Letter::O, Text::from_str(alloc, "a")?)?;
     }
+    let parcel = builder.into_parcel();
     assert!(rt; is_whole(&rt, alloc, &parcel, "oa\n")?);
     let mut copy = parcel.copy()?;
     for number in 0..NAMES {

@@ -1,7 +1,7 @@
 //! Calls that meet want of memory change nothing, and answer when they are made again. In the gate no request is refused;
 //! `tests/refused_memory` refuses each in turn.
 
-use crate::{Letter, Line, LogName, Parcel, Text, append_content, content, cut};
+use crate::{Letter, Line, LogName, Parcel, ParcelBuilder, Text, append_content, content, cut};
 use std::alloc::{AllocError, Global};
 use std::process::Abort;
 use std::test::Fail;
@@ -102,18 +102,35 @@ fn refused_given_text_leaves_the_parts(rt: HostRuntime) -> Result<(), Fail> {
     Ok(())
 }
 
-/// More names than a parcel has without a table.
+/// Gives the text to the builder, once more where memory was refused.
+fn build(
+    rt: &impl Abort,
+    alloc: Global,
+    builder: &mut ParcelBuilder,
+    name: &str,
+    said: &str,
+) -> Result<(), AllocError> {
+    let name = again(|| LogName::new(alloc, name))?.expect(rt, "a name of a log");
+    let text = again(|| Text::from_str(alloc, said))?;
+    if builder.add_text(&name, Letter::O, text).is_ok() {
+        return Ok(());
+    }
+    builder.add_text(&name, Letter::O, Text::from_str(alloc, said)?)
+}
+
+/// More names than a builder has without a table.
 static NAMES: [&str; 10] = ["k", "a", "stdio", "c", "b", "e", "d", "g", "f", "h"];
 
 #[test]
 fn refused_table_leaves_the_parts(rt: HostRuntime) -> Result<(), Fail> {
     let alloc = rt.alloc();
-    let mut parcel = Parcel::new(alloc);
+    let mut builder = ParcelBuilder::new(alloc);
     for said in ["a", "b"] {
         for name in NAMES {
-            give(&rt, alloc, &mut parcel, name, said)?;
+            build(&rt, alloc, &mut builder, name, said)?;
         }
     }
+    let parcel = builder.into_parcel();
     assert_eq!(rt; parcel.parts().len(), NAMES.len());
     for name in NAMES {
         let block = parcel.of(name).expect(&rt, "the part");

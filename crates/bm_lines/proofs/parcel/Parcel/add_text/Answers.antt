@@ -1,11 +1,5 @@
-use Rattle.bm_lines.specs.OneOrMany.{items_of}
-use Rattle.bm_lines.specs.Parcels.{names_of}
-use Rattle.bm_lines.proofs.FirstPlaces.{no_table}
 use Rattle.bm_lines.proofs.PartLists.{are_distinct-kept}
 use Rattle.bm_lines.proofs.parcel.Parcel.add_text.Goals as goal
 
 pub invariant_of-self : goal.invariant_of-self
-invariant_of-self c = (
-  are_distinct-kept c.put.result _ _ _ _ c.put.ensures.ok c.put.ensures.err c.self.invariant.0,
-  no_table c.self.inside.places (names_of (items_of c.put.new.parts)) c.if-is_none.ensures,
-)
+invariant_of-self c = are_distinct-kept c.put.result _ _ _ _ c.put.ensures.ok c.put.ensures.err c.self.invariant
