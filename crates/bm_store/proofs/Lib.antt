@@ -5,3 +5,4 @@ pub mod Meaning
 pub mod Places
 mod Rows
 pub mod Shelves
+pub mod LogTables

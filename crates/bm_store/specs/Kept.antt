@@ -19,6 +19,10 @@ pub record Kept : Type 0 where
   pub named : List Named
   pub ended : Option Results
 
+-- the names of the logs
+abbrev pub names_kept : List Named → List Name
+names_kept ls = map (λ (l : Named). l.name) ls
+
 -- the blocks of the first log with the name: none where there is no such log
 abbrev pub blocks_of : List Named → Name → List (List Line)
 blocks_of [] name = []

@@ -1,13 +1,14 @@
-ghost use Rattle.std.specs.Prelude.{◌≡◌, List, bytes_eq, length, position, find as find_named, true, Some, None, if◌then◌else◌, OnOk, OnErr};
+ghost use Rattle.std.specs.Prelude.{◌≡◌, List, bytes_eq, length, position, slice_get, find as find_named, true, Some, None, if◌then◌else◌, OnOk, OnErr, IfOk};
 ghost use Rattle.std.specs.Option.{option_copied};
+ghost use Rattle.bm_lines.specs.Places.{HasPlaces, HasPlacesIfAny};
 ghost use Rattle.bm_session.specs.Trace.{joined};
 ghost use Rattle.bm_store.specs.Book.{is_there, placed_log, state_log};
-ghost use Rattle.bm_store.specs.Kept.{Named, blocks_of, logs_kept, with_block, with_parts, without_block, have_blocks, nothing_kept, kept_with_parcel, kept_with_end};
+ghost use Rattle.bm_store.specs.Kept.{Named, names_kept, blocks_of, logs_kept, with_block, with_parts, without_block, have_blocks, nothing_kept, kept_with_parcel, kept_with_end};
 
 use crate::chunk::LogState;
 use crate::named::NamedLog;
 use crate::placed::Placed;
-use bm_lines::{LogName, Parcel, Part};
+use bm_lines::{LogName, NameTable, Parcel, Part};
 use bm_session::Results;
 use std::alloc::{AllocError, Global};
 use std::marker::Model;
@@ -15,22 +16,28 @@ use std::marker::Model;
 /// The log that is there from the start of a command (Buildbot manual).
 const STDIO: &str = "stdio";
 
+/// As many logs, or parts of a parcel, are looked through faster than a table is made.
+const FEW: usize = 8;
+
 /// The logs of one command that have a block, and how the command ended.
 #[derive(Drop)]
 pub struct CommandLogs {
     named: Vec<NamedLog>,
+    /// The places of the logs' names, where there may be more than a few.
+    places: Option<NameTable>,
     ended: Option<Results>,
 }
 
 impl Model for CommandLogs {
-    ghost use Rattle.bm_store.specs.Kept.{Kept, have_blocks};
+    ghost use Rattle.bm_lines.specs.Places.{HasPlacesIfAny};
+    ghost use Rattle.bm_store.specs.Kept.{Kept, names_kept, have_blocks};
     ghost use Rattle.std.specs.Prelude.{◌≡◌, true};
 
     ghost Value = { Kept };
 
     ghost view = { λ k. record { named = k.named.items; ended = k.ended } };
 
-    ghost invariant = { λ k. have_blocks k.named.items ≡ true };
+    ghost invariant = { λ k. (have_blocks k.named.items ≡ true) × HasPlacesIfAny k.places (names_kept k.named.items) };
 }
 
 fn place_of(logs: &[NamedLog], name: &LogName) -> Option<usize>
@@ -46,12 +53,44 @@ fn find<'a>(logs: &'a [NamedLog], name: &str) -> Option<&'a NamedLog>
     logs.iter().find(|log| log.name().is(name))
 }
 
+/// The log at a place.
+fn log_at(logs: &[NamedLog], place: usize) -> Option<&NamedLog>
+    ensures { option_copied result ≡ slice_get logs.now place }
+{
+    logs.get(place)
+}
+
+/// The log with the name, by the table where there is one.
+fn known<'a>(places: &Option<NameTable>, logs: &'a [NamedLog], name: &str) -> Option<&'a NamedLog>
+    requires { HasPlacesIfAny places.now (names_kept logs.now) }
+    ensures { option_copied result ≡ find_named (λ l. bytes_eq l.name name.now) logs.now }
+{
+    let Some(places) = places else {
+        return find(logs, name);
+    };
+    match places.place(name) {
+        Some(place) => log_at(logs, place),
+        None => None,
+    }
+}
+
 /// Adds the block of a part under its name.
 fn add(logs: &mut Vec<NamedLog>, part: &Part) -> Result<(), AllocError>
     ensures ok { OnOk result (logs.new.items ≡ with_block part.now.name part.now.block logs.old.items) }
     ensures err { OnErr result (logs.new.items ≡ logs.old.items) }
 {
-    match place_of(logs.as_slice(), &part.name) {
+    let place = place_of(logs.as_slice(), &part.name);
+    add_at(logs, place, part)
+}
+
+/// Adds the block of a part to the log at a place, or as a new log.
+#[inline(always)]
+fn add_at(logs: &mut Vec<NamedLog>, place: Option<usize>, part: &Part) -> Result<(), AllocError>
+    requires { place ≡ position (λ l. bytes_eq l.name part.now.name) logs.old.items }
+    ensures ok { OnOk result (logs.new.items ≡ with_block part.now.name part.now.block logs.old.items) }
+    ensures err { OnErr result (logs.new.items ≡ logs.old.items) }
+{
+    match place {
         Some(place) => logs[place].push(part.block.copy()?)?,
         None => {
             let log = NamedLog::new(*logs.allocator(), part.name.copy()?, part.block.copy()?)?;
@@ -104,6 +143,66 @@ fn add_all(logs: &mut Vec<NamedLog>, parts: &[Part]) -> Result<(), AllocError>
     Ok(())
 }
 
+/// Adds the block of a part under its name, to the table too.
+fn add_by_table(
+    logs: &mut Vec<NamedLog>,
+    places: NameTable,
+    part: &Part,
+) -> Result<NameTable, AllocError>
+    requires { HasPlaces places (names_kept logs.old.items) }
+    ensures ok { OnOk result (logs.new.items ≡ with_block part.now.name part.now.block logs.old.items) }
+    ensures places { IfOk result (λ t. HasPlaces t (names_kept (with_block part.now.name part.now.block logs.old.items))) }
+    ensures err { OnErr result (logs.new.items ≡ logs.old.items) }
+{
+    let place = places.place(part.name.as_str());
+    if place.is_some() {
+        add_at(logs, place, part)?;
+        return Ok(places);
+    }
+    let mut places = places;
+    places.add(*logs.allocator(), part.name.as_str(), logs.len())?;
+    add_at(logs, place, part)?;
+    Ok(places)
+}
+
+/// Adds the blocks of all parts, or of none, by a table of the logs. The one that comes back has the new logs too.
+#[cold]
+#[inline(never)]
+fn add_all_by_table(
+    logs: &mut Vec<NamedLog>,
+    places: NameTable,
+    parts: &[Part],
+) -> Result<NameTable, AllocError>
+    requires { HasPlaces places (names_kept logs.old.items) }
+    ensures ok { OnOk result (logs.new.items ≡ with_parts parts.now logs.old.items) }
+    ensures places { IfOk result (λ t. HasPlaces t (names_kept (with_parts parts.now logs.old.items))) }
+    ensures err { OnErr result (have_blocks logs.old.items ≡ true → logs.new.items ≡ logs.old.items) }
+{
+    let mut places = places;
+    for i in 0..parts.len() {
+        match add_by_table(logs, places, &parts[i]) {
+            Ok(more) => places = more,
+            Err(_) => {
+                take_back(logs, &parts[..i]);
+                return Err(AllocError);
+            }
+        }
+    }
+    Ok(places)
+}
+
+/// The places of the logs' names.
+fn table_of(logs: &Vec<NamedLog>) -> Result<NameTable, AllocError>
+    ensures { IfOk result (λ t. HasPlaces t (names_kept logs.now.items)) }
+{
+    let alloc = *logs.allocator();
+    let mut places = NameTable::new(alloc)?;
+    for i in 0..logs.len() {
+        places.add(alloc, logs[i].name().as_str(), i)?;
+    }
+    Ok(places)
+}
+
 impl CommandLogs {
     /// The logs of a command that was just started.
     pub fn new(alloc: Global) -> CommandLogs
@@ -111,6 +210,7 @@ impl CommandLogs {
     {
         CommandLogs {
             named: Vec::new(alloc),
+            places: None,
             ended: None,
         }
     }
@@ -119,7 +219,7 @@ impl CommandLogs {
     pub fn blocks(&self, name: &str) -> Option<&[Placed]>
         ensures { option_copied result ≡ placed_log name.now (logs_kept self.now) }
     {
-        match find(self.named.as_slice(), name) {
+        match known(&self.places, self.named.as_slice(), name) {
             Some(log) => Some(log.blocks()),
             None if name == STDIO => Some(&[]),
             None => None,
@@ -130,7 +230,7 @@ impl CommandLogs {
     fn count(&self, name: &str) -> Option<u128>
         ensures { result ≡ (if is_there name.now (logs_kept self.now) then Some (length (joined (blocks_of self.now.named name.now))) else None) }
     {
-        match find(self.named.as_slice(), name) {
+        match known(&self.places, self.named.as_slice(), name) {
             Some(log) => Some(log.lines()),
             None if name == STDIO => Some(0),
             None => None,
@@ -156,7 +256,30 @@ impl CommandLogs {
         if self.ended.is_some() {
             return Ok(());
         }
-        add_all(&mut self.named, parcel.parts())
+        let parts = parcel.parts();
+        if self.places.is_none() && self.named.len() < FEW && parts.len() < FEW {
+            return add_all(&mut self.named, parts);
+        }
+        self.add_by_table(parts)
+    }
+
+    /// The same for an open command, where walks would take long.
+    ///
+    /// After want of memory there is no table; the next call makes it.
+    #[cold]
+    #[inline(never)]
+    fn add_by_table(&mut self, parts: &[Part]) -> Result<(), AllocError>
+        requires { self.old.ended ≡ None }
+        ensures ok { OnOk result (self.new ≡ kept_with_parcel parts.now self.old) }
+        ensures err { OnErr result (self.new ≡ self.old) }
+    {
+        let places = match self.places.take() {
+            Some(places) => places,
+            None => table_of(&self.named)?,
+        };
+        let places = add_all_by_table(&mut self.named, places, parts)?;
+        self.places = Some(places);
+        Ok(())
     }
 
     /// Ends the command, where it is open.

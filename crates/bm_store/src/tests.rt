@@ -1,5 +1,6 @@
 //! Worked books: what items make of them, and that calls made again after want of memory answer.
 
+mod many_names;
 mod rows;
 mod turn;
 

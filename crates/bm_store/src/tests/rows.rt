@@ -105,3 +105,34 @@ fn copies_are_equal(rt: HostRuntime) -> Result<(), Fail> {
     assert!(rt; again(|| is_copied_block(alloc, placed))?);
     Ok(())
 }
+
+#[test]
+fn many_logs_are_known_by_their_names(rt: HostRuntime) -> Result<(), Fail> {
+    static ROWS: [Row; 10] = [
+        (Open(0), Taken),
+        (
+            Add(&[
+                ("d", "1\n"),
+                ("a", "2\n"),
+                ("stdio", "3\n"),
+                ("c", "4\n"),
+                ("g", "5\n"),
+                ("b", "6\n"),
+                ("f", "7\n"),
+                ("e", "8\n"),
+                ("h", "9\n"),
+            ]),
+            Taken,
+        ),
+        (Add(&[("i", "x\n"), ("a", "y\n"), ("h", "z")]), Taken),
+        (SliceOf("a", 0, 9), Slice(0, 2, "o2\noy\n")),
+        (SliceOf("h", 1, 9), Slice(1, 1, "oz\n")),
+        (SliceOf("i", 0, 9), Slice(0, 1, "ox\n")),
+        (SliceOf("d", 0, 9), Slice(0, 1, "o1\n")),
+        (StateOf(0, "stdio"), State(1, None)),
+        (BlocksOf(0, "a"), Blocks(&[(0, 1), (1, 1)])),
+        (StateOf(0, "j"), NoLog),
+    ];
+    played(&rt, &ROWS)?;
+    Ok(())
+}

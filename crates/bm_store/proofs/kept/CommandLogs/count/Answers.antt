@@ -8,7 +8,7 @@ use Rattle.bm_store.proofs.kept.CommandLogs.count.Goals as goal
 pub returns-in-Some : goal.returns-in-Some
 returns-in-Some c =
     let same : c.as_slice.result.now ≡ c.args.self.now.named = c.as_slice.ensures.value ∙ ap (λ (k : Kept). k.named) c.self.view_is in
-    let full : have_blocks c.args.self.now.named ≡ true = ap (λ (k : Kept). have_blocks k.named) (sym c.self.view_is) ∙ c.self.invariant in
+    let full : have_blocks c.args.self.now.named ≡ true = ap (λ (k : Kept). have_blocks k.named) (sym c.self.view_is) ∙ c.self.invariant.0 in
     let at : find (λ (l : Named). bytes_eq l.name c.args.name.now) c.args.self.now.named ≡ Some c.in-Some.log.now = sym (c.in-Some.ensures ∙ ap (find (λ (l : Named). bytes_eq l.name c.args.name.now)) same) in
     ap Some c.lines.ensures ∙ sym (log-found (λ bs. length (joined bs)) c.args.self.now c.args.name.now c.in-Some.log.now full at)
 
