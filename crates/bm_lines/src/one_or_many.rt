@@ -22,6 +22,7 @@ impl<T> OneOrMany<T> {
 
 impl<T: Drop> OneOrMany<T> {
     /// Appends an item. After want of memory the item is gone.
+    #[inline(always)]
     pub(crate) fn push(&mut self, alloc: Global, item: T) -> Result<(), AllocError>
         ensures ok { OnOk result (items_of self.new ≡ items_of self.old ++ item ∷ []) }
         ensures err { OnErr result (items_of self.new ≡ items_of self.old) }

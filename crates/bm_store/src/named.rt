@@ -64,6 +64,7 @@ impl NamedLog {
     }
 
     /// Adds a block at the end.
+    #[inline(always)]
     pub fn push(&mut self, block: Block) -> Result<(), AllocError>
         ensures ok { OnOk result (self.new ≡ record self.old { blocks = self.old.blocks ++ block ∷ [] }) }
         ensures err { OnErr result (self.new ≡ self.old) }
