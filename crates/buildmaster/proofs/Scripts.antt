@@ -1,7 +1,8 @@
 -- What a reader has left of its script.
-use Rattle.std.proofs.Common.{◌≡◌, ℕ, Bool, true, false, List, [], ◌∷◌, ◌++◌, drop, Option, Some, None, refl, sym, ap, ◌∙◌, subst, append_assoc}
+use Rattle.std.proofs.Common.{◌≡◌, ℕ, ◌+◌, Bool, true, false, List, [], ◌∷◌, ◌++◌, length, drop, Option, Some, None, refl, sym, ap, ◌∙◌, subst, append_assoc, length-append, arith}
 use Rattle.std.specs.Io.KnownBytes.{Keeps, Consumes, IsAtEnd, prepend_known}
-use Rattle.buildmaster.specs.Script.{Gives}
+use Rattle.std.proofs.KnownBytes.{Consumes-nil, Consumes-trans}
+use Rattle.buildmaster.specs.Script.{Counts, Gives}
 
 -- it stays the same
 pub keeps-itself : (a : Option (List ℕ)) → Keeps a a
@@ -43,3 +44,12 @@ kept-gives None m n false lines same gives = tt
 kept-gives None m n true lines same gives = (tt, gives.1)
 kept-gives (Some p) None n ended lines same gives = absurd same
 kept-gives (Some p) (Some q) n ended lines same gives = subst (λ (t : List ℕ). Gives (Some t) n ended lines) same gives
+
+-- nothing was read
+pub counts-nothing : (a : Option (List ℕ)) (n : ℕ) → Counts a a n n
+counts-nothing a n = ([], Consumes-nil a, omega arith)
+
+-- what is read next counts too
+pub counts-on : (a b c : Option (List ℕ)) (first last more after : ℕ) (bytes : List ℕ) → Counts a b first last → Consumes b c bytes → length bytes ≡ more → last + more ≡ after → Counts a c first after
+counts-on a b c first last more after bytes before read long sum =
+    (before.0 ++ bytes, Consumes-trans a b c before.0 bytes before.1 read, omega (arith, before.2, long, sum, length-append before.0 bytes))

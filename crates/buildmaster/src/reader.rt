@@ -39,7 +39,7 @@ pub struct ScriptReader<R> {
 }
 
 impl<R: Read> ScriptReader<R> {
-    ghost use Rattle.buildmaster.specs.Script.{Gives, left};
+    ghost use Rattle.buildmaster.specs.Script.{Counts, Gives, left};
 
     /// A reader of the script that the input holds.
     pub fn new(alloc: Global, input: R) -> Result<ScriptReader<R>, AllocError>
@@ -71,6 +71,8 @@ impl<R: Read> ScriptReader<R> {
     pub fn read_lines(&mut self) -> io::Result<bool>
         ensures more { IfOk result (λ more. more ≡ not self.old.ended) }
         ensures gives { IfOk result (λ more. IsTrue more → Gives (left R.remaining self.old) (left R.remaining self.new) self.new.ended (take self.new.lines (items self.new.window))) }
+        // Each byte that was read counts, and a reader never has counted more than a script may have.
+        ensures counts { IfOk result (λ more. Counts (R.remaining self.old.input) (R.remaining self.new.input) self.old.total self.new.total) }
     {
         if self.ended {
             return Ok(false);
@@ -99,6 +101,8 @@ impl<R: Read> ScriptReader<R> {
         ensures left { left R.remaining self.new ≡ left R.remaining self.old }
         ensures none { self.new.given ≡ 0 }
         ensures ended { self.new.ended ≡ self.old.ended }
+        ensures input { self.new.input ≡ self.old.input }
+        ensures total { self.new.total ≡ self.old.total }
     {
         let given = self.given;
         self.lines = 0;
@@ -112,6 +116,8 @@ impl<R: Read> ScriptReader<R> {
         ensures gives { IsTrue result → Gives (left R.remaining self.old) (left R.remaining self.new) false (take self.new.lines (items self.new.window)) }
         ensures same { result ≡ false → self.new ≡ self.old }
         ensures ended { self.new.ended ≡ self.old.ended }
+        ensures input { self.new.input ≡ self.old.input }
+        ensures total { self.new.total ≡ self.old.total }
     {
         let Some(end) = last_line_end(self.window.as_slice()) else {
             return false;
@@ -127,6 +133,8 @@ impl<R: Read> ScriptReader<R> {
         requires end { IsAtEnd (R.remaining self.old.input) }
         ensures gives { Gives (left R.remaining self.old) (left R.remaining self.new) true (take self.new.lines (items self.new.window)) }
         ensures ended { self.new.ended ≡ true }
+        ensures input { self.new.input ≡ self.old.input }
+        ensures total { self.new.total ≡ self.old.total }
     {
         let lines = self.window.as_slice().len();
         self.given = lines;

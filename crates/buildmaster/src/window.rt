@@ -71,6 +71,7 @@ impl Window {
 
     fn move_to_front(&mut self)
         ensures items { items self.new ≡ items self.old }
+        ensures front { self.new.start ≡ 0 }
     {
         let (start, end) = (self.start, self.end);
         if start == 0 {
