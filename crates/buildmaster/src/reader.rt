@@ -47,6 +47,7 @@ impl<R: Read> ScriptReader<R> {
         R: Drop,
         ensures left { IfOk result (λ r. left R.remaining r ≡ R.remaining input) }
         ensures begun { IfOk result (λ r. r.ended ≡ false) }
+        ensures none { IfOk result (λ r. r.total ≡ 0) }
     {
         Ok(ScriptReader {
             input,
