@@ -9,7 +9,6 @@ use crate::text::Text;
 use memchr::{memchr, memchr_iter};
 use std::alloc::{AllocError, Global};
 use std::marker::Model;
-use std::slice;
 use std::sync::Arc;
 
 /// Lines that blocks share.
@@ -173,10 +172,7 @@ impl Lines {
     fn as_slice(&self) -> &[Line]
         ensures { result.now ≡ self.now }
     {
-        match &self.items {
-            OneOrMany::One(line) => slice::from_ref(line),
-            OneOrMany::Many(lines) => lines.as_slice(),
-        }
+        self.items.as_slice()
     }
 
     fn append(&mut self, alloc: Global, letter: Letter, text: &str) -> Result<(), AllocError>

@@ -19,5 +19,6 @@ pub use builder::ParcelBuilder;
 pub use line::{Letter, Line};
 pub use log_name::LogName;
 pub use name_table::NameTable;
+pub use one_or_many::OneOrMany;
 pub use parcel::{Parcel, Part};
 pub use text::Text;

@@ -15,7 +15,6 @@ use crate::one_or_many::OneOrMany;
 use crate::text::Text;
 use std::alloc::{AllocError, Global};
 use std::marker::Model;
-use std::slice;
 
 /// The lines that one update carries for one log.
 #[derive(Drop)]
@@ -71,14 +70,14 @@ impl Parcel {
         ensures parts { result.now ≡ self.now }
         ensures distinct { are_distinct self.now ≡ true }
     {
-        slice_of(&self.parts)
+        self.parts.as_slice()
     }
 
     /// The block of the part with this name.
     pub fn of(&self, name: &str) -> Option<&Block>
         ensures { option_copied result ≡ block_under name.now self.now }
     {
-        let parts = slice_of(&self.parts);
+        let parts = self.parts.as_slice();
         let i = place(parts, name);
         if i < parts.len() {
             Some(&parts[i].block)
@@ -135,15 +134,6 @@ impl Parcel {
     }
 }
 
-fn slice_of(parts: &OneOrMany<Part>) -> &[Part]
-    ensures { result.now ≡ items_of parts.now }
-{
-    match parts {
-        OneOrMany::One(part) => slice::from_ref(part),
-        OneOrMany::Many(parts) => parts.as_slice(),
-    }
-}
-
 /// Appends the lines of a text to the part with this name, or to a new part at the end.
 fn put(
     alloc: Global,
@@ -155,7 +145,7 @@ fn put(
     ensures ok { OnOk result (items_of parts.new ≡ with_item name.now (lines_of letter text) (items_of parts.old)) }
     ensures err { OnErr result (items_of parts.new ≡ items_of parts.old) }
 {
-    let slice = slice_of(parts);
+    let slice = parts.as_slice();
     let i = place(slice, name.as_str());
     if i < slice.len() {
         return add_at(parts, i, letter, text.as_str());
@@ -200,7 +190,7 @@ fn put_by_table(
         return Ok(places);
     }
     let mut places = places;
-    places.add(alloc, name.as_str(), slice_of(parts).len())?;
+    places.add(alloc, name.as_str(), parts.as_slice().len())?;
     push(alloc, parts, name, letter, text)?;
     Ok(places)
 }

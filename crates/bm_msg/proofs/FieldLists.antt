@@ -1,8 +1,9 @@
 -- The fields of items, one item after another.
-use Rattle.std.proofs.Common.{◌≡◌, refl, sym, ◌∙◌, ap, ℕ, ◌+◌, ◌<◌, ◌≤◌, List, [], ◌∷◌, ◌++◌, length, get_or, drop, map, Option, Some, None, append_assoc, append-nil}
+use Rattle.std.proofs.Common.{◌≡◌, refl, sym, ◌∙◌, ap, ℕ, ◌+◌, ◌<◌, ◌≤◌, List, [], ◌∷◌, ◌++◌, length, get_or, drop, map, Option, Some, None, append_assoc, append-nil, arith}
 use Rattle.std.specs.Option.{option_map, option_and_then}
 use Rattle.std.proofs.lemmas.List.{drop_more, drop_all}
 use Rattle.bm_value.specs.declared.value.Value.{Value}
+use Rattle.bm_value.specs.Tree.{Tree, none, item}
 use Rattle.bm_value.specs.View.{tree, trees_of}
 use Rattle.bm_msg.specs.declared.field.Field.{Field}
 use Rattle.bm_msg.specs.Items.{item_fields, fields_of}
@@ -42,3 +43,16 @@ with_rest-wrong all old xs i x h is wrong so_far =
 
 pub with_rest-end : {A : Type 0} (all : Option (List Field)) (found : List Field) (xs : List (Value A)) (i : ℕ) → length xs ≤ i → all ≡ with_rest found (drop i xs) → Some found ≡ all
 with_rest-end all found xs i past so_far = sym (so_far ∙ ap (with_rest found) (drop_all i xs past) ∙ ap (λ fs. Some fs) (append-nil found))
+
+-- an only item
+one_item : (t : Tree) → fields_of (item t none) ≡ item_fields t
+one_item t = go (item_fields t)
+  where
+    go : (o : Option (List Field)) → option_and_then (λ front. option_map (λ back. front ++ back) (Some [])) o ≡ o
+    go (Some front) = ap (λ fs. Some fs) (append-nil front)
+    go None = refl
+
+pub fields_of-one : {A : Type 0} (xs : List (Value A)) (x : Value A) → length xs ≡ 1 → x ≡ get_or xs 0 x → item_fields (tree x) ≡ fields_of (trees_of (map tree xs))
+fields_of-one [] x h p = absurd (omega arith)
+fields_of-one (a ∷ []) x h p = ap (λ z. item_fields (tree z)) p ∙ sym (one_item (tree a))
+fields_of-one (a ∷ (b ∷ more)) x h p = absurd (omega arith)

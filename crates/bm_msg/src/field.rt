@@ -1,8 +1,9 @@
 //! What an update carries.
 
 ghost use Rattle.std.specs.Prelude.{◌≡◌, [], ◌∷◌, ◌++◌, IfOk, OnOk, OnErr};
+ghost use Rattle.bm_lines.specs.OneOrMany.{items_of};
 
-use bm_lines::{Letter, LogName, Text};
+use bm_lines::{Letter, LogName, OneOrMany, Text};
 use bm_value::Num;
 use std::alloc::{AllocError, Global};
 use std::marker::Model;
@@ -31,19 +32,21 @@ impl Field {
     }
 }
 
-/// The items of an update, in order.
+/// The items of an update, in order. One item, the common case, takes no memory of its own.
 #[derive(Drop)]
 pub struct Fields {
-    vec: Vec<Field>,
+    alloc: Global,
+    items: OneOrMany<Field>,
 }
 
 impl Model for Fields {
     ghost use Rattle.std.specs.Prelude.{List};
+    ghost use Rattle.bm_lines.specs.OneOrMany.{items_of};
     ghost use Rattle.bm_msg.specs.declared.field.Field.{Field};
 
     ghost Value = { List Field };
 
-    ghost view = { λ f. f.vec.items };
+    ghost view = { λ f. items_of f.items };
 }
 
 impl Fields {
@@ -52,26 +55,42 @@ impl Fields {
         ensures { result ≡ [] }
     {
         Fields {
-            vec: Vec::new(alloc),
+            alloc,
+            items: OneOrMany::new(alloc),
+        }
+    }
+
+    /// One item.
+    pub fn one(alloc: Global, field: Field) -> Fields
+        ensures { result ≡ field ∷ [] }
+    {
+        Fields {
+            alloc,
+            items: OneOrMany::One(field),
         }
     }
 
     pub fn from_vec(vec: Vec<Field>) -> Fields
         ensures { result ≡ vec.items }
     {
-        Fields { vec }
+        Fields {
+            alloc: *vec.allocator(),
+            items: OneOrMany::Many(vec),
+        }
     }
 
-    pub fn into_vec(self) -> Vec<Field>
-        ensures { result.items ≡ self }
+    /// The items by value.
+    pub fn into_items(self) -> OneOrMany<Field>
+        ensures { items_of result ≡ self }
     {
-        self.vec
+        let Fields { items, .. } = self;
+        items
     }
 
     pub fn as_slice(&self) -> &[Field]
         ensures { result.now ≡ self.now }
     {
-        self.vec.as_slice()
+        self.items.as_slice()
     }
 
     /// Appends an item. After want of memory the item is gone.
@@ -79,18 +98,31 @@ impl Fields {
         ensures ok { OnOk result (self.new ≡ self.old ++ field ∷ []) }
         ensures err { OnErr result (self.new ≡ self.old) }
     {
-        self.vec.push(field)?;
-        Ok(())
+        self.items.push(self.alloc, field)
     }
 
     /// Equal items.
     pub fn copy(&self) -> Result<Fields, AllocError>
         ensures { IfOk result (λ f. f ≡ self.now) }
     {
-        let mut vec = Vec::with_capacity(*self.vec.allocator(), self.vec.len())?;
-        for field in &self.vec {
-            vec.push(field.copy()?)?;
-        }
-        Ok(Fields { vec })
+        let items = match &self.items {
+            OneOrMany::One(field) => OneOrMany::One(field.copy()?),
+            OneOrMany::Many(fields) => OneOrMany::Many(copies(self.alloc, fields.as_slice())?),
+        };
+        Ok(Fields {
+            alloc: self.alloc,
+            items,
+        })
     }
+}
+
+/// Equal items.
+fn copies(alloc: Global, fields: &[Field]) -> Result<Vec<Field>, AllocError>
+    ensures { IfOk result (λ v. v.items ≡ fields.now) }
+{
+    let mut out = Vec::with_capacity(alloc, fields.len())?;
+    for field in fields {
+        out.push(field.copy()?)?;
+    }
+    Ok(out)
 }

@@ -1,9 +1,9 @@
 //! The items of an update.
 
-ghost use Rattle.std.specs.Prelude.{◌≡◌, codes, IfOk, List};
+ghost use Rattle.std.specs.Prelude.{◌≡◌, codes, map, IfOk, List};
 ghost use Rattle.std.specs.Option.{option_copied, option_map};
 ghost use Rattle.bm_value.specs.Tree.{Trees};
-ghost use Rattle.bm_value.specs.View.{tree, items_tree};
+ghost use Rattle.bm_value.specs.View.{tree, trees_of, items_tree};
 ghost use Rattle.bm_msg.specs.Items.{text_of, lettered, named, carried_by, item_fields, fields_of};
 ghost use Rattle.bm_msg.specs.Reading.{told, log_item, item_parts};
 
@@ -126,12 +126,26 @@ fn item<A: Allocator>(alloc: Global, item: &Value<A>) -> Result<Told, AllocError
     item_parts(alloc, &parts[0], &parts[1])
 }
 
-/// What the items of an update carry, or None where one of them is of another kind.
-pub fn fields<A: Allocator>(alloc: Global, items: &Items<A>) -> Result<Option<Fields>, AllocError>
-    ensures { IfOk result (λ f. f ≡ fields_of (items_tree items.now)) }
+/// What the only item of an update carries.
+#[inline(always)]
+fn only<A: Allocator>(alloc: Global, part: &Value<A>) -> Result<Option<Fields>, AllocError>
+    ensures { IfOk result (λ f. f ≡ item_fields (tree part.now)) }
 {
-    let mut fields = Vec::with_capacity(alloc, items.vec.len())?;
-    for part in &items.vec {
+    match item(alloc, part)? {
+        Told::Carries(field) => Ok(Some(Fields::one(alloc, field))),
+        Told::Nothing => Ok(Some(Fields::new(alloc))),
+        Told::Wrong => Ok(None),
+    }
+}
+
+/// What any number of items carry, by one request for memory.
+#[cold]
+#[inline(never)]
+fn many<A: Allocator>(alloc: Global, parts: &[Value<A>]) -> Result<Option<Fields>, AllocError>
+    ensures { IfOk result (λ f. f ≡ fields_of (trees_of (map tree parts.now))) }
+{
+    let mut fields = Vec::with_capacity(alloc, parts.len())?;
+    for part in parts {
         match item(alloc, part)? {
             Told::Carries(field) => fields.push(field)?,
             Told::Nothing => {}
@@ -139,4 +153,14 @@ pub fn fields<A: Allocator>(alloc: Global, items: &Items<A>) -> Result<Option<Fi
         }
     }
     Ok(Some(Fields::from_vec(fields)))
+}
+
+/// What the items of an update carry, or None where one of them is of another kind.
+pub fn fields<A: Allocator>(alloc: Global, items: &Items<A>) -> Result<Option<Fields>, AllocError>
+    ensures { IfOk result (λ f. f ≡ fields_of (items_tree items.now)) }
+{
+    match items.vec.as_slice() {
+        [part] => only(alloc, part),
+        parts => many(alloc, parts),
+    }
 }

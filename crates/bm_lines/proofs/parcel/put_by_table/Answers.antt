@@ -32,7 +32,7 @@ pub returns-clause-places : goal.returns-clause-places
 returns-clause-places c =
     let absent : place_in c.args.places c.args.name.now ≡ None = ap (place_in c.args.places) (sym c.as_str.ensures.text) ∙ sym c.place.ensures ∙ c.in_default.is in
     let past = place-missing c.args.places (items_of c.args.parts.now) c.args.name.now c.requires absent in
-    let size : length c.slice_of.result.now ≡ length (names_of (items_of c.args.parts.now)) = ap length c.slice_of.ensures ∙ sym (length-names (items_of c.args.parts.now)) in
+    let size : length c.as_slice.result.now ≡ length (names_of (items_of c.args.parts.now)) = ap length c.as_slice.ensures ∙ sym (length-names (items_of c.args.parts.now)) in
     let added : HasPlaces c.add.new.self (names_of (items_of c.args.parts.now) ++ c.as_str-2.result.now ∷ []) = c.in_ok-add.ensures.ok (names_of (items_of c.args.parts.now)) size c.requires in
     subst (HasPlaces c.add.new.self)
     (ap (λ n. names_of (items_of c.args.parts.now) ++ n ∷ []) c.as_str-2.ensures.text

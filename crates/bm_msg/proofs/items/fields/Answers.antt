@@ -1,35 +1,18 @@
-use Rattle.std.proofs.Common.{◌≡◌, sym, ◌∙◌, ap, ◌+◌, ◌∷◌, [], drop, append-nil, Some, None, Vec, Global}
-use Rattle.bm_msg.specs.declared.field.Field.{Field}
-use Rattle.bm_value.specs.View.{tree, items_tree}
-use Rattle.bm_msg.specs.Items.{item_fields, fields_of}
-use Rattle.bm_msg.specs.Reading.{told}
-use Rattle.bm_msg.proofs.FieldLists.{with_rest, with_rest-none, with_rest-more, with_rest-wrong}
-use Rattle.bm_msg.proofs.items.fields.Goals.{in-Carries+in_ok-push-in-Carries, in-Nothing}
+use Rattle.std.proofs.Common.{◌≡◌, sym, ◌∙◌, ap, map, IfOk, subst, arith}
+use Rattle.bm_value.specs.View.{tree, trees_of, items_tree}
 use Rattle.bm_value.proofs.Values.{items_tree-of}
+use Rattle.bm_msg.specs.Items.{fields_of}
+use Rattle.bm_msg.proofs.FieldLists.{fields_of-one}
 use Rattle.bm_msg.proofs.items.fields.Goals as goal
 
-pub returns-in-Wrong : goal.returns-in-Wrong
-returns-in-Wrong g c =
-    let wrong : item_fields (tree c.part-item.result) ≡ None = sym c.in_ok-field.ensures ∙ ap told c.in-Wrong.is in
-    with_rest-wrong (fields_of (items_tree c.args.items.now)) c.loop-part.fields.items c.deref-part-items.result.now c.loop-part.part-index c.part-item.result c.loop-part-test.true c.part-item.is wrong c.loop-part.invariant
+pub returns-in-len1 : goal.returns-in-len1
+returns-in-len1 g c =
+    let whole : fields_of (trees_of (map tree c.as_slice.result.now)) ≡ fields_of (items_tree c.args.items.now) =
+    ap (λ xs. fields_of (trees_of (map tree xs))) c.as_slice.ensures.value ∙ ap fields_of (sym (items_tree-of c.args.items.now.vec)) in
+    subst (λ found. IfOk c.only.result (λ f. f ≡ found)) (fields_of-one c.as_slice.result.now c.part-item.result (omega (arith, c.in-len1.len_at_least, c.in-len1.len_below)) c.part-item.is ∙ whole) c.only.ensures
 
-pub loop-part-preserved : goal.loop-part-preserved
-loop-part-preserved g c =
-    elim c.match-branch-3.branch [
-      | in-Carries+in_ok-push-in-Carries w ↦
-          (let carries : item_fields (tree c.part-item.result) ≡ Some (w.in-Carries.field ∷ []) = sym c.in_ok-field.ensures ∙ ap told w.in-Carries.is in
-          with_rest-more (fields_of (items_tree c.args.items.now)) c.loop-part.fields.items _ c.deref-part-items.result.now c.loop-part.part-index c.part-item.result c.loop-part-test.true c.part-item.is carries c.loop-part.invariant
-          ∙ ap (λ fs. with_rest fs (drop (c.loop-part.part-index + 1) c.deref-part-items.result.now)) (sym w.in_ok-push-in-Carries.ensures.items)
-          ∙ ap (λ (v : Vec Field Global). with_rest v.items (drop (c.loop-part.part-index + 1) c.deref-part-items.result.now)) (sym w.fields-is))
-      | in-Nothing w ↦
-          (let carries : item_fields (tree c.part-item.result) ≡ Some [] = sym c.in_ok-field.ensures ∙ ap told w.in-Nothing.is in
-          with_rest-more (fields_of (items_tree c.args.items.now)) c.loop-part.fields.items [] c.deref-part-items.result.now c.loop-part.part-index c.part-item.result c.loop-part-test.true c.part-item.is carries c.loop-part.invariant
-          ∙ ap (λ fs. with_rest fs (drop (c.loop-part.part-index + 1) c.deref-part-items.result.now)) (append-nil c.loop-part.fields.items)
-          ∙ ap (λ (v : Vec Field Global). with_rest v.items (drop (c.loop-part.part-index + 1) c.deref-part-items.result.now)) (sym w.fields-is))
-    ]
-
-pub loop-part-init : goal.loop-part-init
-loop-part-init g c =
-    let whole : fields_of (items_tree c.args.items.now) ≡ with_rest [] c.args.items.now.vec.items =
-    ap fields_of (items_tree-of c.args.items.now.vec) ∙ with_rest-none c.args.items.now.vec.items in
-    whole ∙ ap (with_rest []) (sym c.deref-part-items.ensures.value) ∙ ap (λ fs. with_rest fs c.deref-part-items.result.now) (sym c.in_ok-fields.ensures.items)
+pub returns-in_default : goal.returns-in_default
+returns-in_default g c =
+    let whole : fields_of (trees_of (map tree c.as_slice.result.now)) ≡ fields_of (items_tree c.args.items.now) =
+    ap (λ xs. fields_of (trees_of (map tree xs))) c.as_slice.ensures.value ∙ ap fields_of (sym (items_tree-of c.args.items.now.vec)) in
+    subst (λ found. IfOk c.many.result (λ f. f ≡ found)) whole c.many.ensures
