@@ -3,8 +3,7 @@ ghost use Rattle.std.specs.Mem.{FitsInMemory};
 ghost use Rattle.bm_lines.specs.OneOrMany.{items_of};
 
 use std::alloc::{AllocError, Global};
-use std::mem;
-use std::slice;
+use std::{mem, slice};
 
 /// A list. One item, the common case, lies in the value and takes no memory of its own.
 #[derive(Drop)]

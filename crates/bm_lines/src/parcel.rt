@@ -66,6 +66,23 @@ impl Parcel {
         }
     }
 
+    /// The lines of a text under a name. Where it is one line, it isn't copied.
+    #[inline(always)]
+    pub fn of_text(
+        alloc: Global,
+        name: LogName,
+        letter: Letter,
+        text: Text,
+    ) -> Result<Parcel, AllocError>
+        ensures { IfOk result (λ p. p ≡ with_item name (lines_of letter text) []) }
+    {
+        let block = Block::of_text(alloc, letter, text)?;
+        Ok(Parcel {
+            alloc,
+            parts: OneOrMany::One(Part { name, block }),
+        })
+    }
+
     pub fn parts(&self) -> &[Part]
         ensures parts { result.now ≡ self.now }
         ensures distinct { are_distinct self.now ≡ true }

@@ -1,16 +1,14 @@
 -- Items of an update as trees.
-use Rattle.std.proofs.Common.{◌≡◌, ◌≢◌, refl, sym, ◌∙◌, ap, ◌<◌, ◌≤◌, List, [], ◌∷◌, length, get_or, drop, map, Option, Some, None, Result, subst, arith}
-use Rattle.std.specs.Prelude.{IfOk, slice_get}
+use Rattle.std.proofs.Common.{◌≡◌, ◌≢◌, refl, sym, ◌∙◌, ap, ◌<◌, ◌≤◌, List, [], ◌∷◌, length, get_or, drop, map, Some, None, arith}
+use Rattle.std.specs.Prelude.{slice_get}
 use Rattle.bm_value.specs.declared.value.Value.{Value, Array}
 use Rattle.bm_value.specs.declared.value.Items.{Items}
 use Rattle.bm_value.specs.Tree.{Tree, nil, bool, int, bits32, bits64, str, bin, array, dict, ext, Trees, none, item}
 use Rattle.bm_value.specs.View.{tree, trees_of, values_in}
 use Rattle.bm_value.proofs.Values.{tree-Array}
 use Rattle.bm_value.proofs.Written.{items_out}
-use Rattle.bm_msg.specs.declared.field.Field.{Field}
 use Rattle.bm_msg.specs.Items.{text_of, named, item_fields}
-use Rattle.bm_msg.specs.declared.items.Told.{Told}
-use Rattle.bm_msg.specs.Reading.{told, str_of, log_item, item_parts}
+use Rattle.bm_msg.specs.Reading.{str_of, log_item, item_parts}
 
 -- an array is the trees of its values
 pub array_is : {A : Type 0} (v : Value A) (x : Items A) → v ≡ Array x → tree v ≡ array (trees_of (map tree (values_in x)))
@@ -126,7 +124,3 @@ two_alone [] x y h p q = absurd (omega arith)
 two_alone (a ∷ []) x y h p q = absurd (omega arith)
 two_alone (a ∷ (b ∷ [])) x y h p q = ap (λ z. item (tree z) (item (tree b) none)) (sym p) ∙ ap (λ z. item (tree x) (item (tree z) none)) (sym q)
 two_alone (a ∷ (b ∷ (d ∷ more))) x y h p q = absurd (omega arith)
-
--- what is told of an item is told of the same item in other words
-pub told_along : {E : Type 0} (r : Result Told E) (a b : Option (List Field)) → a ≡ b → IfOk r (λ t. told t ≡ a) → IfOk r (λ t. told t ≡ b)
-told_along r a b e h = subst (λ x. IfOk r (λ t. told t ≡ x)) e h

@@ -12,7 +12,8 @@ use Rattle.bm_msg.specs.declared.kind.Kind.{Kind}
 use Rattle.bm_msg.specs.declared.kind.Kind.TheVariants as kind
 use Rattle.bm_msg.specs.declared.items.Told.{Told}
 use Rattle.bm_msg.specs.declared.items.Told.TheVariants.{Carries, Nothing, Wrong}
-use Rattle.bm_msg.specs.declared.field.Field.TheVariants.{Named}
+use Rattle.bm_msg.specs.declared.items.Seen.{Seen}
+use Rattle.bm_msg.specs.declared.field.Field.TheVariants.{Text, Named, Rc}
 use Rattle.bm_msg.specs.Items.{text_of, is_log_name, carried_by, fields_of}
 use Rattle.bm_msg.specs.Messages.{session_of, is_exception, result_of}
 use Rattle.bm_msg.specs.Meaning.{Asked, auth, print, keepalive, get_worker_info, start_command, interrupt_command, shutdown, update, complete, unknown, Meaning, request, response}
@@ -22,6 +23,18 @@ abbrev pub told : Told → Option (List Field)
 told (Carries f) = Some (f ∷ [])
 told Nothing = Some []
 told Wrong = None
+
+-- an item of a log: none where the name is no log's
+abbrev pub named_field : List ℕ → List ℕ → Option (List Field)
+named_field name s = if is_log_name name then Some (Named name s ∷ []) else None
+
+-- the same, where its texts lie in the message
+abbrev pub seen : Seen → Option (List Field)
+seen (Seen.Text letter s) = Some (Text letter s.now ∷ [])
+seen (Seen.Named name s) = named_field name.now s.now
+seen (Seen.Rc z) = Some (Rc z ∷ [])
+seen Seen.Nothing = Some []
+seen Seen.Wrong = None
 
 abbrev pub kind_of : List ℕ → Kind
 kind_of op =

@@ -5,15 +5,15 @@ ghost use Rattle.std.specs.Option.{option_copied, option_map};
 ghost use Rattle.bm_value.specs.Tree.{Trees};
 ghost use Rattle.bm_value.specs.View.{tree, trees_of, items_tree};
 ghost use Rattle.bm_msg.specs.Items.{text_of, lettered, named, carried_by, item_fields, fields_of};
-ghost use Rattle.bm_msg.specs.Reading.{told, log_item, item_parts};
+ghost use Rattle.bm_msg.specs.Reading.{told, seen, named_field, log_item, item_parts};
 
 use crate::field::{Field, Fields};
 use crate::keys::str_of;
 use bm_lines::{Letter, LogName, Text};
-use bm_value::{Items, Value};
+use bm_value::{Items, Num, Value};
 use std::alloc::{AllocError, Allocator, Global};
 
-/// What an item tells.
+/// What an item tells, with texts of its own.
 #[derive(Drop)]
 pub enum Told {
     /// What it carries.
@@ -24,7 +24,21 @@ pub enum Told {
     Wrong,
 }
 
+/// What an item tells, by texts that lie in the message: so nothing is copied, or moved far, before it is known.
+#[derive(Clone, Copy)]
+pub enum Seen<'a> {
+    Text(Letter, &'a str),
+    /// A name, which may be none of a log, and a text.
+    Named(&'a str, &'a str),
+    Rc(Num),
+    /// Nothing that counts.
+    Nothing,
+    /// It is of another kind than its name asks for.
+    Wrong,
+}
+
 /// The text of a str, or of an array's first item.
+#[inline(always)]
 fn text_of<A: Allocator>(value: &Value<A>) -> Option<&str>
     ensures { option_copied result ≡ text_of (tree value.now) }
 {
@@ -38,103 +52,138 @@ fn text_of<A: Allocator>(value: &Value<A>) -> Option<&str>
     }
 }
 
-fn lettered<A: Allocator>(
-    alloc: Global,
-    letter: Letter,
-    value: &Value<A>,
-) -> Result<Told, AllocError>
-    ensures { IfOk result (λ t. told t ≡ lettered letter (tree value.now)) }
+#[inline(always)]
+fn lettered<A: Allocator>(letter: Letter, value: &Value<A>) -> Seen<'_>
+    ensures { seen result ≡ lettered letter (tree value.now) }
 {
     match text_of(value) {
-        Some(text) => Ok(Told::Carries(Field::Text(letter, Text::from_str(alloc, text)?))),
-        None => Ok(Told::Wrong),
+        Some(text) => Seen::Text(letter, text),
+        None => Seen::Wrong,
     }
 }
 
 /// An item of a named log: the name and the text.
-fn log_item<A: Allocator>(
-    alloc: Global,
-    name: &Value<A>,
-    value: &Value<A>,
-) -> Result<Told, AllocError>
-    ensures { IfOk result (λ t. told t ≡ log_item (tree name.now) (tree value.now)) }
+fn log_item<'a, A: Allocator>(name: &'a Value<A>, value: &'a Value<A>) -> Seen<'a>
+    ensures { seen result ≡ log_item (tree name.now) (tree value.now) }
 {
     let Some(name) = str_of(name) else {
-        return Ok(Told::Wrong);
+        return Seen::Wrong;
     };
-    let Some(text) = text_of(value) else {
-        return Ok(Told::Wrong);
+    match text_of(value) {
+        Some(text) => Seen::Named(name, text),
+        None => Seen::Wrong,
+    }
+}
+
+fn named<A: Allocator>(value: &Value<A>) -> Seen<'_>
+    ensures { seen result ≡ named (tree value.now) }
+{
+    let Value::Array(items) = value else {
+        return Seen::Wrong;
     };
+    match items.vec.as_slice() {
+        [name, value, ..] => log_item(name, value),
+        _ => Seen::Wrong,
+    }
+}
+
+#[inline(always)]
+fn carried_by<'a, A: Allocator>(name: &str, value: &'a Value<A>) -> Seen<'a>
+    ensures { seen result ≡ carried_by name.now (tree value.now) }
+{
+    match name {
+        "stdout" => lettered(Letter::O, value),
+        "stderr" => lettered(Letter::E, value),
+        "header" => lettered(Letter::H, value),
+        "log" => named(value),
+        "rc" => match value {
+            Value::Int(n) => Seen::Rc(*n),
+            _ => Seen::Nothing,
+        },
+        _ => Seen::Nothing,
+    }
+}
+
+/// An item of an update: its name and value.
+#[inline(always)]
+fn item_parts<'a, A: Allocator>(name: &Value<A>, value: &'a Value<A>) -> Seen<'a>
+    ensures { seen result ≡ item_parts (tree name.now) (tree value.now) }
+{
+    match str_of(name) {
+        Some(name) => carried_by(name, value),
+        None => Seen::Wrong,
+    }
+}
+
+#[inline(always)]
+fn seen_in<A: Allocator>(item: &Value<A>) -> Seen<'_>
+    ensures { seen result ≡ item_fields (tree item.now) }
+{
+    let Value::Array(parts) = item else {
+        return Seen::Wrong;
+    };
+    let parts = parts.vec.as_slice();
+    if parts.len() != 2 {
+        return Seen::Wrong;
+    }
+    item_parts(&parts[0], &parts[1])
+}
+
+/// The item of a named log, with texts of its own.
+fn own_named(alloc: Global, name: &str, text: &str) -> Result<Told, AllocError>
+    ensures { IfOk result (λ t. told t ≡ named_field name.now text.now) }
+{
     match LogName::new(alloc, name)? {
         Some(name) => Ok(Told::Carries(Field::Named(name, Text::from_str(alloc, text)?))),
         None => Ok(Told::Wrong),
     }
 }
 
-fn named<A: Allocator>(alloc: Global, value: &Value<A>) -> Result<Told, AllocError>
-    ensures { IfOk result (λ t. told t ≡ named (tree value.now)) }
+/// The same with texts of its own.
+fn own(alloc: Global, item: Seen) -> Result<Told, AllocError>
+    ensures { IfOk result (λ t. told t ≡ seen item.entry) }
 {
-    let Value::Array(items) = value else {
-        return Ok(Told::Wrong);
-    };
-    match items.vec.as_slice() {
-        [name, value, ..] => log_item(alloc, name, value),
-        _ => Ok(Told::Wrong),
-    }
-}
-
-fn carried_by<A: Allocator>(alloc: Global, name: &str, value: &Value<A>) -> Result<Told, AllocError>
-    ensures { IfOk result (λ t. told t ≡ carried_by name.now (tree value.now)) }
-{
-    match name {
-        "stdout" => lettered(alloc, Letter::O, value),
-        "stderr" => lettered(alloc, Letter::E, value),
-        "header" => lettered(alloc, Letter::H, value),
-        "log" => named(alloc, value),
-        "rc" => match value {
-            Value::Int(n) => Ok(Told::Carries(Field::Rc(*n))),
-            _ => Ok(Told::Nothing),
-        },
-        _ => Ok(Told::Nothing),
-    }
-}
-
-/// An item of an update: its name and value.
-fn item_parts<A: Allocator>(
-    alloc: Global,
-    name: &Value<A>,
-    value: &Value<A>,
-) -> Result<Told, AllocError>
-    ensures { IfOk result (λ t. told t ≡ item_parts (tree name.now) (tree value.now)) }
-{
-    match str_of(name) {
-        Some(name) => carried_by(alloc, name, value),
-        None => Ok(Told::Wrong),
+    match item {
+        Seen::Text(letter, text) => {
+            Ok(Told::Carries(Field::Text(letter, Text::from_str(alloc, text)?)))
+        }
+        Seen::Named(name, text) => own_named(alloc, name, text),
+        Seen::Rc(code) => Ok(Told::Carries(Field::Rc(code))),
+        Seen::Nothing => Ok(Told::Nothing),
+        Seen::Wrong => Ok(Told::Wrong),
     }
 }
 
 fn item<A: Allocator>(alloc: Global, item: &Value<A>) -> Result<Told, AllocError>
     ensures { IfOk result (λ t. told t ≡ item_fields (tree item.now)) }
 {
-    let Value::Array(parts) = item else {
-        return Ok(Told::Wrong);
-    };
-    let parts = parts.vec.as_slice();
-    if parts.len() != 2 {
-        return Ok(Told::Wrong);
-    }
-    item_parts(alloc, &parts[0], &parts[1])
+    own(alloc, seen_in(item))
 }
 
-/// What the only item of an update carries.
-#[inline(always)]
-fn only<A: Allocator>(alloc: Global, part: &Value<A>) -> Result<Option<Fields>, AllocError>
+/// What the only item of an update carries, whatever its kind.
+#[cold]
+#[inline(never)]
+fn of_any_kind<A: Allocator>(alloc: Global, part: &Value<A>) -> Result<Option<Fields>, AllocError>
     ensures { IfOk result (λ f. f ≡ item_fields (tree part.now)) }
 {
     match item(alloc, part)? {
         Told::Carries(field) => Ok(Some(Fields::one(alloc, field))),
         Told::Nothing => Ok(Some(Fields::new(alloc))),
         Told::Wrong => Ok(None),
+    }
+}
+
+/// The same, fast where it is a text.
+#[inline(always)]
+fn only<A: Allocator>(alloc: Global, part: &Value<A>) -> Result<Option<Fields>, AllocError>
+    ensures { IfOk result (λ f. f ≡ item_fields (tree part.now)) }
+{
+    match seen_in(part) {
+        Seen::Text(letter, text) => {
+            let text = Text::from_str(alloc, text)?;
+            Ok(Some(Fields::one(alloc, Field::Text(letter, text))))
+        }
+        _ => of_any_kind(alloc, part),
     }
 }
 

@@ -38,9 +38,11 @@ fn many(alloc: Global, fields: Vec<Field>) -> Result<Parcel, AllocError>
 fn only(alloc: Global, field: Field) -> Result<Parcel, AllocError>
     ensures { IfOk result (λ parcel. parcel ≡ with_field [] field) }
 {
-    let mut builder = ParcelBuilder::new(alloc);
-    add_field(&mut builder, field)?;
-    Ok(builder.into_parcel())
+    match field {
+        Field::Text(letter, text) => Parcel::of_text(alloc, LogName::stdio(), letter, text),
+        Field::Named(name, text) => Parcel::of_text(alloc, name, Letter::O, text),
+        Field::Rc(_) => Ok(Parcel::new(alloc)),
+    }
 }
 
 /// The lines that the items carry, by the name of their log.
