@@ -2,47 +2,39 @@ ghost use Rattle.std.specs.Prelude.{◌≡◌, ◌⊎◌, ◌∷◌, [], ◌++�
 ghost use Rattle.std.specs.List.{slice_split};
 ghost use Rattle.std.specs.Arc.{arc_value};
 ghost use Rattle.bm_lines.specs.Lines.{without_last_empty, lines_of, content_of};
+ghost use Rattle.bm_lines.specs.Shared.{lines_in};
 
 use crate::line::{Letter, Line};
-use crate::one_or_many::OneOrMany;
 use crate::text::Text;
 use memchr::{memchr, memchr_iter};
 use std::alloc::{AllocError, Global};
 use std::marker::Model;
+use std::slice;
 use std::sync::Arc;
 
-/// Lines that blocks share.
+/// Lines that blocks share. One line, the common case, takes no list.
 #[derive(Drop)]
-struct Lines {
-    items: OneOrMany<Line>,
-}
-
-impl Model for Lines {
-    ghost use Rattle.std.specs.Prelude.{List};
-    ghost use Rattle.bm_lines.specs.declared.line.Line.{Line};
-    ghost use Rattle.bm_lines.specs.OneOrMany.{items_of};
-
-    ghost Value = { List Line };
-
-    ghost view = { λ l. items_of l.items };
+enum Shared {
+    Empty,
+    One(Arc<Line>),
+    Many(Arc<Vec<Line>>),
 }
 
 /// A list of lines. Its copies share the lines, and a new one holds none and takes no memory.
 #[derive(Drop)]
 pub struct Block {
     alloc: Global,
-    lines: Option<Arc<Lines>>,
+    lines: Shared,
 }
 
 impl Model for Block {
-    ghost use Rattle.std.specs.Prelude.{List, []};
-    ghost use Rattle.std.specs.Option.{option_map_or};
-    ghost use Rattle.std.specs.Arc.{arc_value};
+    ghost use Rattle.std.specs.Prelude.{List};
     ghost use Rattle.bm_lines.specs.declared.line.Line.{Line};
+    ghost use Rattle.bm_lines.specs.Shared.{lines_in};
 
     ghost Value = { List Line };
 
-    ghost view = { λ b. option_map_or arc_value b.lines [] };
+    ghost view = { λ b. lines_in b.lines };
 }
 
 impl Block {
@@ -50,15 +42,19 @@ impl Block {
     pub fn new(alloc: Global) -> Block
         ensures { result ≡ [] }
     {
-        Block { alloc, lines: None }
+        Block {
+            alloc,
+            lines: Shared::Empty,
+        }
     }
 
     pub fn lines(&self) -> &[Line]
         ensures { result.now ≡ self.now }
     {
         match &self.lines {
-            Some(lines) => lines.as_slice(),
-            None => &[],
+            Shared::Empty => &[],
+            Shared::One(line) => slice::from_ref(line),
+            Shared::Many(lines) => lines.as_slice(),
         }
     }
 
@@ -67,8 +63,9 @@ impl Block {
         ensures { IfOk result (λ b. b ≡ self.now) }
     {
         let lines = match &self.lines {
-            Some(lines) => Some(Arc::try_clone(lines)?),
-            None => None,
+            Shared::Empty => Shared::Empty,
+            Shared::One(line) => Shared::One(Arc::try_clone(line)?),
+            Shared::Many(lines) => Shared::Many(Arc::try_clone(lines)?),
         };
         Ok(Block {
             alloc: self.alloc,
@@ -82,15 +79,18 @@ impl Block {
         ensures err { OnErr result (self.new ≡ self.old) }
     {
         match &mut self.lines {
-            Some(lines) => grow(self.alloc, lines, letter, text),
-            None => {
-                if text.is_empty() {
-                    return Ok(());
+            Shared::Empty => {
+                if !text.is_empty() {
+                    self.lines = Shared::of(self.alloc, letter, text)?;
                 }
-                let lines = Lines::of(self.alloc, letter, text)?;
-                self.lines = Some(Arc::new(self.alloc, lines)?);
                 Ok(())
             }
+            Shared::One(line) => {
+                let lines = longer(self.alloc, slice::from_ref(line), letter, text)?;
+                self.lines = Shared::Many(Arc::new(self.alloc, lines)?);
+                Ok(())
+            }
+            Shared::Many(lines) => grow(self.alloc, lines, letter, text),
         }
     }
 
@@ -101,8 +101,7 @@ impl Block {
     {
         match one_line(text) {
             Ok(text) => {
-                let items = OneOrMany::One(Line { letter, text });
-                let lines = Some(Arc::new(alloc, Lines { items })?);
+                let lines = Shared::One(Arc::new(alloc, Line { letter, text })?);
                 Ok(Block { alloc, lines })
             }
             Err(text) => cut(alloc, letter, text.as_str()),
@@ -113,27 +112,37 @@ impl Block {
     pub fn from_lines(alloc: Global, lines: Vec<Line>) -> Result<Block, AllocError>
         ensures { IfOk result (λ b. b ≡ lines.items) }
     {
-        let items = OneOrMany::Many(lines);
-        let lines = Arc::new(alloc, Lines { items })?;
-        Ok(Block {
-            alloc,
-            lines: Some(lines),
-        })
+        let lines = Shared::Many(Arc::new(alloc, lines)?);
+        Ok(Block { alloc, lines })
+    }
+}
+
+impl Shared {
+    /// The lines of a text.
+    fn of(alloc: Global, letter: Letter, text: &str) -> Result<Shared, AllocError>
+        ensures { IfOk result (λ l. lines_in l ≡ lines_of letter text.now) }
+    {
+        if let Some(text) = only_line(text) {
+            let text = Text::from_str(alloc, text)?;
+            return Ok(Shared::One(Arc::new(alloc, Line { letter, text })?));
+        }
+        let lines = longer(alloc, &[], letter, text)?;
+        Ok(Shared::Many(Arc::new(alloc, lines)?))
     }
 }
 
 /// Appends the lines of a text: in place where no other block has the lines, else to a copy.
 fn grow(
     alloc: Global,
-    shared: &mut Arc<Lines>,
+    shared: &mut Arc<Vec<Line>>,
     letter: Letter,
     text: &str,
 ) -> Result<(), AllocError>
-    ensures ok { OnOk result (arc_value shared.new ≡ arc_value shared.old ++ lines_of letter text.now) }
-    ensures err { OnErr result (arc_value shared.new ≡ arc_value shared.old) }
+    ensures ok { OnOk result ((arc_value shared.new).items ≡ (arc_value shared.old).items ++ lines_of letter text.now) }
+    ensures err { OnErr result ((arc_value shared.new).items ≡ (arc_value shared.old).items) }
 {
     if let Some(own) = Arc::get_mut(shared) {
-        return own.append(alloc, letter, text);
+        return append(own, letter, text);
     }
     let lines = longer(alloc, shared.as_slice(), letter, text)?;
     *shared = Arc::new(alloc, lines)?;
@@ -141,8 +150,13 @@ fn grow(
 }
 
 /// Copies of the lines and behind them the lines of a text.
-fn longer(alloc: Global, lines: &[Line], letter: Letter, text: &str) -> Result<Lines, AllocError>
-    ensures { IfOk result (λ l. l ≡ lines.now ++ lines_of letter text.now) }
+fn longer(
+    alloc: Global,
+    lines: &[Line],
+    letter: Letter,
+    text: &str,
+) -> Result<Vec<Line>, AllocError>
+    ensures { IfOk result (λ l. l.items ≡ lines.now ++ lines_of letter text.now) }
 {
     let room = lines.len().saturating_add(count_lines(text));
     let mut items = Vec::with_capacity(alloc, room)?;
@@ -150,43 +164,7 @@ fn longer(alloc: Global, lines: &[Line], letter: Letter, text: &str) -> Result<L
         items.push(line.copy()?)?;
     }
     push_lines(&mut items, letter, text)?;
-    Ok(Lines {
-        items: OneOrMany::Many(items),
-    })
-}
-
-impl Lines {
-    /// The lines of a text.
-    fn of(alloc: Global, letter: Letter, text: &str) -> Result<Lines, AllocError>
-        ensures { IfOk result (λ l. l ≡ lines_of letter text.now) }
-    {
-        if let Some(text) = only_line(text) {
-            let text = Text::from_str(alloc, text)?;
-            return Ok(Lines {
-                items: OneOrMany::One(Line { letter, text }),
-            });
-        }
-        longer(alloc, &[], letter, text)
-    }
-
-    fn as_slice(&self) -> &[Line]
-        ensures { result.now ≡ self.now }
-    {
-        self.items.as_slice()
-    }
-
-    fn append(&mut self, alloc: Global, letter: Letter, text: &str) -> Result<(), AllocError>
-        ensures ok { OnOk result (self.new ≡ self.old ++ lines_of letter text.now) }
-        ensures err { OnErr result (self.new ≡ self.old) }
-    {
-        match &mut self.items {
-            OneOrMany::One(_) => {
-                *self = longer(alloc, self.as_slice(), letter, text)?;
-                Ok(())
-            }
-            OneOrMany::Many(lines) => append(lines, letter, text),
-        }
-    }
+    Ok(items)
 }
 
 /// Appends the lines of a text, or nothing.
