@@ -1,4 +1,5 @@
 pub mod Utf8
+pub mod ShortTexts
 pub mod Covered
 pub mod Values
 pub mod Loops

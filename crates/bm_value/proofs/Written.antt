@@ -5,7 +5,7 @@ use Rattle.std.specs.Prelude.{OnOk, OnErr}
 use Rattle.std.proofs.lemmas.List.{append-nil, take_more, take_all}
 use Rattle.std.proofs.lemmas.Grind.{flat_map-append}
 use Rattle.std.proofs.lemmas.List.Concat.{flat_map-cons}
-use Rattle.std.proofs.lemmas.List.Elements.{All-from_recursion}
+use Rattle.std.proofs.lemmas.List.Elements.{All-from_recursion, All-get_or}
 use Rattle.bm_value.specs.declared.value.Value.{Value}
 use Rattle.bm_value.specs.declared.value.Pair.{Pair}
 use Rattle.bm_value.specs.declared.value.Items.{Items}
@@ -46,6 +46,14 @@ each_pair_short (p ∷ ps) h = ((h.0, h.1), each_pair_short ps h.2)
 
 pub all_pairs_short : {A : Type 0} (ps : List (Pair A)) → PairsAreShort (pairs_of (map pair_tree ps)) → All (λ p. IsShortPair (pair_tree p)) ps
 all_pairs_short ps h = All-from_recursion (λ p. IsShortPair (pair_tree p)) ps (each_pair_short ps h)
+
+pub short_value_at : {A : Type 0} (vs ws : List (Value A)) (i : ℕ) (v : Value A) → vs ≡ ws → All (λ w. IsShort (tree w)) ws → i < length vs → v ≡ get_or vs i v → IsShort (tree v)
+short_value_at vs ws i v same short lt is =
+    subst (λ w. IsShort (tree w)) (sym is) (All-get_or (λ w. IsShort (tree w)) vs i v lt (subst (All (λ w. IsShort (tree w))) (sym same) short))
+
+pub short_pair_at : {A : Type 0} (ps qs : List (Pair A)) (i : ℕ) (p : Pair A) → ps ≡ qs → All (λ q. IsShortPair (pair_tree q)) qs → i < length ps → p ≡ get_or ps i p → IsShortPair (pair_tree p)
+short_pair_at ps qs i p same short lt is =
+    subst (λ q. IsShortPair (pair_tree q)) (sym is) (All-get_or (λ q. IsShortPair (pair_tree q)) ps i p lt (subst (All (λ q. IsShortPair (pair_tree q))) (sym same) short))
 
 pub puts_either : {T E : Type 0} (r : Result T E) (old new text : List ℕ) → OnOk r (new ≡ old ++ text) → OnErr r (new ≡ old) → Puts r old new text
 puts_either (Ok y) old new text ok err = ok

@@ -1,6 +1,7 @@
 pub mod Num
 pub mod Tree
 pub mod View
+pub mod Kept
 pub mod Field
 pub mod Row
 pub mod Reading

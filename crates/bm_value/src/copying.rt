@@ -3,14 +3,15 @@
 ghost use Rattle.std.specs.Prelude.{◌≡◌, IfOk};
 ghost use Rattle.bm_value.specs.View.{tree, items_tree, pair_tree, pairs_tree};
 
-use crate::bytes::{Bytes, Text};
+use crate::bytes::Bytes;
+use crate::text::Text;
 use crate::value::{Items, Pair, Pairs, Value};
 use std::alloc::{AllocError, Allocator};
 
-fn text<A: Allocator, B: Allocator>(alloc: B, text: &Text<A>) -> Result<Text<B>, AllocError>
+fn text<A: Allocator, B: Allocator + Copy>(alloc: B, text: &Text<A>) -> Result<Text<B>, AllocError>
     ensures { IfOk result (λ t. t ≡ text.now) }
 {
-    Ok(Text::from_string(String::from_str(alloc, text.as_str())?))
+    Text::from_str(alloc, text.as_str())
 }
 
 fn bytes<A: Allocator, B: Allocator>(alloc: B, bytes: &Bytes<A>) -> Result<Bytes<B>, AllocError>

@@ -18,15 +18,18 @@ mod lookup;
 mod num;
 mod reading;
 mod row;
+mod short_text;
 #[cfg(test)]
 mod tests;
+mod text;
 mod value;
 mod writing;
 
-pub use bytes::{Bytes, Text};
+pub use bytes::Bytes;
 pub use fault::{DecodeError, EncodeError};
 pub use limits::{MAX_DEPTH, is_short, nests_within};
 pub use num::Num;
 pub use reading::{decode, decode_whole};
+pub use text::Text;
 pub use value::{Items, Pair, Pairs, Value};
 pub use writing::encode;

@@ -1,22 +1,24 @@
 //! Trees at the front of bytes.
 
-ghost use Rattle.std.specs.Prelude.{◌≡◌, ◌≢◌, ◌≤◌, ℕ, take, length, IfOk, IfErr, Ok, Err};
+ghost use Rattle.std.specs.Prelude.{◌≡◌, ◌≢◌, ◌≤◌, ℕ, take, length, IfOk, IfErr, IfSome, Ok, Err};
 ghost use Rattle.bm_value.specs.declared.fault.DecodeError.{DecodeError};
 ghost use Rattle.bm_value.specs.declared.row.Plain.TheVariants as plain;
 ghost use Rattle.bm_value.specs.Row.{row};
-ghost use Rattle.bm_value.specs.Tree.{Tree, depth};
+ghost use Rattle.bm_value.specs.Tree.{Tree, str, depth};
 ghost use Rattle.bm_value.specs.Decoding.{Reads, Decodes, DecodesWhole, Trails};
 ghost use Rattle.bm_value.specs.Spelling.{Spells, Fails};
 ghost use Rattle.bm_value.specs.View.{tree, items_tree, pair_tree, pairs_tree};
 ghost use Rattle.bm_value.specs.Reading.{Gives, signed_at, text_at, binary_at, extension_at, plain_at, items_at, pair_at, pairs_at, inner, array_with, map_with, row_with, value_at};
 
 use crate::ascii::is_text;
-use crate::bytes::{Bytes, Text};
+use crate::bytes::Bytes;
 use crate::fault::DecodeError;
 use crate::front::{eight, four, length, number, one, take, two};
 use crate::limits::MAX_DEPTH;
 use crate::num::Num;
 use crate::row::{Plain, Row, Size, Wide, row_of};
+use crate::short_text::ShortText;
+use crate::text::Text;
 use crate::value::{Items, Pair, Pairs, Value};
 use std::alloc::Allocator;
 use std::str::from_utf8_unchecked;
@@ -44,9 +46,12 @@ fn signed(wide: Wide, bytes: &[u8]) -> Result<(Num, &[u8]), DecodeError>
     }
 }
 
-#[inline(always)]
 #[tactic(auto, using(crate::proofs::Utf8::utf8_tests), unfolding(crate::specs::Reading::text_at))]
-fn text<A: Allocator>(alloc: A, size: Size, bytes: &[u8]) -> Result<(Text<A>, &[u8]), DecodeError>
+fn text<A: Allocator + Copy>(
+    alloc: A,
+    size: Size,
+    bytes: &[u8],
+) -> Result<(Text<A>, &[u8]), DecodeError>
     ensures { Gives (λ x. (x.0, x.1.now)) result (text_at size bytes.now) }
 {
     let (n, rest) = length(size, bytes)?;
@@ -55,7 +60,7 @@ fn text<A: Allocator>(alloc: A, size: Size, bytes: &[u8]) -> Result<(Text<A>, &[
         return Err(DecodeError::BadUtf8);
     }
     let text = unsafe { from_utf8_unchecked(front) };
-    Ok((Text::from_string(String::from_str(alloc, text)?), rest))
+    Ok((Text::from_str(alloc, text)?, rest))
 }
 
 #[tactic(auto, unfolding(crate::specs::Reading::binary_at))]
@@ -89,19 +94,18 @@ fn extension<A: Allocator>(
     ))
 }
 
-/// A str, behind its first byte.
+/// The text behind this first byte, where both are seen at once to be a short str.
 #[inline(always)]
-#[tactic(auto, unfolding(crate::specs::Reading::plain_at))]
-fn string<A: Allocator + Copy>(
-    alloc: A,
-    size: Size,
-    bytes: &[u8],
-) -> Result<(Value<A>, &[u8]), DecodeError>
-    ensures { Gives (λ x. (tree x.0, x.1.now)) result (plain_at (plain.Str size) bytes.now) }
+fn short_str(first: u8, bytes: &[u8]) -> Option<(ShortText, &[u8])>
+    ensures { IfSome result (λ x. (room : ℕ) → row_with (inner room) (row first) bytes.now ≡ Ok (str x.0, x.1.now)) }
 {
-    match text(alloc, size, bytes) {
-        Ok((text, rest)) => Ok((Value::Str(text), rest)),
-        Err(e) => Err(e),
+    match first {
+        0xa0..=0xbf => {
+            let n = first - 0xa0;
+            let text = ShortText::at_front(bytes, n)?;
+            Some((text, &bytes[n as usize..]))
+        }
+        _ => None,
     }
 }
 
@@ -170,8 +174,8 @@ fn first_places(count: u64, bytes: &[u8]) -> usize
     }
 }
 
-/// The value at the front, where arrays and maps may nest `room` deep. Most values are strs, and those are read in
-/// place.
+/// The value at the front, where arrays and maps may nest `room` deep. Most values are short strs, and those are read
+/// in place.
 #[cycle(read)]
 #[inline(always)]
 fn read<A: Allocator + Copy>(
@@ -183,9 +187,9 @@ fn read<A: Allocator + Copy>(
 {
     match bytes {
         [] => Err(DecodeError::Truncated),
-        [first, rest @ ..] => match row_of(*first) {
-            Row::Plain(Plain::Str(size)) => string(alloc, size, rest),
-            _ => match behind(alloc, *first, rest, room) {
+        [first, rest @ ..] => match short_str(*first, rest) {
+            Some((text, rest)) => Ok((Value::Str(Text::from_short(text)), rest)),
+            None => match behind(alloc, *first, rest, room) {
                 Ok((value, rest)) => Ok((value, rest)),
                 Err(e) => Err(e),
             },
@@ -193,7 +197,7 @@ fn read<A: Allocator + Copy>(
     }
 }
 
-/// The value with this first byte, of any kind. It stands apart, so that what reads strs stays small.
+/// The value with this first byte, of any kind. It stands apart, so that what reads short strs stays small.
 #[cycle(read)]
 #[inline(never)]
 fn behind<A: Allocator + Copy>(

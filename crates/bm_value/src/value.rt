@@ -1,7 +1,8 @@
 //! The kinds of value.
 
-use crate::bytes::{Bytes, Text};
+use crate::bytes::Bytes;
 use crate::num::Num;
+use crate::text::Text;
 use std::alloc::{Allocator, Global};
 
 /// A MessagePack value, whose parts lie in the allocator `A`.

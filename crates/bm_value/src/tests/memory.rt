@@ -55,17 +55,17 @@ fn each_refused_request_of_decode_is_want_of_memory(rt: HostRuntime) -> Result<(
             met = met.saturating_add(1);
         }
     }
-    // Each vector asks at least for its map and for one str.
-    assert!(rt; met >= 14);
+    // Each vector asks at least for its map.
+    assert!(rt; met >= 7);
     Ok(())
 }
 
 #[test]
 fn a_fault_before_the_refused_request_is_told(rt: HostRuntime) -> Result<(), Fail> {
-    // Two requests come before the fault: the places of the items, and the first item's text.
+    // Two requests come before the fault: the places of the items, and the first item's text, which is no short one.
     let heap = Refusing::new(rt.alloc(), 3);
     assert_eq!(rt;
-        decode(&heap, b"\x92\xa1a\xc1").err(),
+        decode(&heap, b"\x92\xb1seventeen letters\xc1").err(),
         Some(DecodeError::Reserved)
     );
     assert!(rt; !heap.is_spent());
@@ -117,12 +117,24 @@ fn each_refused_request_of_a_copy_is_want_of_memory(rt: HostRuntime) -> Result<(
 #[test]
 fn texts_and_bytes_are_copied_or_refused(rt: HostRuntime) -> Result<(), Fail> {
     let heap = Refusing::new(rt.alloc(), 2);
-    let text = Text::from_string(String::from_str(&heap, "ab")?);
+    let text = Text::from_str(&heap, "seventeen letters")?;
     assert!(rt; text.copy().is_err());
-    assert_eq!(rt; text.copy()?.as_str(), "ab");
+    assert_eq!(rt; text.copy()?.as_str(), "seventeen letters");
     let heap = Refusing::new(rt.alloc(), 2);
     let bytes = Bytes::from_vec(Vec::from_slice(&heap, &[1, 2])?);
     assert!(rt; bytes.copy().is_err());
     assert_eq!(rt; bytes.copy()?.as_slice(), [1, 2].as_slice());
+    Ok(())
+}
+
+#[test]
+fn short_texts_take_no_memory(rt: HostRuntime) -> Result<(), Fail> {
+    let heap = Refusing::new(rt.alloc(), 1);
+    let text = Text::from_str(&heap, "sixteen letters.")?;
+    assert_eq!(rt; text.copy()?.as_str(), "sixteen letters.");
+    assert!(rt; decode(&heap, b"\xb0sixteen letters.").is_ok());
+    assert!(rt; decode(&heap, b"\xd9\x02\xc3\xa9").is_ok());
+    assert!(rt; !heap.is_spent());
+    assert!(rt; Text::from_str(&heap, "seventeen letters").is_err());
     Ok(())
 }

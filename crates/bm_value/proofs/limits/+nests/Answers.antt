@@ -1,10 +1,14 @@
 use Rattle.std.proofs.Common.{◌≤◌, map, sym, ap, ◌∙◌, arith}
 use Rattle.std.proofs.lemmas.Grind.{common_steps}
-use Rattle.bm_value.specs.Tree.{depth, depth_of_pair, depth_of_pairs}
-use Rattle.bm_value.specs.View.{tree, pair_tree, pairs_of}
+use Rattle.bm_value.specs.Tree.{depth, depth_of_items, depth_of_pair, depth_of_pairs}
+use Rattle.bm_value.specs.View.{tree, trees_of, pair_tree, pairs_of}
 use Rattle.bm_value.proofs.Nesting.{nest_more, nest_stops, item_next, pair_next, nests_same}
-use Rattle.bm_value.proofs.Written.{pairs_out}
+use Rattle.bm_value.proofs.Written.{items_out, pairs_out}
 use Rattle.bm_value.proofs.limits.+nests.Goals as goal
+
+pub items_nest-loop-item-init : goal.items_nest-loop-item-init
+items_nest-loop-item-init g t c =
+    nests_same c.args.room _ _ (ap depth_of_items (items_out c.args.items.now) ∙ ap (λ vs. depth_of_items (trees_of (map tree vs))) (sym c.deref-item-items.ensures.value))
 
 pub items_nest-returns-then-not-nests_within : goal.items_nest-returns-then-not-nests_within
 items_nest-returns-then-not-nests_within g t c =

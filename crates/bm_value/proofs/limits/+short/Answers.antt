@@ -1,10 +1,10 @@
 use Rattle.std.proofs.Common.{◌≡◌, ◌<◌, ◌^◌, map, sym, ap, subst, ◌∙◌, rules, arith}
 use Rattle.bm_value.specs.Tree.{array, dict, count, count_of_pairs}
-use Rattle.bm_value.specs.View.{tree, items_tree, pair_tree, pairs_of, pairs_tree}
+use Rattle.bm_value.specs.View.{tree, trees_of, items_tree, pair_tree, pairs_of, pairs_tree}
 use Rattle.bm_value.specs.Limits.{IsShort, AreShort, PairsAreShort, IsShortPair}
-use Rattle.bm_value.proofs.Shortness.{item_rest, pair_rest, items_more, items_stop, pairs_more, pairs_stop, pairs_same}
+use Rattle.bm_value.proofs.Shortness.{item_rest, pair_rest, items_more, items_stop, pairs_more, pairs_stop, items_same, pairs_same}
 use Rattle.bm_value.proofs.Values.{tree-Array, tree-Map}
-use Rattle.bm_value.proofs.Written.{pairs_out, items_len, pairs_len}
+use Rattle.bm_value.proofs.Written.{items_out, pairs_out, items_len, pairs_len}
 use Rattle.bm_value.proofs.limits.+short.Goals as goal
 
 pub is_short-returns-then-fits_field : goal.is_short-returns-then-fits_field
@@ -28,6 +28,10 @@ pub is_short-returns-else-fits_field-2 : goal.is_short-returns-else-fits_field-2
 is_short-returns-else-fits_field-2 g t c =
     let is : tree c.args.value.now ≡ dict (pairs_tree c.in-Map.pairs) = ap tree c.in-Map.is ∙ tree-Map c.in-Map.pairs in
     (λ h. absurd cc, λ h. c.fits_field-in-Map.ensures.1 (omega (arith, pairs_len c.in-Map.pairs, c.len-in-Map.ensures, (subst IsShort is h).0)))
+
+pub items_are_short-loop-item-init : goal.items_are_short-loop-item-init
+items_are_short-loop-item-init g t c =
+    items_same _ _ (items_out c.args.items.now ∙ ap (λ vs. trees_of (map tree vs)) (sym c.deref-item-items.ensures.value))
 
 pub items_are_short-returns-then-not-is_short : goal.items_are_short-returns-then-not-is_short
 items_are_short-returns-then-not-is_short g t c =

@@ -1,10 +1,9 @@
 use Rattle.std.proofs.Common.{◌≡◌, [], ◌∷◌, ◌++◌, map, Ok, sym, ap, ◌∙◌, arith}
 use Rattle.std.proofs.lemmas.List.{map_push}
-use Rattle.bm_value.specs.declared.row.Plain.{Plain}
-use Rattle.bm_value.specs.declared.row.Row.TheVariants as rows
+use Rattle.bm_value.specs.Tree.{str}
 use Rattle.bm_value.specs.View.{tree, items_tree, pair_tree, pairs_tree}
 use Rattle.bm_value.specs.Reading.{value_at, items_at, pairs_at}
-use Rattle.bm_value.proofs.Values.{behind_first, no_byte, gives_row, array_read, map_read, items_tree-of, pairs_tree-of, tree-Array, tree-Map}
+use Rattle.bm_value.proofs.Values.{behind_first, no_byte, array_read, map_read, items_tree-of, pairs_tree-of, tree-Array, tree-Map, tree-Str}
 use Rattle.bm_value.proofs.Loops.{refused-along, item_read, item_refused, items_done, pair_read, pair_refused, pairs_done}
 use Rattle.bm_value.proofs.reading.+read.Goals as goal
 
@@ -43,8 +42,10 @@ pairs-returns g t c =
 pub read-returns-in-empty : goal.read-returns-in-empty
 read-returns-in-empty g t c = no_byte c.args.room c.args.bytes.now (omega arith)
 
-pub read-returns-in-Plain-Str : goal.read-returns-in-Plain-Str
-read-returns-in-Plain-Str g t c = gives_row _ c.string.result c.args.room c.args.bytes.now _ (omega arith) (ap (λ (p : Plain). rows.Plain p) (sym c.in-Plain-Str.field-0-is) ∙ c.in-Plain-Str.ensures) c.string.ensures
+pub read-returns-in-Some : goal.read-returns-in-Some
+read-returns-in-Some g t c =
+    let is = tree-Str _ c.from_short.result ∙ ap str c.from_short.ensures in
+    sym (behind_first c.args.room c.args.bytes.now (omega arith)) ∙ c.in-Some.ensures c.args.room ∙ ap (λ x. Ok (x, c.in-Some.rest.now)) (sym is)
 
 pub read-returns-in-Ok : goal.read-returns-in-Ok
 read-returns-in-Ok g t c = sym (behind_first c.args.room c.args.bytes.now (omega arith)) ∙ c.in-Ok.ensures

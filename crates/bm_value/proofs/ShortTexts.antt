@@ -1,0 +1,70 @@
+-- The first of sixteen bytes, as a text.
+use Rattle.std.proofs.Common.{◌≡◌, ℕ, ◌<◌, ◌≤◌, ◌-◌, ◌%◌, ◌^◌, Bool, true, false, not, cond, leb, eqb, List, length, get_or, take, map, replicate, drop, IsTrue, Ok, refl, sym, ap, subst, ◌∙◌, arith, w8}
+use Rattle.std.specs.Int.Count.{count_trailing_zeros}
+use Rattle.std.specs.Simd.Lanes.{zip2, mask_l, top, chunk}
+use Rattle.std.specs.Str.{IsUtf8}
+use Rattle.std.proofs.lemmas.Bool.{leb-true, leb-false, lt-ltb, le-ltb}
+use Rattle.std.proofs.lemmas.List.{length-map, length-take-le, get_or-take, take-take, take_rest}
+use Rattle.std.proofs.lemmas.List.Sums.{prefix_len_passes}
+use Rattle.std.proofs.lemmas.Simd.{tops_compared, zip2_splat_left, mask_l-mod, first_set_mask_l}
+use Rattle.std.proofs.lemmas.Str.{IsUtf8-from_ascii}
+use Rattle.std.proofs.lemmas.Str.Ascii.{IsAscii-from_reads}
+use Rattle.bm_value.specs.declared.row.Size.TheVariants as size
+use Rattle.bm_value.specs.declared.row.Plain.TheVariants as plain
+use Rattle.bm_value.specs.declared.row.Row.TheVariants as rows
+use Rattle.bm_value.specs.Row.{row}
+use Rattle.bm_value.specs.Tree.{str}
+use Rattle.bm_value.specs.Reading.{text_at, plain_at, row_with, inner}
+use Rattle.bm_value.proofs.Utf8.{is_text}
+
+-- whether a byte is none of ASCII
+abbrev is_wide : ℕ → Bool
+is_wide x = leb 128 x
+
+narrow : (x : ℕ) → not (is_wide x) ≡ true → x < 128
+narrow x h = go (is_wide x) refl h
+  where
+    go : (b : Bool) → leb 128 x ≡ b → not b ≡ true → x < 128
+    go true e h = absurd cc
+    go false e h = leb-false 128 x e
+
+-- how many lanes come before the first wide byte is at least n, where the mask's lowest bit says so
+enough : (m n k p : ℕ) → cond (eqb m 0) 16 k ≡ p → n ≤ k → (i : ℕ) → i < n → i < 16 → i < p
+enough m n k p is le i lt few = go (eqb m 0) refl
+  where
+    go : (b : Bool) → eqb m 0 ≡ b → i < p
+    go true e = let q : cond true 16 k ≡ p = ap (λ b. cond b 16 k) (sym e) ∙ is in omega arith
+    go false e = let q : cond false 16 k ≡ p = ap (λ b. cond b 16 k) (sym e) ∙ is in omega arith
+
+mask_is : (xs : List ℕ) → length xs ≡ 16 → mask_l (map (top 7) (zip2 (λ a b. cond (leb a b) 255 0) (replicate 16 128) xs)) % 2 ^ 64 ≡ mask_l (map is_wide xs)
+mask_is xs long =
+    let tops = tops_compared w8 leb (replicate 16 128) xs ∙ zip2_splat_left leb 128 16 xs long in
+    ap (λ ms. mask_l ms % 2 ^ 64) tops ∙ mask_l-mod (map is_wide xs) 64 (omega (arith, length-map xs is_wide))
+
+pub begins_ascii : (xs : List ℕ) (n : ℕ) → length xs ≡ 16
+    → IsTrue (leb n (count_trailing_zeros 64 (mask_l (map (top 7) (zip2 (λ a b. cond (leb a b) 255 0) (replicate 16 128) xs)) % 2 ^ 64)))
+    → (i : ℕ) → i < n → i < 16 → get_or xs i 0 < 128
+begins_ascii xs n long is i lt few =
+    let least : n ≤ count_trailing_zeros 64 (mask_l (map is_wide xs)) = leb-true n _ (ap (λ m. leb n (count_trailing_zeros 64 m)) (sym (mask_is xs long)) ∙ is) in
+    let before = enough (mask_l (map is_wide xs)) n _ _ (first_set_mask_l is_wide xs 16 long (omega arith)) least i lt few in
+    narrow (get_or xs i 0) (prefix_len_passes (λ x. not (is_wide x)) xs i 0 before)
+
+pub block_front : (bytes : List ℕ) (n : ℕ) → n ≤ 16 → take n (chunk 0 16 bytes) ≡ take n bytes
+block_front bytes n le = take-take n 16 bytes le
+
+pub front_is_text : (block : List ℕ) (n : ℕ) → n ≤ 16 → 16 ≤ length block → ((i : ℕ) → i < n → i < 16 → get_or block i 0 < 128) → IsUtf8 (take n block)
+front_is_text block n le room narrow =
+    IsUtf8-from_ascii (take n block) (IsAscii-from_reads (take n block) n (omega (arith, length-take-le n block (omega arith))) (λ k lt. subst (λ x. x < 128) (sym (get_or-take n block k 0 lt)) (narrow k lt (omega arith))))
+
+-- a first byte that has a str's length
+str_row : (first : ℕ) → 160 ≤ first → first ≤ 191 → row first ≡ rows.Plain (plain.Str (size.Here (first - 160)))
+unfolding row
+str_row first low high = rw (le-ltb first 0x80 (omega arith), le-ltb first 0x90 (omega arith), le-ltb first 0xa0 low, lt-ltb first 0xc0 (omega arith)) refl
+
+-- the text behind it, and what is left
+pub str_read : (first room : ℕ) (bytes text : List ℕ) → 160 ≤ first → first ≤ 191 → first - 160 ≤ length bytes → text ≡ take (first - 160) bytes → IsUtf8 text
+    → row_with (inner room) (row first) bytes ≡ Ok (str text, take (length bytes - (first - 160)) (drop (first - 160) bytes))
+unfolding plain_at text_at
+str_read first room bytes text low high there is utf8 =
+    let told = is_text (take (first - 160) bytes) (subst IsUtf8 is utf8) in
+    rw (str_row first low high, le-ltb (length bytes) (first - 160) there, told, is, take_rest bytes (first - 160)) refl

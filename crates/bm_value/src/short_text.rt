@@ -1,0 +1,95 @@
+//! Texts of a few bytes, which take no memory.
+
+ghost use Rattle.std.specs.Prelude.{◌≡◌, ◌≤◌, ◌<◌, ◌↔◌, ℕ, take, length, slice_index, IsTrue, IfSome};
+ghost use Rattle.std.specs.Str.{IsUtf8};
+
+use std::marker::Model;
+use std::simd::prelude::*;
+use std::str::from_utf8_unchecked;
+
+/// How many bytes a short text has at most.
+pub const SHORT: usize = 16;
+
+/// A text of at most `SHORT` bytes.
+#[derive(Drop)]
+pub struct ShortText {
+    length: usize,
+    block: [u8; 16],
+}
+
+impl Model for ShortText {
+    ghost use Rattle.std.specs.Prelude.{List, ℕ, ◌≤◌, take};
+    ghost use Rattle.std.specs.Str.{IsUtf8};
+
+    ghost Value = { List ℕ };
+
+    ghost view = { λ t. take t.length t.block };
+
+    ghost invariant = { λ t. (t.length ≤ 16) × IsUtf8 (take t.length t.block) };
+}
+
+/// Whether the first `n` of sixteen bytes are ASCII.
+#[inline(always)]
+fn begins_ascii(block: u8x16, n: u8) -> bool
+    requires { length block ≡ 16 }
+    ensures { IsTrue result → (i : ℕ) → i < n → i < 16 → slice_index block i < 128 }
+{
+    let wide = block.simd_ge(u8x16::splat(0x80)).to_bitmask();
+    wide.trailing_zeros() >= u32::from(n)
+}
+
+impl ShortText {
+    /// The first `n` bytes, where they are seen at once to be a short text: there are sixteen bytes to be looked at,
+    /// and those that count are ASCII.
+    #[inline(always)]
+    pub fn at_front(bytes: &[u8], n: u8) -> Option<ShortText>
+        ensures front { IfSome result (λ t. t ≡ take n bytes.now) }
+        ensures there { IfSome result (λ _. n ≤ length bytes.now) }
+        ensures text { IfSome result (λ t. IsUtf8 t) }
+    {
+        if n > 16 || bytes.len() < 16 {
+            return None;
+        }
+        let block = u8x16::from_slice(bytes);
+        if begins_ascii(block, n) {
+            Some(ShortText {
+                length: n as usize,
+                block: block.to_array(),
+            })
+        } else {
+            None
+        }
+    }
+
+    /// The text, where it is short.
+    pub fn of_str(text: &str) -> Option<ShortText>
+        ensures { IfSome result (λ t. t ≡ text.now) }
+    {
+        let n = text.len();
+        if n > SHORT {
+            return None;
+        }
+        let mut block = [0; 16];
+        block[..n].copy_from_slice(text.as_bytes());
+        Some(ShortText { length: n, block })
+    }
+
+    /// The text.
+    #[inline(always)]
+    pub fn as_str(&self) -> &str
+        ensures { result.now ≡ self.now }
+    {
+        let front = &self.block[..self.length];
+        unsafe { from_utf8_unchecked(front) }
+    }
+
+    /// An equal text.
+    pub fn copy(&self) -> ShortText
+        ensures { result ≡ self.now }
+    {
+        ShortText {
+            length: self.length,
+            block: self.block,
+        }
+    }
+}
