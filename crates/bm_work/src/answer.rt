@@ -56,7 +56,7 @@ impl Answer {
 fn text(alloc: Global, text: &str) -> Result<Value<Global>, AllocError>
     ensures { IfOk result (λ v. tree v ≡ str text.now) }
 {
-    Ok(Value::Str(Text::from_string(String::from_str(alloc, text)?)))
+    Ok(Value::Str(Text::from_str(alloc, text)?))
 }
 
 /// What the worker tells of itself.
