@@ -1,4 +1,4 @@
-ghost use Rattle.std.specs.Prelude.{◌≡◌, ◌<◌, [], ◌∷◌, ◌++◌, true, OnOk, OnErr, bytes_eq, IfOk, length};
+ghost use Rattle.std.specs.Prelude.{◌≡◌, ◌<◌, [], ◌∷◌, ◌++◌, true, OnOk, OnErr, bytes_eq, IfOk, IfErr, length};
 ghost use Rattle.std.specs.Option.{option_copied};
 ghost use Rattle.std.specs.List.{position_or_len};
 ghost use Rattle.bm_lines.specs.Lines.{lines_of};
@@ -77,10 +77,32 @@ impl Parcel {
         ensures { IfOk result (λ p. p ≡ with_item name (lines_of letter text) []) }
     {
         let block = Block::of_text(alloc, letter, text)?;
-        Ok(Parcel {
+        Ok(Parcel::from_part(alloc, Part { name, block }))
+    }
+
+    /// The parcel of one part.
+    #[inline(always)]
+    pub fn from_part(alloc: Global, part: Part) -> Parcel
+        ensures { result ≡ part ∷ [] }
+    {
+        Parcel {
             alloc,
-            parts: OneOrMany::One(Part { name, block }),
-        })
+            parts: OneOrMany::One(part),
+        }
+    }
+
+    /// The part of a parcel that has just one. Another parcel comes back.
+    #[inline(always)]
+    pub fn into_only_part(self) -> Result<Part, Parcel>
+        ensures part { IfOk result (λ part. self ≡ part ∷ []) }
+        ensures back { IfErr result (λ parcel. parcel ≡ self) }
+        ensures other { OnErr result (¬ (length self ≡ 1)) }
+    {
+        let Parcel { alloc, parts } = self;
+        match parts.into_only() {
+            Ok(part) => Ok(part),
+            Err(parts) => Err(Parcel { alloc, parts }),
+        }
     }
 
     pub fn parts(&self) -> &[Part]

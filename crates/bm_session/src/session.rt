@@ -1,7 +1,7 @@
-ghost use Rattle.std.specs.Prelude.{◌≡◌, ◌⊎◌, ◌++◌, ◌∷◌, ◌||◌, ◌≤◌, [], Some, None, true, false, IfOk, IfErr, IsOk, if◌then◌else◌};
+ghost use Rattle.std.specs.Prelude.{◌≡◌, ◌⊎◌, ◌++◌, ◌∷◌, ◌||◌, ◌≤◌, [], Some, None, true, false, IfOk, IfErr, IsOk, OnOk, if◌then◌else◌};
 ghost use Rattle.bm_session.specs.Trace.{is_up as up_of, is_cut as cut_of, refusal as refusal_of, reply as reply_of, item as item_of, log as log_of, has_log as has_log_in, outcome as outcome_of, was_taken};
 ghost use Rattle.bm_session.specs.Seen.{HoldsSeen};
-ghost use Rattle.bm_session.specs.Session.{IsPlanFor, ran_as, trace_as, ran_after, trace_after};
+ghost use Rattle.bm_session.specs.Session.{IsPlanFor, needed, ran_as, trace_as, ran_after, trace_after};
 
 use crate::counted;
 use crate::event::Event;
@@ -124,12 +124,33 @@ impl Session {
         ensures refused { IfErr result (λ r. (refusal_of self.old.trace event ≡ Some r.1) ⊎ ((refusal_of self.old.trace event ≡ None) × (r.1 ≡ Refusal.Mem))) }
         ensures down { event ≡ Event.Down → (up_of self.old.trace || cut_of self.old.trace) ≡ true → IsOk result }
     {
-        if let Some(reason) = self.table.refusal(self.events.len(), &event) {
-            return Err((event, reason));
+        match self.prepare(&event) {
+            Ok((reply, item)) => Ok(Plan::of(event, reply, item)),
+            Err(reason) => Err((event, reason)),
         }
-        let reply = self.table.reply(&event);
-        let Ok(item) = self.table.item(&event) else {
-            return Err((event, Refusal::Mem));
+    }
+
+    /// The same for an event that stays where it is: answers what the master sends and the event's item, or why it isn't
+    /// taken. Then `record` takes it.
+    #[inline(never)]
+    pub fn prepare(&mut self, event: &Event) -> Result<(Reply, Option<Item>), Refusal>
+        ensures same { self.new.trace ≡ self.old.trace }
+        ensures room { self.old.room ≤ self.new.room }
+
+        ensures accepted { OnOk result (refusal_of self.old.trace event.now ≡ None) }
+        ensures spare { OnOk result (needed event.now ≤ self.new.room) }
+        ensures reply { IfOk result (λ r. r.0 ≡ reply_of self.old.trace event.now) }
+        ensures item { IfOk result (λ r. r.1 ≡ item_of self.old.trace event.now) }
+
+        ensures refused { IfErr result (λ r. (refusal_of self.old.trace event.now ≡ Some r) ⊎ ((refusal_of self.old.trace event.now ≡ None) × (r ≡ Refusal.Mem))) }
+        ensures down { event.now ≡ Event.Down → (up_of self.old.trace || cut_of self.old.trace) ≡ true → IsOk result }
+    {
+        if let Some(reason) = self.table.refusal(self.events.len(), event) {
+            return Err(reason);
+        }
+        let reply = self.table.reply(event);
+        let Ok(item) = self.table.item(event) else {
+            return Err(Refusal::Mem);
         };
         let needed = match event {
             Event::Down => 1,
@@ -139,9 +160,24 @@ impl Session {
             || self.counted.reserve(needed).is_err()
             || self.table.reserve(needed).is_err()
         {
-            return Err((event, Refusal::Mem));
+            return Err(Refusal::Mem);
         }
-        Ok(Plan::of(event, reply, item))
+        Ok((reply, item))
+    }
+
+    /// Takes an event that was prepared, where none was taken since. It is moved at once to where it stays.
+    #[inline(never)]
+    pub fn record(&mut self, event: Event)
+        requires accepted { refusal_of self.old.trace event ≡ None }
+        requires room { needed event ≤ self.old.room }
+        ensures { self.new.trace ≡ self.old.trace ++ event ∷ [] }
+    {
+        let place = self.events.len();
+        self.events.push_reserved(event);
+        let event = &self.events[place];
+        let counts = self.table.counts(event);
+        self.table.take(event);
+        self.counted.push_reserved(counts);
     }
 
     /// Takes the event of the plan: answers what the master sends, and the event's item unless it was taken from the
@@ -154,10 +190,7 @@ impl Session {
         ensures item { result.1 ≡ plan.given }
     {
         let (event, reply, item) = plan.into_parts();
-        let counts = self.table.counts(&event);
-        self.table.take(&event);
-        let _ = self.counted.push(counts);
-        let _ = self.events.push(event);
+        self.record(event);
         (reply, item)
     }
 

@@ -1,4 +1,4 @@
-ghost use Rattle.std.specs.Prelude.{◌≡◌, List, bytes_eq, length, position, slice_get, find as find_named, true, Some, None, if◌then◌else◌, OnOk, OnErr, IfOk};
+ghost use Rattle.std.specs.Prelude.{◌≡◌, List, bytes_eq, length, position, slice_get, find as find_named, true, Some, None, if◌then◌else◌, OnOk, OnErr, IfOk, IfErr};
 ghost use Rattle.std.specs.Option.{option_copied};
 ghost use Rattle.bm_lines.specs.Places.{HasPlaces, HasPlacesIfAny};
 ghost use Rattle.bm_session.specs.Trace.{joined};
@@ -40,7 +40,20 @@ impl Model for CommandLogs {
     ghost invariant = { λ k. (have_blocks k.named.items ≡ true) × HasPlacesIfAny k.places (names_kept k.named.items) };
 }
 
+/// The place of the log with the name, if there is one. The first one is `stdio` for most commands, and is tried first.
+#[inline(always)]
 fn place_of(logs: &[NamedLog], name: &LogName) -> Option<usize>
+    ensures { result ≡ position (λ l. bytes_eq l.name name.now) logs.now }
+{
+    match log_at(logs, 0) {
+        Some(log) if log.name().is_same(name) => Some(0),
+        _ => walk(logs, name),
+    }
+}
+
+/// The same by a walk.
+#[inline(never)]
+fn walk(logs: &[NamedLog], name: &LogName) -> Option<usize>
     ensures { result ≡ position (λ l. bytes_eq l.name name.now) logs.now }
 {
     logs.iter().position(|log| log.name().is_same(name))
@@ -54,6 +67,7 @@ fn find<'a>(logs: &'a [NamedLog], name: &str) -> Option<&'a NamedLog>
 }
 
 /// The log at a place.
+#[inline(always)]
 fn log_at(logs: &[NamedLog], place: usize) -> Option<&NamedLog>
     ensures { option_copied result ≡ slice_get logs.now place }
 {
@@ -98,6 +112,23 @@ fn add_at(logs: &mut Vec<NamedLog>, place: Option<usize>, part: &Part) -> Result
         }
     }
     Ok(())
+}
+
+/// Moves the block of a part to the end of the log of its name, where there is room for it. Else the part comes back.
+#[inline(always)]
+fn take_part(logs: &mut Vec<NamedLog>, part: Part) -> Result<(), Part>
+    ensures ok { OnOk result (logs.new.items ≡ with_block part.name part.block logs.old.items) }
+    ensures back { IfErr result (λ p. p ≡ part) }
+    ensures err { OnErr result (logs.new.items ≡ logs.old.items) }
+{
+    let Some(place) = place_of(logs.as_slice(), &part.name) else {
+        return Err(part);
+    };
+    let Part { name, block } = part;
+    match logs[place].take(block) {
+        Ok(()) => Ok(()),
+        Err(block) => Err(Part { name, block }),
+    }
 }
 
 /// Takes the last block under a name away, and a log that then has none.
@@ -280,6 +311,26 @@ impl CommandLogs {
         let places = add_all_by_table(&mut self.named, places, parts)?;
         self.places = Some(places);
         Ok(())
+    }
+
+    /// Moves the only block of a parcel to a log of an open command, where that is soon found and has room. Else the parcel
+    /// comes back.
+    #[inline(always)]
+    pub fn take(&mut self, parcel: Parcel) -> Result<(), Parcel>
+        ensures ok { OnOk result (self.new ≡ kept_with_parcel parcel self.old) }
+        ensures back { IfErr result (λ p. p ≡ parcel) }
+        ensures err { OnErr result (self.new ≡ self.old) }
+    {
+        if self.ended.is_none() && self.places.is_none() && self.named.len() < FEW {
+            let alloc = *self.named.allocator();
+            let part = parcel.into_only_part()?;
+            match take_part(&mut self.named, part) {
+                Ok(()) => Ok(()),
+                Err(part) => Err(Parcel::from_part(alloc, part)),
+            }
+        } else {
+            Err(parcel)
+        }
     }
 
     /// Ends the command, where it is open.

@@ -1,4 +1,4 @@
-ghost use Rattle.std.specs.Prelude.{◌≡◌, ◌++◌, ◌∷◌, [], ◌-◌, length, take, IfOk, OnOk, OnErr};
+ghost use Rattle.std.specs.Prelude.{◌≡◌, ◌++◌, ◌∷◌, [], ◌-◌, length, take, IfOk, IfErr, OnOk, OnErr};
 ghost use Rattle.bm_session.specs.Trace.{joined};
 ghost use Rattle.bm_store.specs.Book.{placed};
 
@@ -69,9 +69,26 @@ impl NamedLog {
         ensures ok { OnOk result (self.new ≡ record self.old { blocks = self.old.blocks ++ block ∷ [] }) }
         ensures err { OnErr result (self.new ≡ self.old) }
     {
+        self.blocks.reserve(1)?;
+        match self.take(block) {
+            Ok(()) => Ok(()),
+            Err(_) => Err(AllocError),
+        }
+    }
+
+    /// Adds a block at the end where there is room for it. Where there is none, it comes back.
+    #[inline(always)]
+    pub fn take(&mut self, block: Block) -> Result<(), Block>
+        ensures ok { OnOk result (self.new ≡ record self.old { blocks = self.old.blocks ++ block ∷ [] }) }
+        ensures back { IfErr result (λ b. b ≡ block) }
+        ensures err { OnErr result (self.new ≡ self.old) }
+    {
+        if self.blocks.len() >= self.blocks.capacity() {
+            return Err(block);
+        }
         let first = self.lines;
         let lines = first + block.lines().len() as u128;
-        self.blocks.push(Placed { first, block })?;
+        self.blocks.push_reserved(Placed { first, block });
         self.lines = lines;
         Ok(())
     }

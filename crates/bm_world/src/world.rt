@@ -1,6 +1,9 @@
-ghost use Rattle.std.specs.Prelude.{◌≡◌, ◌≤◌, Some, None, IfOk, IfErr, OnOk, OnErr};
+ghost use Rattle.std.specs.Prelude.{◌≡◌, ◌≤◌, ◌<◌, ◌∷◌, Some, None, IfOk, IfErr, OnOk, OnErr};
+ghost use Rattle.std.specs.VecDeque.{deque_len, deque_capacity};
 ghost use Rattle.bm_world.specs.World.{start, stepped, heard, drained, seen, answers_of};
 ghost use Rattle.bm_session.specs.Trace.{refusal as refusal_of};
+ghost use Rattle.bm_store.specs.Book.{after_item};
+ghost use Rattle.bm_store.specs.Kept.{logs_in};
 
 use crate::answer::Answer;
 use crate::step::Step;
@@ -33,6 +36,26 @@ impl Model for World {
     ghost view = { λ w. record { capacity = w.capacity; trace = w.session.trace; shown = productive w.session.trace - length w.queue.items } };
 
     ghost invariant = { λ w. IsKept w.session.trace w.queue.items w.book };
+}
+
+/// Takes a copy of the item, which was first in the queue, into the book. Out of memory, it is first in the queue again.
+#[cold]
+#[inline(never)]
+fn drain_copy(queue: &mut VecDeque<Item>, book: &mut Book, item: Item) -> Result<Answer, AllocError>
+    requires { deque_len queue.old < deque_capacity queue.old }
+    ensures answer { IfOk result (λ a. a ≡ Answer.Took) }
+    ensures drained { OnOk result (queue.new.items ≡ queue.old.items) }
+    ensures booked { OnOk result (logs_in book.new ≡ after_item (logs_in book.old) item) }
+    ensures back { OnErr result (queue.new.items ≡ item ∷ queue.old.items) }
+    ensures unchanged { OnErr result (book.new ≡ book.old) }
+{
+    match book.apply(&item) {
+        Ok(()) => Ok(Answer::Took),
+        Err(error) => {
+            queue.push_front_reserved(item);
+            Err(error)
+        }
+    }
 }
 
 impl World {
@@ -90,22 +113,21 @@ impl World {
         ensures back { IfErr result (λ e. e ≡ event) }
         ensures unchanged { OnErr result (self.new ≡ self.old) }
     {
-        let mut plan = match self.session.ready(event) {
-            Ok(plan) => plan,
-            Err((event, Refusal::Mem)) => return Err(event),
-            Err((_, reason)) => return Ok(Answer::Refused(reason)),
+        let (reply, item) = match self.session.prepare(&event) {
+            Ok(prepared) => prepared,
+            Err(Refusal::Mem) => return Err(event),
+            Err(reason) => return Ok(Answer::Refused(reason)),
         };
-        if let Some(item) = plan.take_item() {
+        if let Some(item) = item {
             if self.queue.len() >= self.capacity {
-                let _ = self.session.withdraw(plan);
                 return Ok(Answer::Busy);
             }
             if self.queue.reserve(1).is_err() {
-                return Err(self.session.withdraw(plan));
+                return Err(event);
             }
             self.queue.push_back_reserved(item);
         }
-        let (reply, _) = self.session.commit(plan);
+        self.session.record(event);
         Ok(Answer::Heard(reply))
     }
 
@@ -116,12 +138,13 @@ impl World {
         ensures after { OnOk result (self.new ≡ (drained self.old).1) }
         ensures unchanged { OnErr result (self.new ≡ self.old) }
     {
-        match self.queue.front() {
-            None => return Ok(Answer::Empty),
-            Some(item) => self.book.apply(item)?,
+        let Some(item) = self.queue.pop_front() else {
+            return Ok(Answer::Empty);
+        };
+        match self.book.take(item) {
+            Ok(()) => Ok(Answer::Took),
+            Err(item) => drain_copy(&mut self.queue, &mut self.book, item),
         }
-        let _ = self.queue.pop_front();
-        Ok(Answer::Took)
     }
 
     /// The asked lines of what viewers see.
