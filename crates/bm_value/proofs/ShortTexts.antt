@@ -62,9 +62,9 @@ unfolding row
 str_row first low high = rw (le-ltb first 0x80 (omega arith), le-ltb first 0x90 (omega arith), le-ltb first 0xa0 low, lt-ltb first 0xc0 (omega arith)) refl
 
 -- the text behind it, and what is left
-pub str_read : (first room : ℕ) (bytes text : List ℕ) → 160 ≤ first → first ≤ 191 → first - 160 ≤ length bytes → text ≡ take (first - 160) bytes → IsUtf8 text
-    → row_with (inner room) (row first) bytes ≡ Ok (str text, take (length bytes - (first - 160)) (drop (first - 160) bytes))
+pub str_read : (first room : ℕ) (rest text : List ℕ) → 160 ≤ first → first ≤ 191 → first - 160 ≤ length rest → text ≡ take (first - 160) rest → IsUtf8 text
+    → row_with (inner room) (row first) rest ≡ Ok (str text, take (length rest - (first - 160)) (drop (first - 160) rest))
 unfolding plain_at text_at
-str_read first room bytes text low high there is utf8 =
-    let told = is_text (take (first - 160) bytes) (subst IsUtf8 is utf8) in
-    rw (str_row first low high, le-ltb (length bytes) (first - 160) there, told, is, take_rest bytes (first - 160)) refl
+str_read first room rest text low high there is utf8 =
+    let told = is_text (take (first - 160) rest) (subst IsUtf8 is utf8) in
+    rw (str_row first low high, le-ltb (length rest) (first - 160) there, told, is, take_rest rest (first - 160)) refl

@@ -1,18 +1,18 @@
 -- A value by its first byte, and values level by level.
 use Rattle.std.proofs.Common.{◌≡◌, ℕ, zero, suc, ◌<◌, ◌-◌, List, [], ◌∷◌, length, get_or, take, drop, map, Result, Ok, Err, Vec, refl, sym, ap, subst, ◌∙◌, arith}
 use Rattle.bm_value.specs.Row.{row}
-use Rattle.bm_value.specs.Tree.{Tree, array, dict, str, Trees, TreePair, Pairs as TreePairs}
+use Rattle.bm_value.specs.Tree.{Tree, array, dict, Trees, TreePair, Pairs as TreePairs}
 use Rattle.bm_value.specs.View.{value_step, items_step, pair_step, pairs_step, tree, trees_of, pairs_of, pair_tree, items_tree, pairs_tree}
 use Rattle.bm_value.specs.Reading.{Gives, mapped, ◌>>=◌, length_at, items_at, pairs_at, array_with, map_with, value_at, value_with, row_with, inner}
 use Rattle.bm_value.specs.declared.fault.DecodeError.{DecodeError}
 use Rattle.bm_value.specs.declared.fault.DecodeError.TheVariants.{Truncated}
 use Rattle.bm_value.specs.declared.row.Row.{Row}
 use Rattle.bm_value.specs.declared.value.Items.{Items}
-use Rattle.bm_value.specs.declared.value.Value.{Value, Map, Array, Str}
+use Rattle.bm_value.specs.declared.value.Value.{Value, Map, Array}
 use Rattle.bm_value.specs.declared.value.Pair.{Pair}
 use Rattle.bm_value.specs.declared.value.Pairs.{Pairs}
 use Rattle.bm_value.specs.declared.value.Value.TheViews.{roll-Items, roll-Pairs}
-use Rattle.bm_value.specs.declared.value.Value.TheVariants.{rolls-Map, rolls-Array, rolls-Str}
+use Rattle.bm_value.specs.declared.value.Value.TheVariants.{rolls-Map, rolls-Array}
 use Rattle.bm_value.specs.declared.value.Value.TheOpen.{Value-F}
 use Rattle.bm_value.specs.declared.value.Value.TheFolds.{fold-roll-Value, fold-roll-Items, fold-roll-Pairs}
 use Rattle.std.proofs.lemmas.List.{take_rest}
@@ -45,9 +45,6 @@ tree-Map {A} p = ap tree (sym (rolls-Map p)) ∙ fold-roll-Value A Tree Trees Tr
 
 pub tree-Array : {A : Type 0} (x : Items A) → tree (Array x) ≡ array (items_tree x)
 tree-Array {A} x = ap tree (sym (rolls-Array x)) ∙ fold-roll-Value A Tree Trees TreePair TreePairs value_step items_step pair_step pairs_step (Value-F.Array x)
-
-pub tree-Str : (A : Type 0) (s : List ℕ) → tree {A = A} (Str s) ≡ str s
-tree-Str A s = ap (tree {A = A}) (sym (rolls-Str s)) ∙ fold-roll-Value A Tree Trees TreePair TreePairs value_step items_step pair_step pairs_step (Value-F.Str s)
 
 pub tail_is : (bytes : List ℕ) → take (length bytes - 1) (drop 1 bytes) ≡ drop 1 bytes
 tail_is bytes = take_rest bytes 1

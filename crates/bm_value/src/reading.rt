@@ -1,6 +1,6 @@
 //! Trees at the front of bytes.
 
-ghost use Rattle.std.specs.Prelude.{◌≡◌, ◌≢◌, ◌≤◌, ℕ, take, length, IfOk, IfErr, IfSome, Ok, Err};
+ghost use Rattle.std.specs.Prelude.{◌≡◌, ◌≢◌, ◌≤◌, ℕ, take, length, map, IfOk, IfErr, IfSome, Ok, Err};
 ghost use Rattle.bm_value.specs.declared.fault.DecodeError.{DecodeError};
 ghost use Rattle.bm_value.specs.declared.row.Plain.TheVariants as plain;
 ghost use Rattle.bm_value.specs.Row.{row};
@@ -8,7 +8,7 @@ ghost use Rattle.bm_value.specs.Tree.{Tree, str, depth};
 ghost use Rattle.bm_value.specs.Decoding.{Reads, Decodes, DecodesWhole, Trails};
 ghost use Rattle.bm_value.specs.Spelling.{Spells, Fails};
 ghost use Rattle.bm_value.specs.View.{tree, items_tree, pair_tree, pairs_tree};
-ghost use Rattle.bm_value.specs.Reading.{Gives, signed_at, text_at, binary_at, extension_at, plain_at, items_at, pair_at, pairs_at, inner, array_with, map_with, row_with, value_at};
+ghost use Rattle.bm_value.specs.Reading.{Gives, mapped, with_one, with_pair, signed_at, text_at, binary_at, extension_at, plain_at, items_at, pair_at, pairs_at, inner, array_with, map_with, row_with, value_at};
 
 use crate::ascii::is_text;
 use crate::bytes::Bytes;
@@ -94,16 +94,16 @@ fn extension<A: Allocator>(
     ))
 }
 
-/// The text behind this first byte, where both are seen at once to be a short str.
+/// The short str at the front, where it is seen at once to be one.
 #[inline(always)]
-fn short_str(first: u8, bytes: &[u8]) -> Option<(ShortText, &[u8])>
-    ensures { IfSome result (λ x. (room : ℕ) → row_with (inner room) (row first) bytes.now ≡ Ok (str x.0, x.1.now)) }
+fn short_str(bytes: &[u8]) -> Option<(ShortText, &[u8])>
+    ensures { IfSome result (λ x. (room : ℕ) → value_at room bytes.now ≡ Ok (str x.0, x.1.now)) }
 {
-    match first {
-        0xa0..=0xbf => {
-            let n = first - 0xa0;
-            let text = ShortText::at_front(bytes, n)?;
-            Some((text, &bytes[n as usize..]))
+    match bytes {
+        [first @ 0xa0..=0xbf, rest @ ..] => {
+            let n = *first - 0xa0;
+            let text = ShortText::at_front(rest, n)?;
+            Some((text, &rest[n as usize..]))
         }
         _ => None,
     }
@@ -174,8 +174,7 @@ fn first_places(count: u64, bytes: &[u8]) -> usize
     }
 }
 
-/// The value at the front, where arrays and maps may nest `room` deep. Most values are short strs, and those are read
-/// in place.
+/// The value at the front, where arrays and maps may nest `room` deep.
 #[cycle(read)]
 #[inline(always)]
 fn read<A: Allocator + Copy>(
@@ -187,17 +186,14 @@ fn read<A: Allocator + Copy>(
 {
     match bytes {
         [] => Err(DecodeError::Truncated),
-        [first, rest @ ..] => match short_str(*first, rest) {
-            Some((text, rest)) => Ok((Value::Str(Text::from_short(text)), rest)),
-            None => match behind(alloc, *first, rest, room) {
-                Ok((value, rest)) => Ok((value, rest)),
-                Err(e) => Err(e),
-            },
+        [first, rest @ ..] => match behind(alloc, *first, rest, room) {
+            Ok((value, rest)) => Ok((value, rest)),
+            Err(e) => Err(e),
         },
     }
 }
 
-/// The value with this first byte, of any kind. It stands apart, so that what reads short strs stays small.
+/// The value with this first byte. It stands apart, so that what reads short strs stays small.
 #[cycle(read)]
 #[inline(never)]
 fn behind<A: Allocator + Copy>(
@@ -266,15 +262,52 @@ fn items<A: Allocator + Copy>(
     let mut found = Vec::with_capacity(alloc, first_places(count, bytes))?;
     let mut rest = bytes;
     'items: for _ in 0..count {
-        match read(alloc, rest, room) {
-            Ok((item, after)) => {
-                found.push(item)?;
-                rest = after;
-            }
+        match item(alloc, rest, room, &mut found) {
+            Ok(after) => rest = after,
             Err(e) => return Err(e),
         }
     }
     Ok((Items { vec: found }, rest))
+}
+
+/// Adds the value at the front to those found. Most are short strs, and those are read in place.
+#[cycle(read)]
+#[inline(always)]
+fn item<'a, A: Allocator + Copy>(
+    alloc: A,
+    bytes: &'a [u8],
+    room: u32,
+    found: &mut Vec<Value<A>, A>,
+) -> Result<&'a [u8], DecodeError>
+    ensures { Gives (λ rest. (map tree found.new.items, rest.now)) result (mapped (with_one (map tree found.old.items)) (value_at room bytes.now)) }
+{
+    match short_str(bytes) {
+        Some((text, rest)) => {
+            found.push(Value::Str(Text::from_short(text)))?;
+            Ok(rest)
+        }
+        None => any_item(alloc, bytes, room, found),
+    }
+}
+
+/// The same of a value of any kind.
+#[cycle(read)]
+#[inline(always)]
+fn any_item<'a, A: Allocator + Copy>(
+    alloc: A,
+    bytes: &'a [u8],
+    room: u32,
+    found: &mut Vec<Value<A>, A>,
+) -> Result<&'a [u8], DecodeError>
+    ensures { Gives (λ rest. (map tree found.new.items, rest.now)) result (mapped (with_one (map tree found.old.items)) (value_at room bytes.now)) }
+{
+    match read(alloc, bytes, room) {
+        Ok((value, rest)) => {
+            found.push(value)?;
+            Ok(rest)
+        }
+        Err(e) => Err(e),
+    }
 }
 
 #[cycle(read)]
@@ -289,31 +322,89 @@ fn pairs<A: Allocator + Copy>(
     let mut found = Vec::with_capacity(alloc, first_places(count, bytes))?;
     let mut rest = bytes;
     'pairs: for _ in 0..count {
-        match pair(alloc, rest, room) {
-            Ok((pair, after)) => {
-                found.push(pair)?;
-                rest = after;
-            }
+        match pair(alloc, rest, room, &mut found) {
+            Ok(after) => rest = after,
             Err(e) => return Err(e),
         }
     }
     Ok((Pairs { vec: found }, rest))
 }
 
+/// Adds the pair at the front to those found. Most keys are short strs.
 #[cycle(read)]
 #[inline(always)]
-fn pair<A: Allocator + Copy>(
+fn pair<'a, A: Allocator + Copy>(
     alloc: A,
-    bytes: &[u8],
+    bytes: &'a [u8],
     room: u32,
-) -> Result<(Pair<A>, &[u8]), DecodeError>
-    ensures { Gives (λ x. (pair_tree x.0, x.1.now)) result (pair_at (value_at room) bytes.now) }
+    found: &mut Vec<Pair<A>, A>,
+) -> Result<&'a [u8], DecodeError>
+    ensures { Gives (λ rest. (map pair_tree found.new.items, rest.now)) result (mapped (with_one (map pair_tree found.old.items)) (pair_at (value_at room) bytes.now)) }
+{
+    match short_str(bytes) {
+        Some((key, rest)) => pair_with(alloc, key, rest, room, found),
+        None => any_pair(alloc, bytes, room, found),
+    }
+}
+
+/// Adds the pair of this key and the value at the front. Most are short strs.
+#[cycle(read)]
+#[inline(always)]
+fn pair_with<'a, A: Allocator + Copy>(
+    alloc: A,
+    key: ShortText,
+    bytes: &'a [u8],
+    room: u32,
+    found: &mut Vec<Pair<A>, A>,
+) -> Result<&'a [u8], DecodeError>
+    ensures { Gives (λ rest. (map pair_tree found.new.items, rest.now)) result (mapped (with_pair (map pair_tree found.old.items) (str key)) (value_at room bytes.now)) }
+{
+    let key = Value::Str(Text::from_short(key));
+    match short_str(bytes) {
+        Some((text, rest)) => {
+            let value = Value::Str(Text::from_short(text));
+            found.push(Pair { key, value })?;
+            Ok(rest)
+        }
+        None => any_pair_with(alloc, key, bytes, room, found),
+    }
+}
+
+/// The same with a key and a value of any kind.
+#[cycle(read)]
+#[inline(always)]
+fn any_pair_with<'a, A: Allocator + Copy>(
+    alloc: A,
+    key: Value<A>,
+    bytes: &'a [u8],
+    room: u32,
+    found: &mut Vec<Pair<A>, A>,
+) -> Result<&'a [u8], DecodeError>
+    ensures { Gives (λ rest. (map pair_tree found.new.items, rest.now)) result (mapped (with_pair (map pair_tree found.old.items) (tree key)) (value_at room bytes.now)) }
 {
     match read(alloc, bytes, room) {
-        Ok((key, rest)) => match read(alloc, rest, room) {
-            Ok((value, rest)) => Ok((Pair { key, value }, rest)),
-            Err(e) => Err(e),
-        },
+        Ok((value, rest)) => {
+            found.push(Pair { key, value })?;
+            Ok(rest)
+        }
+        Err(e) => Err(e),
+    }
+}
+
+/// Adds the pair at the front, whose key is of any kind.
+#[cycle(read)]
+#[cold]
+#[inline(never)]
+fn any_pair<'a, A: Allocator + Copy>(
+    alloc: A,
+    bytes: &'a [u8],
+    room: u32,
+    found: &mut Vec<Pair<A>, A>,
+) -> Result<&'a [u8], DecodeError>
+    ensures { Gives (λ rest. (map pair_tree found.new.items, rest.now)) result (mapped (with_one (map pair_tree found.old.items)) (pair_at (value_at room) bytes.now)) }
+{
+    match read(alloc, bytes, room) {
+        Ok((key, rest)) => any_pair_with(alloc, key, rest, room, found),
         Err(e) => Err(e),
     }
 }
