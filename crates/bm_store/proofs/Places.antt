@@ -7,7 +7,7 @@ use Rattle.bm_lines.specs.declared.line.Line.{Line}
 use Rattle.bm_session.specs.Trace.{joined}
 use Rattle.bm_store.specs.declared.placed.Placed.{Placed}
 use Rattle.bm_store.specs.Book.{placed, placed_after}
-use Rattle.bm_store.specs.Placing.{block_at, AreShort, IsPlacing}
+use Rattle.bm_store.specs.Placing.{block_at, IsPlacing}
 
 -- without the places these are the blocks
 pub block_at-placed : (n : ℕ) (bs : List (List Line)) → map block_at (placed_after n bs) ≡ bs
@@ -32,18 +32,9 @@ map-take f zero xs = refl
 map-take f (suc i) [] = refl
 map-take f (suc i) (x ∷ xs) = ap (λ l. f x ∷ l) (map-take f i xs)
 
-short-push : (ps : List Placed) (p : Placed) → AreShort ps → length p.block < 2 ^ 64 → AreShort (ps ++ p ∷ [])
-short-push [] p s h = (h, tt)
-short-push (q ∷ qs) p s h = (s.0, short-push qs p s.1 h)
-
-short-take : (i : ℕ) (ps : List Placed) → AreShort ps → AreShort (take i ps)
-short-take zero ps s = tt
-short-take (suc i) [] s = tt
-short-take (suc i) (p ∷ ps) s = (s.0, short-take i ps s.1)
-
 -- one block more at its place
-pub IsPlacing-push : (ps : List Placed) (p : Placed) (lines : ℕ) → IsPlacing ps p.first → length p.block < 2 ^ 64 → lines ≡ p.first + length p.block → IsPlacing (ps ++ p ∷ []) lines
-IsPlacing-push ps p lines h short sum =
+pub IsPlacing-push : (ps : List Placed) (p : Placed) (lines : ℕ) → IsPlacing ps p.first → lines ≡ p.first + length p.block → IsPlacing (ps ++ p ∷ []) lines
+IsPlacing-push ps p lines h sum =
     let at : p.first ≡ length (joined (map block_at ps)) = h.counted in
     let place : p.first ≡ 0 + length (joined (map block_at ps)) = omega arith in
     let one : length (joined (p.block ∷ [])) ≡ length p.block = ap length (append-nil p.block) in
@@ -57,7 +48,6 @@ IsPlacing-push ps p lines h short sum =
           ∙ ap (λ m. placed (map block_at ps) ++ (record { first = m; block = p.block }) ∷ []) place
           ∙ sym (placed_after-push 0 (map block_at ps) p.block)
           ∙ ap placed (sym (map-append block_at ps (p ∷ [])));
-      short = short-push ps p h.short short;
       counted = omega arith;
     }
 
@@ -94,15 +84,5 @@ IsPlacing-pop ps rest last lines h e =
     let size : length (joined (take (length rest) (map block_at ps))) ≡ length (joined (map block_at rest)) = ap (λ bs. length (joined bs)) blocks in
     record {
       exact = sym front ∙ ap (take (length rest)) h.exact ∙ placed_after-take 0 (length rest) (map block_at ps) ∙ ap placed blocks;
-      short = subst AreShort front (short-take (length rest) ps h.short);
       counted = omega arith;
     }
-
--- no more lines than 128 bits count
-pub few-lines : (ps : List Placed) → AreShort ps → length (joined (map block_at ps)) ≤ 2 ^ 64 * length ps
-few-lines [] s = omega arith
-few-lines (p ∷ ps) s =
-    let more : length (joined (map block_at (p ∷ ps))) ≡ length p.block + length (joined (map block_at ps)) = length-append p.block (joined (map block_at ps)) in
-    let one : length p.block < 2 ^ 64 = s.0 in
-    let rest : length (joined (map block_at ps)) ≤ 2 ^ 64 * length ps = few-lines ps s.1 in
-    omega arith

@@ -8,13 +8,7 @@ use Rattle.bm_store.specs.Book.{placed}
 abbrev pub block_at : Placed → List Line
 block_at p = p.block
 
--- no block has more lines than a list in memory can have
-abbrev pub AreShort : List Placed → Type 0
-AreShort [] = Unit {0}
-AreShort (p ∷ ps) = (length p.block < 2 ^ 64) × AreShort ps
-
 -- each block stands at its place, and there are so many lines
 pub record IsPlacing (ps : List Placed) (lines : ℕ) : Type 0 where
   pub exact : ps ≡ placed (map block_at ps)
-  pub short : AreShort ps
   pub counted : lines ≡ length (joined (map block_at ps))

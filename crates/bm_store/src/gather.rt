@@ -24,9 +24,9 @@ fn seek(blocks: &[Placed], offset: u64) -> (usize, u64)
     while high - low > 1 {
         let middle = low + (high - low) / 2;
         let first = blocks[middle].first;
-        if first <= offset as u128 {
+        if first <= offset {
             low = middle;
-            before = first as u64;
+            before = first;
         } else {
             high = middle;
         }

@@ -258,7 +258,7 @@ impl CommandLogs {
     }
 
     /// How many lines a log has, where it is there.
-    fn count(&self, name: &str) -> Option<u128>
+    fn count(&self, name: &str) -> Option<u64>
         ensures { result ≡ (if is_there name.now (logs_kept self.now) then Some (length (joined (blocks_of self.now.named name.now))) else None) }
     {
         match known(&self.places, self.named.as_slice(), name) {
@@ -274,7 +274,7 @@ impl CommandLogs {
     {
         let lines = self.count(name)?;
         Some(LogState {
-            lines: lines.min(u64::MAX as u128) as u64,
+            lines,
             ended: self.ended,
         })
     }

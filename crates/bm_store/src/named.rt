@@ -12,7 +12,7 @@ use std::marker::Model;
 pub struct NamedLog {
     name: LogName,
     blocks: Vec<Placed>,
-    lines: u128,
+    lines: u64,
 }
 
 impl Model for NamedLog {
@@ -33,7 +33,7 @@ impl NamedLog {
     pub fn new(alloc: Global, name: LogName, block: Block) -> Result<NamedLog, AllocError>
         ensures { IfOk result (λ l. l ≡ record { name = name; blocks = block ∷ [] }) }
     {
-        let lines = block.lines().len() as u128;
+        let lines = block.lines().len() as u64;
         let mut blocks = Vec::new(alloc);
         blocks.push(Placed { first: 0, block })?;
         Ok(NamedLog {
@@ -57,7 +57,7 @@ impl NamedLog {
     }
 
     /// How many lines it has.
-    pub fn lines(&self) -> u128
+    pub fn lines(&self) -> u64
         ensures { result ≡ length (joined self.now.blocks) }
     {
         self.lines
@@ -76,7 +76,8 @@ impl NamedLog {
         }
     }
 
-    /// Adds a block at the end where there is room for it. Where there is none, it comes back.
+    /// Adds a block at the end where there is room for it. Where there is none, it comes back; so it does where the log
+    /// would have 2^64 lines, which no memory holds.
     #[inline(always)]
     pub fn take(&mut self, block: Block) -> Result<(), Block>
         ensures ok { OnOk result (self.new ≡ record self.old { blocks = self.old.blocks ++ block ∷ [] }) }
@@ -87,7 +88,9 @@ impl NamedLog {
             return Err(block);
         }
         let first = self.lines;
-        let lines = first + block.lines().len() as u128;
+        let Some(lines) = first.checked_add(block.lines().len() as u64) else {
+            return Err(block);
+        };
         self.blocks.push_reserved(Placed { first, block });
         self.lines = lines;
         Ok(())

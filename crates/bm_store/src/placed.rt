@@ -6,7 +6,7 @@ use std::alloc::AllocError;
 /// A block of a log, and how many lines of the log stand before it.
 #[derive(Drop)]
 pub struct Placed {
-    pub first: u128,
+    pub first: u64,
     pub block: Block,
 }
 

@@ -29,7 +29,7 @@ pub enum Gives {
     /// How many lines there are, and how the command ended.
     State(u64, Option<Results>),
     /// The place of each block, and how many lines it has.
-    Blocks(&'static [(u128, usize)]),
+    Blocks(&'static [(u64, usize)]),
     NoLog,
 }
 
@@ -164,7 +164,7 @@ impl Gives {
     }
 }
 
-fn are_placed(wanted: &[(u128, usize)], blocks: &[Placed]) -> bool {
+fn are_placed(wanted: &[(u64, usize)], blocks: &[Placed]) -> bool {
     wanted.len() == blocks.len()
         && wanted
             .iter()
@@ -172,6 +172,6 @@ fn are_placed(wanted: &[(u128, usize)], blocks: &[Placed]) -> bool {
             .all(|(one, placed)| is_placed(one, placed))
 }
 
-fn is_placed(wanted: &(u128, usize), placed: &Placed) -> bool {
+fn is_placed(wanted: &(u64, usize), placed: &Placed) -> bool {
     placed.first == wanted.0 && placed.block.lines().len() == wanted.1
 }
