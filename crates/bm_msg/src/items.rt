@@ -139,7 +139,7 @@ fn own_named(alloc: Global, name: &str, text: &str) -> Result<Told, AllocError>
     }
 }
 
-/// The same with texts of its own.
+/// What an item tells, with texts of its own.
 fn own(alloc: Global, item: Seen) -> Result<Told, AllocError>
     ensures { IfOk result (λ t. told t ≡ seen item.entry) }
 {

@@ -49,11 +49,17 @@ fn written(alloc: Global, message: &Message) -> Result<Vec<u8>, EncodeError> {
     }
 }
 
+/// The written form of an equal message.
+fn copy_written(alloc: Global, message: &Message) -> Result<Vec<u8>, EncodeError> {
+    let copied = message.copy(alloc)?;
+    written(alloc, &copied)
+}
+
 /// The bytes are a message, whose written form is `want`, as is that of a copy.
 fn is_written(rt: &impl Abort, alloc: Global, bytes: &[u8], want: &[u8]) -> Result<(), Fail> {
     let message = message(alloc, bytes)?;
     assert_eq!(rt; written(alloc, &message)?.as_slice(), want);
-    assert_eq!(rt; written(alloc, &message.copy(alloc)?)?.as_slice(), want);
+    assert_eq!(rt; copy_written(alloc, &message)?.as_slice(), want);
     Ok(())
 }
 

@@ -32,12 +32,17 @@ fn written_again(alloc: Global, message: &Message) -> Result<Vec<u8>, EncodeErro
     }
 }
 
+/// The written form of an equal message.
+fn copy_written_again(alloc: Global, message: &Message) -> Result<Vec<u8>, EncodeError> {
+    let copied = copied_again(alloc, message)?;
+    written_again(alloc, &copied)
+}
+
 /// The message and its copy are written as these bytes, with one refused request at the most.
 fn stands_refusal(rt: &(impl AllocGlobal + Abort), bytes: &[u8]) -> Result<(), Fail> {
     let message = message_again(rt.alloc(), bytes)?;
     assert_eq!(rt; written_again(rt.alloc(), &message)?.as_slice(), bytes);
-    let copied = copied_again(rt.alloc(), &message)?;
-    assert_eq!(rt; written_again(rt.alloc(), &copied)?.as_slice(), bytes);
+    assert_eq!(rt; copy_written_again(rt.alloc(), &message)?.as_slice(), bytes);
     Ok(())
 }
 
