@@ -7,10 +7,7 @@ use std::marker::Model;
 use std::simd::prelude::*;
 use std::str::from_utf8_unchecked;
 
-/// How many bytes a short text has at most.
-pub const SHORT: usize = 16;
-
-/// A text of at most `SHORT` bytes.
+/// A text of at most 16 bytes.
 #[derive(Drop)]
 pub struct ShortText {
     length: usize,
@@ -66,7 +63,7 @@ impl ShortText {
         ensures { IfSome result (λ t. t ≡ text.now) }
     {
         let n = text.len();
-        if n > SHORT {
+        if n > 16 {
             return None;
         }
         let mut block = [0; 16];
