@@ -13,6 +13,8 @@
 //! ```
 #![tactic(auto)]
 
+ghost use Rattle.std.specs.Prelude.{◌≡◌};
+
 #[cfg(test)]
 mod tests;
 
@@ -27,7 +29,11 @@ pub struct Refusing<B: Allocator> {
 }
 
 impl<B: Allocator> Refusing<B> {
-    pub fn new(inner: B, at: u64) -> Refusing<B> {
+    /// An allocator over `inner` that refuses the request `at`. Which one that is can be in no clause:
+    /// it is a cell's content.
+    pub fn new(inner: B, at: u64) -> Refusing<B>
+        ensures { result.inner ≡ inner }
+    {
         Refusing {
             inner,
             left: Cell::new(at),
