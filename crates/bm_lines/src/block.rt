@@ -94,17 +94,37 @@ impl Block {
         }
     }
 
+    /// The line of this text.
+    #[inline(always)]
+    fn of_line(alloc: Global, letter: Letter, text: Text) -> Result<Block, AllocError>
+        ensures { IfOk result (λ b. b ≡ record { letter = letter; text = text } ∷ []) }
+    {
+        let lines = Shared::One(Arc::new(alloc, Line { letter, text })?);
+        Ok(Block { alloc, lines })
+    }
+
     /// The lines of a text. Where it is one line, the text becomes that line's and isn't copied.
     #[inline(always)]
     pub fn of_text(alloc: Global, letter: Letter, text: Text) -> Result<Block, AllocError>
         ensures { IfOk result (λ b. b ≡ lines_of letter text) }
     {
         match one_line(text) {
-            Ok(text) => {
-                let lines = Shared::One(Arc::new(alloc, Line { letter, text })?);
-                Ok(Block { alloc, lines })
-            }
+            Ok(text) => Block::of_line(alloc, letter, text),
             Err(text) => cut(alloc, letter, text.as_str()),
+        }
+    }
+
+    /// The same for a text that stays: its lines are copied.
+    #[inline(always)]
+    pub fn of_str(alloc: Global, letter: Letter, text: &str) -> Result<Block, AllocError>
+        ensures { IfOk result (λ b. b ≡ lines_of letter text.now) }
+    {
+        match only_line(text) {
+            Some(line) => {
+                let text = Text::from_str(alloc, line)?;
+                Block::of_line(alloc, letter, text)
+            }
+            None => cut(alloc, letter, text),
         }
     }
 

@@ -80,6 +80,21 @@ impl Parcel {
         Ok(Parcel::from_part(alloc, Part { name, block }))
     }
 
+    /// The same for a text that stays: its lines are copied.
+    #[inline(always)]
+    pub fn of_str(
+        alloc: Global,
+        name: LogName,
+        letter: Letter,
+        text: &str,
+    ) -> Result<Parcel, AllocError>
+        ensures { IfOk result (λ p. p ≡ with_item name (lines_of letter text.now) []) }
+    {
+        let block = Block::of_str(alloc, letter, text)?;
+        let part = Part { name, block };
+        Ok(Parcel::from_part(alloc, part))
+    }
+
     /// The parcel of one part.
     #[inline(always)]
     pub fn from_part(alloc: Global, part: Part) -> Parcel

@@ -33,10 +33,14 @@ fn is_cut(alloc: Global, letter: Letter, text: &str, want: &str) -> Result<bool,
     let mut added = Block::new(alloc);
     added.add(letter, text)?;
     let given = Block::of_text(alloc, letter, Text::from_str(alloc, text)?)?;
+    let read = Block::of_str(alloc, letter, text)?;
+    let parcel = Parcel::of_str(alloc, LogName::stdio(), letter, text)?;
     Ok(
         told(alloc, &cut(alloc, letter, text)?)?.as_str() == want
             && told(alloc, &added)?.as_str() == want
-            && told(alloc, &given)?.as_str() == want,
+            && told(alloc, &given)?.as_str() == want
+            && told(alloc, &read)?.as_str() == want
+            && content(alloc, parcel.parts()[0].block.lines())?.as_str() == want,
     )
 }
 

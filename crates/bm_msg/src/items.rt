@@ -1,6 +1,6 @@
 //! The items of an update.
 
-ghost use Rattle.std.specs.Prelude.{◌≡◌, codes, map, IfOk, List};
+ghost use Rattle.std.specs.Prelude.{◌≡◌, codes, map, IfOk, IfSome, List};
 ghost use Rattle.std.specs.Option.{option_copied, option_map};
 ghost use Rattle.bm_value.specs.Tree.{Trees};
 ghost use Rattle.bm_value.specs.View.{tree, trees_of, items_tree};
@@ -184,6 +184,17 @@ fn only<A: Allocator>(alloc: Global, part: &Value<A>) -> Result<Option<Fields>, 
             Ok(Some(Fields::one(alloc, Field::Text(letter, text))))
         }
         _ => of_any_kind(alloc, part),
+    }
+}
+
+/// What the item of an update that has just one tells.
+#[inline(always)]
+pub fn only_item<A: Allocator>(items: &Items<A>) -> Option<Seen<'_>>
+    ensures { IfSome result (λ s. seen s ≡ fields_of (items_tree items.now)) }
+{
+    match items.vec.as_slice() {
+        [part] => Some(seen_in(part)),
+        _ => None,
     }
 }
 

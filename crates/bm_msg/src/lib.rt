@@ -16,6 +16,7 @@ mod reading;
 mod request;
 #[cfg(test)]
 mod tests;
+mod text_update;
 mod writing;
 
 pub use fault::MsgError;
@@ -23,4 +24,5 @@ pub use field::{Field, Fields};
 pub use message::{Message, Numbered, Response};
 pub use reading::read;
 pub use request::Request;
+pub use text_update::{TextUpdate, read_text};
 pub use writing::{write_request, write_response};

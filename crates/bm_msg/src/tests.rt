@@ -2,8 +2,10 @@
 
 mod memory;
 
-use crate::{Message, MsgError, Numbered, Request, Response, read, write_request, write_response};
-use bm_lines::Text;
+use crate::{
+    Message, MsgError, Numbered, Request, Response, read, read_text, write_request, write_response,
+};
+use bm_lines::{Letter, Text};
 use bm_value::{EncodeError, Value, decode_whole};
 use std::alloc::Global;
 use std::process::Abort;
@@ -212,6 +214,64 @@ fn what_is_no_message_is_told_why(rt: HostRuntime) {
     for (bytes, want) in rows {
         assert_eq!(&rt; message(rt.alloc(), bytes).err(), Some(want));
     }
+}
+
+/// A text of an update: its number, the command, the letter and the text.
+type OneText = (u64, u64, Letter, &'static str);
+
+/// What is seen of the bytes' message is this text, or none.
+fn is_seen(
+    rt: &impl Abort,
+    alloc: Global,
+    bytes: &[u8],
+    want: Option<OneText>,
+) -> Result<(), Fail> {
+    let value = decode_whole(alloc, bytes)?;
+    match (read_text(&value), want) {
+        (Some(update), Some((seq, command, letter, text))) => {
+            assert_eq!(rt; update.seq, seq);
+            assert_eq!(rt; update.command, command);
+            assert_eq!(rt; update.letter, letter);
+            assert_eq!(rt; update.text, text);
+        }
+        (seen, want) => assert!(rt; seen.is_none() && want.is_none()),
+    }
+    Ok(())
+}
+
+#[test]
+fn updates_of_one_text_are_seen(rt: HostRuntime) -> Result<(), Fail> {
+    let rows: [(&[u8], Option<OneText>); 9] = [
+        (UPDATE_ZERO, Some((0, 0, Letter::O, "a\n"))),
+        (UPDATE_WITH_A_FLOAT, Some((0, 0, Letter::O, "x\n"))),
+        (
+            b"\x84\xaaseq_number\xcd\x01\x00\xa2op\xa6update\xaacommand_id\xa212\xa4args\x91\x92\xa6stderr\xa0",
+            Some((256, 12, Letter::E, "")),
+        ),
+        (
+            b"\x84\xaaseq_number\x05\xa2op\xa6update\xaacommand_id\xa10\xa4args\x91\x92\xa6header\xa3a\nb",
+            Some((5, 0, Letter::H, "a\nb")),
+        ),
+        (NAMED_UPDATE, None),
+        (COMPLETE_ONE, None),
+        // No item, two of them, and an exit code.
+        (
+            b"\x84\xaaseq_number\x05\xa2op\xa6update\xaacommand_id\xa10\xa4args\x90",
+            None,
+        ),
+        (
+            b"\x84\xaaseq_number\x05\xa2op\xa6update\xaacommand_id\xa10\xa4args\x92\x92\xa6stdout\xa1a\x92\xa6stdout\xa1b",
+            None,
+        ),
+        (
+            b"\x84\xaaseq_number\x05\xa2op\xa6update\xaacommand_id\xa10\xa4args\x91\x92\xa2rc\x00",
+            None,
+        ),
+    ];
+    for (bytes, want) in rows {
+        is_seen(&rt, rt.alloc(), bytes, want)?;
+    }
+    Ok(())
 }
 
 /// Empty arrays, one inside another.

@@ -1,10 +1,11 @@
 ghost use Rattle.std.specs.Prelude.{◌≡◌, IfOk};
 ghost use Rattle.bm_msg.specs.Meaning.{asked, meaning};
+ghost use Rattle.bm_msg.specs.Updates.{says};
 ghost use Rattle.bm_session.specs.Heard.{body_of, event_of};
 
 use crate::carried;
-use bm_lines::Parcel;
-use bm_msg::{Message, Numbered, Request, Response};
+use bm_lines::{LogName, Parcel};
+use bm_msg::{Message, Numbered, Request, Response, TextUpdate};
 use bm_value::Num;
 use std::alloc::{AllocError, Global};
 
@@ -38,6 +39,20 @@ impl Event {
                 Ok(Event::In(seq, Body::Answered { fault: exception }))
             }
         }
+    }
+
+    /// The same for an update of one text, which stays: its lines are copied.
+    #[inline(always)]
+    pub fn of_text(alloc: Global, update: TextUpdate<'_>) -> Result<Event, AllocError>
+        ensures { IfOk result (λ event. event ≡ event_of (says update.entry)) }
+    {
+        let parcel = Parcel::of_str(alloc, LogName::stdio(), update.letter, update.text)?;
+        let body = Body::Update {
+            command: update.command,
+            parcel,
+            rc: None,
+        };
+        Ok(Event::In(update.seq, body))
     }
 
     /// An equal event. The lines of an update are shared.

@@ -1,12 +1,15 @@
 -- A value by its first byte, and values level by level.
-use Rattle.std.proofs.Common.{◌≡◌, ℕ, zero, suc, ◌<◌, ◌-◌, List, [], ◌∷◌, length, get_or, take, drop, map, Result, Ok, Err, Vec, refl, sym, ap, subst, ◌∙◌, arith}
-use Rattle.bm_value.specs.Row.{row}
-use Rattle.bm_value.specs.Tree.{Tree, array, dict, Trees, TreePair, Pairs as TreePairs}
+use Rattle.std.proofs.Common.{◌≡◌, ℕ, zero, suc, pos, ◌<◌, ◌-◌, List, [], ◌∷◌, length, get_or, take, drop, map, Result, Ok, Err, Vec, refl, sym, ap, subst, ◌∙◌, arith}
+use Rattle.bm_value.specs.Row.{width, row}
+use Rattle.bm_value.specs.Tree.{Tree, int, array, dict, Trees, TreePair, Pairs as TreePairs}
 use Rattle.bm_value.specs.View.{value_step, items_step, pair_step, pairs_step, tree, trees_of, pairs_of, pair_tree, items_tree, pairs_tree}
-use Rattle.bm_value.specs.Reading.{Gives, mapped, ◌>>=◌, length_at, items_at, pairs_at, array_with, map_with, value_at, value_with, row_with, inner}
+use Rattle.bm_value.specs.Reading.{Gives, mapped, ◌>>=◌, number_at, length_at, plain_at, items_at, pairs_at, array_with, map_with, value_at, value_with, row_with, inner}
 use Rattle.bm_value.specs.declared.fault.DecodeError.{DecodeError}
 use Rattle.bm_value.specs.declared.fault.DecodeError.TheVariants.{Truncated}
 use Rattle.bm_value.specs.declared.row.Row.{Row}
+use Rattle.bm_value.specs.declared.row.Row.TheVariants as rows
+use Rattle.bm_value.specs.declared.row.Plain.TheVariants as plain
+use Rattle.bm_value.specs.declared.row.Wide.{Wide}
 use Rattle.bm_value.specs.declared.value.Items.{Items}
 use Rattle.bm_value.specs.declared.value.Value.{Value, Map, Array}
 use Rattle.bm_value.specs.declared.value.Pair.{Pair}
@@ -57,6 +60,12 @@ gives_row view out room bytes r h is given =
 
 pub behind_first : (room : ℕ) (bytes : List ℕ) → 0 < length bytes → row_with (inner room) (row (get_or bytes 0 0)) (take (length bytes - 1) (drop 1 bytes)) ≡ value_at room bytes
 behind_first room bytes h = ap (row_with (inner room) (row (get_or bytes 0 0))) (tail_is bytes) ∙ sym (first_byte room bytes (row (get_or bytes 0 0)) h refl)
+
+-- a number without a sign, and the bytes behind it
+pub unsigned_read : (first room : ℕ) (rest : List ℕ) (w : Wide) (n : ℕ) (after : List ℕ) → row first ≡ rows.Plain (plain.Unsigned w) → number_at (width w) rest ≡ Ok (n, after)
+    → row_with (inner room) (row first) rest ≡ Ok (int (pos n), after)
+unfolding plain_at
+unsigned_read first room rest w n after is read = ap (λ r. row_with (inner room) r rest) is ∙ ap (mapped (λ k. int (pos k))) read
 
 pub array_read : (room : ℕ) (s : Size) (bytes : List ℕ) (n : ℕ) (rest : List ℕ) (ts : Trees) (after : List ℕ) → 0 < room → length_at s bytes ≡ Ok (n, rest) → items_at (value_at (room - 1)) n rest ≡ Ok (ts, after)
     → array_with (inner room) s bytes ≡ Ok (array ts, after)

@@ -1,10 +1,10 @@
 //! Trees at the front of bytes.
 
-ghost use Rattle.std.specs.Prelude.{◌≡◌, ◌≢◌, ◌≤◌, ℕ, take, length, map, IfOk, IfErr, IfSome, Ok, Err};
+ghost use Rattle.std.specs.Prelude.{◌≡◌, ◌≢◌, ◌≤◌, ◌∷◌, ◌++◌, [], ℕ, take, length, map, IfOk, IfErr, IfSome, OnOk, Ok, Err};
 ghost use Rattle.bm_value.specs.declared.fault.DecodeError.{DecodeError};
 ghost use Rattle.bm_value.specs.declared.row.Plain.TheVariants as plain;
 ghost use Rattle.bm_value.specs.Row.{row};
-ghost use Rattle.bm_value.specs.Tree.{Tree, str, depth};
+ghost use Rattle.bm_value.specs.Tree.{Tree, int, str, depth};
 ghost use Rattle.bm_value.specs.Decoding.{Reads, Decodes, DecodesWhole, Trails};
 ghost use Rattle.bm_value.specs.Spelling.{Spells, Fails};
 ghost use Rattle.bm_value.specs.View.{tree, items_tree, pair_tree, pairs_tree};
@@ -20,7 +20,7 @@ use crate::row::{Plain, Row, Size, Wide, row_of};
 use crate::short_text::ShortText;
 use crate::text::Text;
 use crate::value::{Items, Pair, Pairs, Value};
-use std::alloc::Allocator;
+use std::alloc::{AllocError, Allocator};
 use std::str::from_utf8_unchecked;
 
 fn signed(wide: Wide, bytes: &[u8]) -> Result<(Num, &[u8]), DecodeError>
@@ -107,6 +107,45 @@ fn short_str(bytes: &[u8]) -> Option<(ShortText, &[u8])>
         }
         _ => None,
     }
+}
+
+/// The number at the front, where it is one without a sign.
+#[inline(always)]
+fn unsigned(bytes: &[u8]) -> Option<(Num, &[u8])>
+    ensures { IfSome result (λ x. (room : ℕ) → value_at room bytes.now ≡ Ok (int x.0, x.1.now)) }
+{
+    let [first, rest @ ..] = bytes else {
+        return None;
+    };
+    let Row::Plain(Plain::Unsigned(wide)) = row_of(*first) else {
+        return None;
+    };
+    match number(wide, rest) {
+        Ok((n, rest)) => Some((Num::of_u64(n), rest)),
+        Err(_) => None,
+    }
+}
+
+/// Appends a value to those found. Where there is no room for it, the list grows out of the way of those that find room.
+#[inline(always)]
+fn add<T: Drop, A: Allocator>(found: &mut Vec<T, A>, value: T) -> Result<(), AllocError>
+    ensures ok { OnOk result (found.new.items ≡ found.old.items ++ value ∷ []) }
+{
+    if found.len() < found.capacity() {
+        found.push_reserved(value);
+        Ok(())
+    } else {
+        grow(found, value)
+    }
+}
+
+#[cold]
+#[inline(never)]
+fn grow<T: Drop, A: Allocator>(found: &mut Vec<T, A>, value: T) -> Result<(), AllocError>
+    ensures ok { OnOk result (found.new.items ≡ found.old.items ++ value ∷ []) }
+{
+    found.push(value)?;
+    Ok(())
 }
 
 /// A value with no value inside, behind its first byte.
@@ -283,7 +322,7 @@ fn item<'a, A: Allocator + Copy>(
 {
     match short_str(bytes) {
         Some((text, rest)) => {
-            found.push(Value::Str(Text::from_short(text)))?;
+            add(found, Value::Str(Text::from_short(text)))?;
             Ok(rest)
         }
         None => any_item(alloc, bytes, room, found),
@@ -303,7 +342,7 @@ fn any_item<'a, A: Allocator + Copy>(
 {
     match read(alloc, bytes, room) {
         Ok((value, rest)) => {
-            found.push(value)?;
+            add(found, value)?;
             Ok(rest)
         }
         Err(e) => Err(e),
@@ -363,7 +402,29 @@ fn pair_with<'a, A: Allocator + Copy>(
     match short_str(bytes) {
         Some((text, rest)) => {
             let value = Value::Str(Text::from_short(text));
-            found.push(Pair { key, value })?;
+            add(found, Pair { key, value })?;
+            Ok(rest)
+        }
+        None => number_pair_with(alloc, key, bytes, room, found),
+    }
+}
+
+/// The same, where the value is no short str. Many are numbers.
+#[cycle(read)]
+#[inline(always)]
+fn number_pair_with<'a, A: Allocator + Copy>(
+    alloc: A,
+    key: Value<A>,
+    bytes: &'a [u8],
+    room: u32,
+    found: &mut Vec<Pair<A>, A>,
+) -> Result<&'a [u8], DecodeError>
+    ensures { Gives (λ rest. (map pair_tree found.new.items, rest.now)) result (mapped (with_pair (map pair_tree found.old.items) (tree key)) (value_at room bytes.now)) }
+{
+    match unsigned(bytes) {
+        Some((number, rest)) => {
+            let value = Value::Int(number);
+            add(found, Pair { key, value })?;
             Ok(rest)
         }
         None => any_pair_with(alloc, key, bytes, room, found),
@@ -384,7 +445,7 @@ fn any_pair_with<'a, A: Allocator + Copy>(
 {
     match read(alloc, bytes, room) {
         Ok((value, rest)) => {
-            found.push(Pair { key, value })?;
+            add(found, Pair { key, value })?;
             Ok(rest)
         }
         Err(e) => Err(e),

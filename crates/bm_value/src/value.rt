@@ -7,7 +7,7 @@ use std::alloc::{Allocator, Global};
 
 /// A MessagePack value, whose parts lie in the allocator `A`.
 #[cycle(value)]
-#[derive(Debug, Drop)]
+#[derive(Debug)]
 pub enum Value<A: Allocator = Global> {
     Nil,
     Bool(bool),
@@ -22,6 +22,20 @@ pub enum Value<A: Allocator = Global> {
     Map(Pairs<A>),
     /// An application's own type, and its bytes.
     Ext(i8, Bytes<A>),
+}
+
+impl<A: Allocator> Drop for Value<A> {
+    #[cycle(value)]
+    #[inline(always)]
+    fn drop(self) {
+        match self {
+            Value::Nil | Value::Bool(_) | Value::Int(_) | Value::Bits32(_) | Value::Bits64(_) => {}
+            Value::Str(text) => drop(text),
+            Value::Bin(bytes) | Value::Ext(_, bytes) => drop(bytes),
+            Value::Array(items) => drop(items),
+            Value::Map(pairs) => drop(pairs),
+        }
+    }
 }
 
 /// The items of an array, in order.

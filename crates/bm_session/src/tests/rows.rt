@@ -38,9 +38,9 @@ fn resumed_session_doubles_no_line(rt: HostRuntime) -> Result<(), Fail> {
         (Go, Err(Refusal::NotUp), Nothing),
         (Up, Ok(Silent), Nothing),
         (In(1, Text("b\n")), Ok(Answer(1, Done)), Nothing),
-        (In(2, Text("c\n")), Ok(Answer(2, Done)), Lines(0, 1)),
+        (OneText(2, "c\n"), Ok(Answer(2, Done)), Lines(0, 1)),
     ];
-    static LOGS: [Log; 1] = [("stdio", Some("oa\nob\noc\n"))];
+    static LOGS: [Log; 1] = [("stdio", Some("oa\nob\nec\n"))];
     static LOSS: [Row; 1] = [(Down, Ok(Silent), Gone)];
     let mut session = played(&rt, &ROWS)?;
     assert_logs(&rt, &session, &LOGS)?;

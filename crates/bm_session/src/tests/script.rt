@@ -2,7 +2,7 @@
 
 use super::super::*;
 use bm_lines::{Letter, LogName, Text};
-use bm_msg::{Field, Fields, Message, Numbered, Request, Response};
+use bm_msg::{Field, Fields, Message, Numbered, Request, Response, TextUpdate};
 use bm_value::{Num, Value};
 use std::alloc::{AllocError, Global};
 
@@ -16,6 +16,8 @@ pub enum Script {
     Down,
     /// A request, by its number.
     In(u8, Ask),
+    /// An update of command 0 with that number, whose only item is a text of standard error.
+    OneText(u8, &'static str),
     /// A request with that number whose keys are missing or of another kind.
     BadArgs(u8),
     /// A refusal of the order with that number.
@@ -129,6 +131,16 @@ fn refused(alloc: Global, seq: u8) -> Result<Event, AllocError> {
     Event::of_message(alloc, Message::Response(response))
 }
 
+fn text_update(alloc: Global, seq: u8, text: &str) -> Result<Event, AllocError> {
+    let update = TextUpdate {
+        seq: u64::from(seq),
+        command: 0,
+        letter: Letter::E,
+        text,
+    };
+    Event::of_text(alloc, update)
+}
+
 /// The event.
 pub fn event(alloc: Global, script: Script) -> Result<Event, AllocError> {
     match script {
@@ -138,6 +150,7 @@ pub fn event(alloc: Global, script: Script) -> Result<Event, AllocError> {
         Script::Cut => Ok(Event::Cut),
         Script::Down => Ok(Event::Down),
         Script::In(seq, ask) => asked(alloc, seq, ask),
+        Script::OneText(seq, text) => text_update(alloc, seq, text),
         Script::BadArgs(seq) => Ok(Event::bad_args(u64::from(seq))),
         Script::Refuse(seq) => refused(alloc, seq),
     }
