@@ -24,6 +24,7 @@ pub enum Value<A: Allocator = Global> {
     Ext(i8, Bytes<A>),
 }
 
+// Most values have nothing to give back. That is seen where they lie, and only an array or a map takes a call.
 impl<A: Allocator> Drop for Value<A> {
     #[cycle(value)]
     #[inline(always)]

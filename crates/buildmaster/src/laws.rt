@@ -27,7 +27,8 @@ pub fn resumed_is_logged()
 
 /// The bytes play no part: those of each request that a worker can say spell a tree that can be decoded and is a message, and
 /// whatever tree they spell and whatever message it is, its event is the one that schedules deliver. `Worker::say` and
-/// `finish` give these bytes; `decode_whole`, `read` and `Event::of_message` answer such a tree, message and event.
+/// `finish` give these bytes; `decode_whole`, `read` and `Event::of_message` answer such a tree, message and event, and so do
+/// `read_text` and `Event::of_text`.
 pub fn bytes_are_the_event()
     ensures read { BytesAreRead }
     ensures event { BytesAreTheEvent }
