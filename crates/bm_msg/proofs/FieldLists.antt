@@ -56,3 +56,9 @@ pub fields_of-one : {A : Type 0} (xs : List (Value A)) (x : Value A) → length 
 fields_of-one [] x h p = absurd (omega arith)
 fields_of-one (a ∷ []) x h p = ap (λ z. item_fields (tree z)) p ∙ sym (one_item (tree a))
 fields_of-one (a ∷ (b ∷ more)) x h p = absurd (omega arith)
+
+-- no other number of items is an only item
+pub not_alone : {A : Type 0} (xs : List (Value A)) → (length xs ≡ 1 → ⊥) → (only : Tree) → ¬ (trees_of (map tree xs) ≡ item only none)
+not_alone [] h only e = absurd cc
+not_alone (a ∷ []) h only e = h refl
+not_alone (a ∷ (b ∷ more)) h only e = absurd cc

@@ -1,8 +1,8 @@
 //! The items of an update.
 
-ghost use Rattle.std.specs.Prelude.{◌≡◌, codes, map, IfOk, IfSome, List};
+ghost use Rattle.std.specs.Prelude.{◌≡◌, codes, map, IfOk, IfSome, IfNone, List};
 ghost use Rattle.std.specs.Option.{option_copied, option_map};
-ghost use Rattle.bm_value.specs.Tree.{Trees};
+ghost use Rattle.bm_value.specs.Tree.{Tree, Trees, none, item};
 ghost use Rattle.bm_value.specs.View.{tree, trees_of, items_tree};
 ghost use Rattle.bm_msg.specs.Items.{text_of, lettered, named, carried_by, item_fields, fields_of};
 ghost use Rattle.bm_msg.specs.Reading.{told, seen, named_field, log_item, item_parts};
@@ -190,12 +190,14 @@ fn only<A: Allocator>(alloc: Global, part: &Value<A>) -> Result<Option<Fields>, 
 /// What the item of an update that has just one tells.
 #[inline(always)]
 pub fn only_item<A: Allocator>(items: &Items<A>) -> Option<Seen<'_>>
-    ensures { IfSome result (λ s. seen s ≡ fields_of (items_tree items.now)) }
+    ensures some { IfSome result (λ s. seen s ≡ fields_of (items_tree items.now)) }
+    ensures none { IfNone result ((only : Tree) → ¬ (items_tree items.now ≡ item only none)) }
 {
-    match items.vec.as_slice() {
-        [part] => Some(seen_in(part)),
-        _ => None,
+    let parts = items.vec.as_slice();
+    if parts.len() != 1 {
+        return None;
     }
+    Some(seen_in(&parts[0]))
 }
 
 /// What any number of items carry, by one request for memory.

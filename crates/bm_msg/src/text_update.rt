@@ -1,10 +1,12 @@
 //! Updates of one text, seen without a copy.
 
-ghost use Rattle.std.specs.Prelude.{◌≡◌, IfSome};
+ghost use Rattle.std.specs.Prelude.{◌≡◌, codes, Some, IfSome, IfNone};
+ghost use Rattle.bm_value.specs.Field.{field};
+ghost use Rattle.bm_value.specs.Tree.{Tree, array, none, item};
 ghost use Rattle.bm_value.specs.View.{tree};
 ghost use Rattle.bm_msg.specs.Messages.{IsMessage};
 ghost use Rattle.bm_msg.specs.Reading.{items_at, seen};
-ghost use Rattle.bm_msg.specs.Updates.{says};
+ghost use Rattle.bm_msg.specs.Updates.{says, IsTextUpdate};
 
 use crate::items::{Seen, only_item};
 use crate::keys::{command_at, number_at, text_at};
@@ -24,7 +26,8 @@ pub struct TextUpdate<'a> {
 /// The only item of an update.
 #[inline(always)]
 fn item_at<A: Allocator>(message: &Value<A>) -> Option<Seen<'_>>
-    ensures { IfSome result (λ s. seen s ≡ items_at (tree message.now)) }
+    ensures some { IfSome result (λ s. seen s ≡ items_at (tree message.now)) }
+    ensures none { IfNone result ((only : Tree) → ¬ (field (tree message.now) (codes "args") ≡ Some (array (item only none)))) }
 {
     match message.get("args") {
         Some(Value::Array(items)) => only_item(items),
@@ -32,16 +35,18 @@ fn item_at<A: Allocator>(message: &Value<A>) -> Option<Seen<'_>>
     }
 }
 
-/// The message, where it is an update of one text: nothing is copied. `None` says nothing of the message, which `read`
-/// reads.
+/// The message, where it is an update whose only item is a text. Nothing is copied.
 #[inline(always)]
 pub fn read_text<A: Allocator>(message: &Value<A>) -> Option<TextUpdate<'_>>
-    ensures { IfSome result (λ u. IsMessage (tree message.now) (says u)) }
+    // What is answered is the message that the value is.
+    ensures some { IfSome result (λ u. IsMessage (tree message.now) (says u)) }
+    // No update whose only item is a text is passed over.
+    ensures none { IfNone result (¬ IsTextUpdate (tree message.now)) }
 {
     let seq = number_at(message)?;
     match text_at(message, "op") {
         Some("update") => {}
-        _ => return None,
+        Some(_) | None => return None,
     }
     let command = command_at(message)?;
     match item_at(message) {
@@ -51,6 +56,6 @@ pub fn read_text<A: Allocator>(message: &Value<A>) -> Option<TextUpdate<'_>>
             letter,
             text,
         }),
-        _ => None,
+        Some(Seen::Named(..) | Seen::Rc(_) | Seen::Nothing | Seen::Wrong) | None => None,
     }
 }

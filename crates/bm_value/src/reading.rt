@@ -109,7 +109,7 @@ fn short_str(bytes: &[u8]) -> Option<(ShortText, &[u8])>
     }
 }
 
-/// The number at the front, where it is one without a sign.
+/// The number at the front, where it is an unsigned one behind its first byte.
 #[inline(always)]
 fn unsigned(bytes: &[u8]) -> Option<(Num, &[u8])>
     ensures { IfSome result (λ x. (room : ℕ) → value_at room bytes.now ≡ Ok (int x.0, x.1.now)) }

@@ -11,7 +11,7 @@ returns-in-Err c = hears-spelled c.args.bytes.now c.in-Err.fault c.in-Err.ensure
 
 pub returns-in-Ok-of_text : goal.returns-in-Ok-of_text
 returns-in-Ok-of_text c =
-    hears-event c.args.bytes.now (tree c.in-Ok.tree) (says c.in-Some.update) c.in-Ok-of_text.event c.in-Ok.ensures.found.0 c.in-Some.ensures c.in-Ok-of_text.ensures
+    hears-event c.args.bytes.now (tree c.in-Ok.tree) (says c.in-Some.update) c.in-Ok-of_text.event c.in-Ok.ensures.found.0 c.in-Some.ensures.some c.in-Ok-of_text.ensures
 
 pub returns-in-Some : goal.returns-in-Some
 returns-in-Some c = hears-nothing c.args.bytes.now
