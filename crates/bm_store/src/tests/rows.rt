@@ -1,6 +1,6 @@
 //! Worked books: each row is what a book takes or is asked, and what it gives.
 
-use super::turn::Gives::{self, Blocks, NoLog, Slice, State, Taken};
+use super::turn::Gives::{self, Back, Blocks, NoLog, Slice, State, Taken};
 use super::turn::Turn::*;
 use super::turn::slice;
 use super::{Placed, Row, again, played};
@@ -21,6 +21,25 @@ fn slices_run_over_blocks(rt: HostRuntime) -> Result<(), Fail> {
         (SliceOf("stdio", 5, 1), Slice(5, 0, "")),
         (StateOf(0, "stdio"), State(5, None)),
         (BlocksOf(0, "stdio"), Blocks(&[(0, 2), (2, 0), (2, 3)])),
+    ];
+    played(&rt, &ROWS)?;
+    Ok(())
+}
+
+#[test]
+fn given_block_goes_where_there_is_room(rt: HostRuntime) -> Result<(), Fail> {
+    static ROWS: [Row; 10] = [
+        (Open(0), Taken),
+        (Give(&[("stdio", "a\n")]), Back),
+        // A log has room for more blocks than its first.
+        (Add(&[("stdio", "a\n")]), Taken),
+        (Give(&[("stdio", "b\n")]), Taken),
+        (Give(&[("l", "x\n")]), Back),
+        (Give(&[("stdio", "c\n"), ("l", "y")]), Back),
+        (StateOf(0, "stdio"), State(2, None)),
+        (SliceOf("stdio", 0, 9), Slice(0, 2, "oa\nob\n")),
+        (End(0, Results::Success), Taken),
+        (Give(&[("stdio", "d\n")]), Back),
     ];
     played(&rt, &ROWS)?;
     Ok(())

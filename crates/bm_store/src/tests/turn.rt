@@ -12,6 +12,8 @@ pub enum Turn {
     Open(u64),
     /// Lines of standard output for command 0: a text for each name.
     Add(&'static [(&'static str, &'static str)]),
+    /// The same, given away.
+    Give(&'static [(&'static str, &'static str)]),
     End(u64, Results),
     Gone,
     /// A log of command 0, and from where on how many lines.
@@ -24,6 +26,8 @@ pub enum Turn {
 #[derive(Clone, Copy)]
 pub enum Gives {
     Taken,
+    /// The item that was given away, and a book as before.
+    Back,
     /// The first line's place, how many lines, and their content.
     Slice(u64, u64, &'static str),
     /// How many lines there are, and how the command ended.
@@ -105,9 +109,22 @@ pub fn slice(book: &Book, name: &str, offset: u64, limit: u64) -> Result<Chunk, 
     Err(ViewRefusal::Mem)
 }
 
+/// Whether the item that is given away is taken, or comes back from a book that is as before.
+fn is_given(book: &mut Book, item: Item, gives: &Gives) -> bool {
+    let before = look(book);
+    match book.take(item) {
+        Ok(()) => matches!(gives, Gives::Taken),
+        Err(_) => matches!(gives, Gives::Back) && look(book) == before,
+    }
+}
+
 /// Whether the book gives that.
 pub fn plays(alloc: Global, book: &mut Book, row: &Row) -> Result<bool, AllocError> {
     let (turn, gives) = row;
+    if let Turn::Give(parts) = turn {
+        let item = again(|| lines(alloc, parts))?;
+        return Ok(is_given(book, item, gives));
+    }
     if let Some(item) = again(|| item(alloc, *turn))? {
         take(book, &item)?;
         return Ok(matches!(gives, Gives::Taken));
