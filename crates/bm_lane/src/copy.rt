@@ -1,4 +1,4 @@
-// How the published copy is made, with its windows.
+//! How the published copy is made, with its windows.
 ghost use Rattle.std.specs.Prelude.{◌≡◌, [], ◌<◌, ◌≤◌, ◌^◌, drop, All, IfOk, OnOk, MatchResult, Some, length};
 ghost use Rattle.left_right.specs.Sides.{view};
 ghost use Rattle.bm_lane.specs.Copies.{IsBook};

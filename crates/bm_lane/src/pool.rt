@@ -1,4 +1,4 @@
-// Threads that drain lanes.
+//! Threads that drain lanes.
 ghost use Rattle.std.specs.Prelude.{◌≡◌, ◌<◌, ◌≤◌, ◌+◌, ◌-◌, ◌*◌, ◌^◌, All, IfOk, IfSome, vec_len};
 ghost use Rattle.bm_lane.specs.Tallies.{counted, drains};
 

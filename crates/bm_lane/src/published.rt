@@ -1,4 +1,4 @@
-// The published book of a lane, and what makes it grow.
+//! The published book of a lane, and what makes it grow.
 use crate::history::Front;
 use atomic_table::{Join, Split};
 use bm_session::Item;

@@ -1,4 +1,4 @@
-// The writer's side of the published copy: what is shown, and what is held until there is memory.
+//! The writer's side of the published copy: what is shown, and what is held until there is memory.
 ghost use Rattle.std.specs.Prelude.{◌≡◌, ◌∷◌, ◌++◌, [], ◌<◌, ◌^◌, ◌≤◌, ◌↔◌, length, drop, IsTrue, IfOk, OnOk, MatchResult, Some, None};
 ghost use Rattle.left_right.specs.Sides.{view};
 ghost use mathlib.Core.List.{IsPrefix};

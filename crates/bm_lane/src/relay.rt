@@ -1,4 +1,4 @@
-// The rule of a lane's queue: what was taken, and then what the queue holds, is what was put.
+//! The rule of a lane's queue: what was taken, and then what the queue holds, is what was put.
 use bm_session::Item;
 use crossbeam_queue::protocol::{Join, Lesson, Outcome, Protocol, Split};
 use crossbeam_queue::{Pass, RuledArrayQueue};

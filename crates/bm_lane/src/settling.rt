@@ -1,4 +1,4 @@
-// The end of a lane: its ends come together, and what was drained and seen is what was heard.
+//! The end of a lane: its ends come together, and what was drained and seen is what was heard.
 ghost use Rattle.std.specs.Prelude.{◌≡◌, ◌↔◌, ◌++◌, ◌≤◌, [], IsTrue, take, drop, length, IfOk, IfErr, vec_capacity};
 ghost use mathlib.Core.List.{IsPrefix};
 ghost use Rattle.bm_session.specs.Trace.{items};

@@ -1,4 +1,4 @@
-// A window onto the published copy: what one viewer has seen of it.
+//! A window onto the published copy: what one viewer has seen of it.
 ghost use Rattle.std.specs.Prelude.{◌≡◌, Some, MatchOption, length};
 ghost use Rattle.left_right.specs.Sides.{view};
 ghost use Rattle.bm_lane.specs.Answers.{Answered, told, lines_of_book, state_of_book};

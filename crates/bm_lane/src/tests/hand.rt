@@ -1,4 +1,4 @@
-// What the scripts share. Each call is made again where it met want of memory.
+//! What the scripts share. Each call is made again where it met want of memory.
 ghost use Rattle.std.specs.Prelude.{◌≡◌, ◌<◌, ◌≤◌};
 
 use crate::*;

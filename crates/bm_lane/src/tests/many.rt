@@ -1,4 +1,4 @@
-// Scripts with each end in a thread of its own.
+//! Scripts with each end in a thread of its own.
 ghost use Rattle.std.specs.Prelude.{◌≡◌};
 
 use super::hand::*;

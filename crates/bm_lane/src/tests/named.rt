@@ -1,4 +1,4 @@
-// Logs under other names than that of standard output.
+//! Logs under other names than that of standard output.
 
 use super::says::Says::*;
 use super::script::Call::*;

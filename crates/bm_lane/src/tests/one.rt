@@ -1,4 +1,4 @@
-// Scripts in one thread: each row is a call and its answer.
+//! Scripts in one thread: each row is a call and its answer.
 ghost use Rattle.std.specs.Prelude.{◌≡◌};
 
 use super::hand::*;

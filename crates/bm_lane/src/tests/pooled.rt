@@ -1,4 +1,4 @@
-// Lanes under a pool of writers.
+//! Lanes under a pool of writers.
 ghost use Rattle.std.specs.Prelude.{◌≡◌, ◌≤◌, [], IfOk, vec_capacity};
 
 use super::hand::*;

@@ -1,4 +1,4 @@
-// What a row says that a lane answers.
+//! What a row says that a lane answers.
 
 use super::hand::is_text;
 use crate::*;

@@ -1,4 +1,4 @@
-// Calls of a lane's ends as data, for rows.
+//! Calls of a lane's ends as data, for rows.
 ghost use Rattle.std.specs.Prelude.{◌≡◌, ◌<◌, ◌≤◌};
 
 use super::hand::*;
