@@ -1,7 +1,7 @@
 //! Texts of a few bytes, which take no memory.
 
-ghost use Rattle.std.specs.Prelude.{◌≡◌, ◌≤◌, ◌<◌, ◌↔◌, ℕ, take, length, slice_index, IsTrue, IfSome};
-ghost use Rattle.std.specs.Str.{IsUtf8};
+ghost use Rattle.std.specs.Prelude.{◌≡◌, ◌≤◌, ◌<◌, ◌↔◌, ℕ, take, length, slice_index, IsTrue, IfSome, IfNone};
+ghost use Rattle.std.specs.Str.{IsUtf8, IsAscii};
 
 use std::marker::Model;
 use std::simd::prelude::*;
@@ -28,21 +28,23 @@ impl Model for ShortText {
 /// Whether the first `n` of sixteen bytes are ASCII.
 #[inline(always)]
 fn begins_ascii(block: u8x16, n: u8) -> bool
-    requires { length block ≡ 16 }
-    ensures { IsTrue result → (i : ℕ) → i < n → i < 16 → slice_index block i < 128 }
+    requires sixteen { length block ≡ 16 }
+    requires few { n ≤ 16 }
+    ensures { IsTrue result ↔ ((i : ℕ) → i < n → slice_index block i < 128) }
 {
     let wide = block.simd_ge(u8x16::splat(0x80)).to_bitmask();
     wide.trailing_zeros() >= u32::from(n)
 }
 
 impl ShortText {
-    /// The first `n` bytes, where they are seen at once to be a short text: there are sixteen bytes to be looked at,
-    /// and those that count are ASCII.
+    /// The first `n` bytes, exactly where they are seen at once to be a short text: `n` is at most 16, there are
+    /// sixteen bytes to be looked at, and those that count are ASCII.
     #[inline(always)]
     pub fn at_front(bytes: &[u8], n: u8) -> Option<ShortText>
         ensures front { IfSome result (λ t. t ≡ take n bytes.now) }
         ensures there { IfSome result (λ _. n ≤ length bytes.now) }
         ensures text { IfSome result (λ t. IsUtf8 t) }
+        ensures none { IfNone result (n ≤ 16 → 16 ≤ length bytes.now → ¬ IsAscii (take n bytes.now)) }
     {
         if n > 16 || bytes.len() < 16 {
             return None;
@@ -58,9 +60,10 @@ impl ShortText {
         }
     }
 
-    /// The text, where it is short.
+    /// The text, where it has at most 16 bytes.
     pub fn of_str(text: &str) -> Option<ShortText>
-        ensures { IfSome result (λ t. t ≡ text.now) }
+        ensures some { IfSome result (λ t. t ≡ text.now) }
+        ensures none { IfNone result (16 < length text.now) }
     {
         let n = text.len();
         if n > 16 {
