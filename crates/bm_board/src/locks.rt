@@ -1,3 +1,5 @@
+//! The locks of a board: which uses of them are good, and how many builds hold each.
+
 ghost use Rattle.std.specs.Prelude.{◌≡◌, ℕ, ◌+◌, ◌<◌, ◌≤◌, ◌^◌, All, IsTrue, true, length, slice_index, if◌then◌else◌, ◌==◌, nat_lt};
 ghost use Rattle.std.specs.List.{list_any, list_all};
 ghost use Rattle.bm_board.specs.Locks.{are_distinct, are_good, is_mode, is_use, may_have};

@@ -1,3 +1,5 @@
+//! What the chunks of a lane are, as a contract.
+
 ghost use Rattle.bm_lane.specs.Laws.{ChunksAreOfTheTrace};
 
 /// What a viewer was answered from items that begin the items of a trace is the asked slice of a log of a prefix of that

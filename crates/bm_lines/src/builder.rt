@@ -5,14 +5,11 @@ ghost use Rattle.bm_lines.specs.Places.{HasPlaces};
 
 use crate::line::Letter;
 use crate::log_name::LogName;
-use crate::name_table::NameTable;
+use crate::name_table::{FEW_NAMES, NameTable};
 use crate::parcel::{Parcel, Part};
 use crate::text::Text;
 use std::alloc::{AllocError, Global};
 use std::marker::Model;
-
-/// As many parts are looked through faster than a table is made.
-const FEW: usize = 8;
 
 /// A parcel that is put together, with a table of its names once there are more than a few. The parcel itself has none, so
 /// that it stays small where it is kept.
@@ -53,7 +50,7 @@ impl ParcelBuilder {
         ensures ok { OnOk result (self.new ≡ with_item name.now (lines_of letter text) self.old) }
         ensures err { OnErr result (self.new ≡ self.old) }
     {
-        if self.places.is_none() && self.parcel.parts().len() < FEW {
+        if self.places.is_none() && self.parcel.parts().len() < FEW_NAMES {
             return self.parcel.add_text(name, letter, text);
         }
         self.add_by_table(name, letter, text)

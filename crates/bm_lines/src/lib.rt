@@ -18,7 +18,7 @@ pub use block::{Block, append_content, content, cut};
 pub use builder::ParcelBuilder;
 pub use line::{Letter, Line};
 pub use log_name::LogName;
-pub use name_table::NameTable;
+pub use name_table::{FEW_NAMES, NameTable};
 pub use one_or_many::OneOrMany;
 pub use parcel::{Parcel, Part};
 pub use text::Text;

@@ -5,6 +5,9 @@ ghost use Rattle.bm_lines.specs.Places.{HasPlaces, place_in};
 use std::alloc::{AllocError, Global};
 use std::collections::BTreeMap;
 
+/// As many names are looked through faster than a table of them is made.
+pub const FEW_NAMES: usize = 8;
+
 /// The places that names have in a list. A list may have a table beside it once a walk over its names would take long.
 #[derive(Drop)]
 pub struct NameTable {

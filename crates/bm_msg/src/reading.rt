@@ -17,7 +17,6 @@ use crate::keys::{command_at, is_exception, number_at, session, str_of, text_at}
 use crate::kind::{Kind, kind_of};
 use crate::message::{Message, Numbered, Response};
 use crate::request::Request;
-use crate::writing::text_value;
 use bm_lines::Text;
 use bm_value::Value;
 use std::alloc::{AllocError, Allocator, Global};
@@ -181,7 +180,7 @@ fn exception_at<A: Allocator>(
     ensures { IfOk result (λ v. tree v ≡ result_of true (field (tree message.now) (codes "result"))) }
 {
     let text = text_at(message, "result").unwrap_or("unknown");
-    text_value(alloc, text)
+    Value::from_str(alloc, text)
 }
 
 fn response<A: Allocator>(

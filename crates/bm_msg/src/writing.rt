@@ -18,13 +18,6 @@ use bm_lines::{Letter, Text};
 use bm_value::{EncodeError, Items, Num, Pair, Pairs, Text as Str, Value, encode};
 use std::alloc::{AllocError, Global};
 
-/// A str of this text.
-pub(crate) fn text_value(alloc: Global, text: &str) -> Result<Value<Global>, AllocError>
-    ensures { IfOk result (λ v. tree v ≡ str text.now) }
-{
-    Ok(Value::Str(Str::from_str(alloc, text)?))
-}
-
 /// Appends a key and its value. After want of memory the value is gone.
 fn put(
     alloc: Global,
@@ -35,7 +28,7 @@ fn put(
     ensures { OnOk result (map pair_tree keys.new.items ≡ map pair_tree keys.old.items ++ at key.now (tree value) ∷ []) }
 {
     keys.push(Pair {
-        key: text_value(alloc, key)?,
+        key: Value::from_str(alloc, key)?,
         value,
     })?;
     Ok(())
@@ -47,7 +40,7 @@ fn first_keys(alloc: Global, seq: u64, op: &str) -> Result<Vec<Pair<Global>>, Al
 {
     let mut keys = Vec::with_capacity(alloc, 5)?;
     put(alloc, &mut keys, "seq_number", Value::Int(Num::of_u64(seq)))?;
-    put(alloc, &mut keys, "op", text_value(alloc, op)?)?;
+    put(alloc, &mut keys, "op", Value::from_str(alloc, op)?)?;
     Ok(keys)
 }
 
@@ -77,19 +70,19 @@ fn item(alloc: Global, field: &Field) -> Result<Value<Global>, AllocError>
             };
             two(
                 alloc,
-                text_value(alloc, name)?,
-                text_value(alloc, said.as_str())?,
+                Value::from_str(alloc, name)?,
+                Value::from_str(alloc, said.as_str())?,
             )
         }
         Field::Named(name, said) => {
             let named = two(
                 alloc,
-                text_value(alloc, name.as_str())?,
-                text_value(alloc, said.as_str())?,
+                Value::from_str(alloc, name.as_str())?,
+                Value::from_str(alloc, said.as_str())?,
             )?;
-            two(alloc, text_value(alloc, "log")?, named)
+            two(alloc, Value::from_str(alloc, "log")?, named)
         }
-        Field::Rc(n) => two(alloc, text_value(alloc, "rc")?, Value::Int(*n)),
+        Field::Rc(n) => two(alloc, Value::from_str(alloc, "rc")?, Value::Int(*n)),
     }
 }
 
@@ -125,14 +118,14 @@ fn text_key(
 ) -> Result<(), AllocError>
     ensures { OnOk result (map pair_tree keys.new.items ≡ map pair_tree keys.old.items ++ at key.now (str said.now) ∷ []) }
 {
-    put(alloc, keys, key, text_value(alloc, said.as_str())?)
+    put(alloc, keys, key, Value::from_str(alloc, said.as_str())?)
 }
 
 fn fault(alloc: Global, fault: &Option<Text>) -> Result<Value<Global>, AllocError>
     ensures { IfOk result (λ v. tree v ≡ fault_tree fault.now) }
 {
     match fault {
-        Some(said) => text_value(alloc, said.as_str()),
+        Some(said) => Value::from_str(alloc, said.as_str()),
         None => Ok(Value::Nil),
     }
 }

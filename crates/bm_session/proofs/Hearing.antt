@@ -50,7 +50,7 @@ entry-Update t n j parcel z k new o =
     go false = refl
 
 pub heard-code : (tb tb' : Table) (t : Trace) (n j : ℕ) (parcel : List Part) (z : ℤ) → IsTable tb t → is_new t n ≡ true
-    → tb'.open.items ≡ map (with_told j (result_of_rc (Some z))) tb.open.items → tb'.outcomes.items ≡ tb.outcomes.items → IsHeard tb' t (In n (Update j parcel (Some z)))
+    → tb'.opened.items ≡ map (with_told j (result_of_rc (Some z))) tb.opened.items → tb'.outcomes.items ≡ tb.outcomes.items → IsHeard tb' t (In n (Update j parcel (Some z)))
 heard-code tb tb' t n j parcel z is new e-open e-outcomes = record {
   listed = e-open
       ∙ ap (map (with_told j (result_of_rc (Some z)))) is.listed
@@ -129,7 +129,7 @@ ended-refusal-at t n k0 taken e =
             cc
 
 pub heard-end : (tb tb' : Table) (t : Trace) (n : ℕ) (body : Body) (k0 : ℕ) → IsTable tb t → IsEnded t (In n body) k0 → rc_of (In n body) ≡ None
-    → tb'.open.items ≡ filter (λ (o : Open). not (k0 == o.command)) tb.open.items
+    → tb'.opened.items ≡ filter (λ (o : Open). not (k0 == o.command)) tb.opened.items
     → tb'.outcomes.items ≡ set tb.outcomes.items k0 (Some (result_at k0 (next t (In n body)))) → IsHeard tb' t (In n body)
 heard-end tb tb' t n body k0 is ends no_rc e-open e-outcomes =
     let inside : k0 < commands t = open-is-started t k0 ends.opened in
@@ -217,11 +217,11 @@ had-fresh tb rs t n body is up r new holds m =
 
 -- What a message ends, as the code finds it
 
-pub ended-Complete : (tb : Table) (t : Trace) (n j : ℕ) (f : Bool) (r : Option Open) → IsTable tb t → is_new t n ≡ true → r ≡ find (λ (o : Open). j == o.command) tb.open.items → r ≡ option_map (open_entry t) (ended_by t (In n (Complete j f)))
-ended-Complete tb t n j f r is new e = e ∙ sym (ap (λ b. cond b (find (λ (o : Open). j == o.command) tb.open.items) None) new) ∙ ended-complete tb t n j f is
+pub ended-Complete : (tb : Table) (t : Trace) (n j : ℕ) (f : Bool) (r : Option Open) → IsTable tb t → is_new t n ≡ true → r ≡ find (λ (o : Open). j == o.command) tb.opened.items → r ≡ option_map (open_entry t) (ended_by t (In n (Complete j f)))
+ended-Complete tb t n j f r is new e = e ∙ sym (ap (λ b. cond b (find (λ (o : Open). j == o.command) tb.opened.items) None) new) ∙ ended-complete tb t n j f is
 
 pub ended-Repeat : (tb : Table) (t : Trace) (n j : ℕ) (f : Bool) → IsTable tb t → is_new t n ≡ false → None ≡ option_map (open_entry t) (ended_by t (In n (Complete j f)))
-ended-Repeat tb t n j f is new = sym (ap (λ b. cond b (find (λ (o : Open). j == o.command) tb.open.items) None) new) ∙ ended-complete tb t n j f is
+ended-Repeat tb t n j f is new = sym (ap (λ b. cond b (find (λ (o : Open). j == o.command) tb.opened.items) None) new) ∙ ended-complete tb t n j f is
 
 -- the command whose entry was found
 pub found-entry : (t : Trace) (o : Option ℕ) (x : Open) → option_map (open_entry t) o ≡ Some x → (k : ℕ) × (o ≡ Some k) × (open_entry t k ≡ x)
@@ -245,7 +245,7 @@ item-end t n body x fault r e f is =
 -- What is taken, as the code takes it
 
 -- an entry that was found is that of an open command
-pub listed-inside : (tb : Table) (t : Trace) (p : Open → Bool) (x : Open) → IsTable tb t → find p tb.open.items ≡ Some x → x.command < length tb.outcomes.items
+pub listed-inside : (tb : Table) (t : Trace) (p : Open → Bool) (x : Open) → IsTable tb t → find p tb.opened.items ≡ Some x → x.command < length tb.outcomes.items
 listed-inside tb t p x is e =
     let found = found-entry t (find (λ k. p (open_entry t k)) (open_commands t)) x (sym (find-map (open_entry t) p (open_commands t)) ∙ ap (find p) (sym is.listed) ∙ e) in
     let both = find-some (λ k. p (open_entry t k)) (is_open t) (below (commands t)) found.0 found.1 in
@@ -267,7 +267,7 @@ reply-asks t n body v a e = ap (Answer n) e
 
 -- what is left of the table by the end of a command
 pub record IsClosed (tb tb' : Table) (x : Open) (fault : Bool) : Type 0 where
-  pub listed : tb'.open.items ≡ filter (λ (o : Open). not (x.command == o.command)) tb.open.items
+  pub listed : tb'.opened.items ≡ filter (λ (o : Open). not (x.command == o.command)) tb.opened.items
   pub ended : tb'.outcomes.items ≡ set tb.outcomes.items x.command (Some (ends_as x fault))
   pub link : tb'.link ≡ tb.link
   pub orders : tb'.orders ≡ tb.orders
@@ -276,10 +276,10 @@ closed-end : (tb tb' : Table) (t : Trace) (n : ℕ) (body : Body) (k : ℕ) (x :
 closed-end tb tb' t n body k x fault is ends at f no_rc closed =
     let same : k ≡ x.command = ap (λ (o : Open). o.command) at in
     heard-end tb tb' t n body k is ends no_rc
-    (closed.listed ∙ ap (λ j. filter (λ (o : Open). not (j == o.command)) tb.open.items) (sym same))
+    (closed.listed ∙ ap (λ j. filter (λ (o : Open). not (j == o.command)) tb.opened.items) (sym same))
     (closed.ended ∙ ap (λ j. set tb.outcomes.items j (Some (ends_as x fault))) (sym same) ∙ ap (λ r. set tb.outcomes.items k (Some r)) (ap (λ o. ends_as o fault) (sym at) ∙ result-ends_as t n body k fault f))
 
-pub taken-refusal : (tb tb' : Table) (t : Trace) (n : ℕ) (x : Open) → IsTable tb t → was_taken t ≡ true → is_up t ≡ true → find (λ (o : Open). o.order == n) tb.open.items ≡ Some x → IsClosed tb tb' x true → tb'.seen.ranges ≡ tb.seen.ranges → IsTable tb' (t ++ In n (Answered true) ∷ [])
+pub taken-refusal : (tb tb' : Table) (t : Trace) (n : ℕ) (x : Open) → IsTable tb t → was_taken t ≡ true → is_up t ≡ true → find (λ (o : Open). o.order == n) tb.opened.items ≡ Some x → IsClosed tb tb' x true → tb'.seen.ranges ≡ tb.seen.ranges → IsTable tb' (t ++ In n (Answered true) ∷ [])
 taken-refusal tb tb' t n x is taken up e closed e-seen =
     let found = found-entry t (ended_by t (In n (Answered true))) x (sym (ended-refusal tb t n is) ∙ e) in
     table-In tb tb' t n (Answered true) is closed.link closed.orders
@@ -313,7 +313,7 @@ unfound : (t : Trace) (e : Event) → ended_by t e ≡ None → (k : ℕ) → is
 unfound t e none k o = find-fails (λ j. ends_at j (next t e)) (is_open t) (commands t) k none (open-is-started t k o) o
 
 -- a refusal of no open command's start
-pub untaken-refusal : (tb tb' : Table) (t : Trace) (n : ℕ) → IsTable tb t → is_up t ≡ true → find (λ (o : Open). o.order == n) tb.open.items ≡ None → tb' ≡ tb → IsTable tb' (t ++ In n (Answered true) ∷ [])
+pub untaken-refusal : (tb tb' : Table) (t : Trace) (n : ℕ) → IsTable tb t → is_up t ≡ true → find (λ (o : Open). o.order == n) tb.opened.items ≡ None → tb' ≡ tb → IsTable tb' (t ++ In n (Answered true) ∷ [])
 untaken-refusal tb tb' t n is up e same =
     subst (λ x. IsTable x (t ++ In n (Answered true) ∷ [])) (sym same)
     (table-In tb tb t n (Answered true) is refl refl
@@ -341,16 +341,16 @@ pub record IsFresh (tb tb' : Table) (n : ℕ) (v : Verdict) : Type 0 where
   pub holds : HoldsAlso tb.seen.ranges tb'.seen.ranges n v
 
 pub taken-code : (tb tb' : Table) (t : Trace) (n j : ℕ) (parcel : List Part) (z : ℤ) (v : Verdict) → IsTable tb t → is_up t ≡ true → IsFresh tb tb' n v → v ≡ verdict t (In n (Update j parcel (Some z)))
-    → tb'.link ≡ tb.link → tb'.orders ≡ tb.orders → tb'.outcomes ≡ tb.outcomes → tb'.open.items ≡ map (with_told j (result_of_rc (Some z))) tb.open.items → IsTable tb' (t ++ In n (Update j parcel (Some z)) ∷ [])
+    → tb'.link ≡ tb.link → tb'.orders ≡ tb.orders → tb'.outcomes ≡ tb.outcomes → tb'.opened.items ≡ map (with_told j (result_of_rc (Some z))) tb.opened.items → IsTable tb' (t ++ In n (Update j parcel (Some z)) ∷ [])
 taken-code tb tb' t n j parcel z v is up fresh e e-link e-orders e-outcomes e-open =
     table-In tb tb' t n (Update j parcel (Some z)) is e-link e-orders
     (heard-code tb tb' t n j parcel z is (fresh-new tb t n is up fresh.new) e-open (ap (λ o. o.items) e-outcomes))
     (had-insert tb tb'.seen.ranges t n (Update j parcel (Some z)) v is up refl fresh.new e fresh.holds)
 
 pub taken-complete : (tb tb' : Table) (t : Trace) (n j : ℕ) (f : Bool) (v : Verdict) (x : Open) → IsTable tb t → is_up t ≡ true → IsFresh tb tb' n v → v ≡ verdict t (In n (Complete j f))
-    → find (λ (o : Open). j == o.command) tb.open.items ≡ Some x → IsClosed tb tb' x f → IsTable tb' (t ++ In n (Complete j f) ∷ [])
+    → find (λ (o : Open). j == o.command) tb.opened.items ≡ Some x → IsClosed tb tb' x f → IsTable tb' (t ++ In n (Complete j f) ∷ [])
 taken-complete tb tb' t n j f v x is up fresh e at closed =
-    let found = found-entry t (ended_by t (In n (Complete j f))) x (sym (ended-Complete tb t n j f (find (λ (o : Open). j == o.command) tb.open.items) is (fresh-new tb t n is up fresh.new) refl) ∙ at) in
+    let found = found-entry t (ended_by t (In n (Complete j f))) x (sym (ended-Complete tb t n j f (find (λ (o : Open). j == o.command) tb.opened.items) is (fresh-new tb t n is up fresh.new) refl) ∙ at) in
     table-In tb tb' t n (Complete j f) is closed.link closed.orders
     (closed-end tb tb' t n (Complete j f) found.0 x f is (ended-complete-at t n j f found.0 found.1) found.2 (fault-of f) refl closed)
     (had-insert tb tb'.seen.ranges t n (Complete j f) v is up refl fresh.new e fresh.holds)
@@ -361,7 +361,7 @@ taken-complete tb tb' t n j f v x is up fresh e at closed =
 
 -- a request that ends nothing and tells no code
 pub taken-quiet : (tb tb' : Table) (t : Trace) (n : ℕ) (body : Body) (v : Verdict) → IsTable tb t → is_up t ≡ true → IsFresh tb tb' n v → v ≡ verdict t (In n body) → asks body ≡ true
-    → ended_by t (In n body) ≡ None → rc_of (In n body) ≡ None → tb'.link ≡ tb.link → tb'.orders ≡ tb.orders → tb'.outcomes ≡ tb.outcomes → tb'.open ≡ tb.open → IsTable tb' (t ++ In n body ∷ [])
+    → ended_by t (In n body) ≡ None → rc_of (In n body) ≡ None → tb'.link ≡ tb.link → tb'.orders ≡ tb.orders → tb'.outcomes ≡ tb.outcomes → tb'.opened ≡ tb.opened → IsTable tb' (t ++ In n body ∷ [])
 taken-quiet tb tb' t n body v is up fresh e a none no_rc e-link e-orders e-outcomes e-open =
     table-In tb tb' t n body is e-link e-orders
     (heard-nothing tb tb' t n body is (ap (λ o. o.items) e-open) (ap (λ o. o.items) e-outcomes) (λ k o. unfound t (In n body) none k o) (λ k. no-code t (In n body) k no_rc))
@@ -374,8 +374,8 @@ empty-entry t (Some k) h = cc
 pub ends-none : (t : Trace) (n : ℕ) (body : Body) → ends_nothing body ≡ true → ended_by t (In n body) ≡ None
 ends-none t n body h = empty-entry t (ended_by t (In n body)) (sym (ended-none t n body h))
 
-pub complete-none : (tb : Table) (t : Trace) (n j : ℕ) (f : Bool) → IsTable tb t → is_up t ≡ true → verdict_in tb.seen.ranges n ≡ None → find (λ (o : Open). j == o.command) tb.open.items ≡ None → ended_by t (In n (Complete j f)) ≡ None
-complete-none tb t n j f is up new none = empty-entry t (ended_by t (In n (Complete j f))) (sym (ended-Complete tb t n j f (find (λ (o : Open). j == o.command) tb.open.items) is (fresh-new tb t n is up new) refl) ∙ none)
+pub complete-none : (tb : Table) (t : Trace) (n j : ℕ) (f : Bool) → IsTable tb t → is_up t ≡ true → verdict_in tb.seen.ranges n ≡ None → find (λ (o : Open). j == o.command) tb.opened.items ≡ None → ended_by t (In n (Complete j f)) ≡ None
+complete-none tb t n j f is up new none = empty-entry t (ended_by t (In n (Complete j f))) (sym (ended-Complete tb t n j f (find (λ (o : Open). j == o.command) tb.opened.items) is (fresh-new tb t n is up new) refl) ∙ none)
 
 -- Messages that change nothing
 

@@ -93,7 +93,7 @@ find-open t k = find-below (is_open t) k (commands t) ∙ ap (λ b. cond b (Some
     go false = refl
 
 -- the entry of a command, if it is open
-pub find-command : (tb : Table) (t : Trace) (k : ℕ) → IsTable tb t → find (λ (o : Open). k == o.command) tb.open.items ≡ cond (is_open t k) (Some (open_entry t k)) None
+pub find-command : (tb : Table) (t : Trace) (k : ℕ) → IsTable tb t → find (λ (o : Open). k == o.command) tb.opened.items ≡ cond (is_open t k) (Some (open_entry t k)) None
 find-command tb t k is =
     ap (find (λ (o : Open). k == o.command)) is.listed
     ∙ find-map (open_entry t) (λ (o : Open). k == o.command) (open_commands t)
@@ -104,7 +104,7 @@ find-command tb t k is =
     go true = refl
     go false = refl
 
-pub is_open-table : (tb : Table) (t : Trace) (k : ℕ) → IsTable tb t → is_some (find (λ (o : Open). k == o.command) tb.open.items) ≡ is_open t k
+pub is_open-table : (tb : Table) (t : Trace) (k : ℕ) → IsTable tb t → is_some (find (λ (o : Open). k == o.command) tb.opened.items) ≡ is_open t k
 is_open-table tb t k is = ap (λ o. is_some o) (find-command tb t k is) ∙ go (is_open t k)
   where
     go : (b : Bool) → is_some (cond b (Some (open_entry t k)) None) ≡ b

@@ -88,7 +88,7 @@ ended_by-complete t n j f = find-cong t (λ k. ends_at k (next t (In n (Complete
     go false = find-none (open_commands t)
 
 -- the entry of the command that a complete ends
-pub ended-complete : (tb : Table) (t : Trace) (n j : ℕ) (f : Bool) → IsTable tb t → cond (is_new t n) (find (λ (o : Open). j == o.command) tb.open.items) None ≡ option_map (open_entry t) (ended_by t (In n (Complete j f)))
+pub ended-complete : (tb : Table) (t : Trace) (n j : ℕ) (f : Bool) → IsTable tb t → cond (is_new t n) (find (λ (o : Open). j == o.command) tb.opened.items) None ≡ option_map (open_entry t) (ended_by t (In n (Complete j f)))
 ended-complete tb t n j f is =
     ap (λ os. cond (is_new t n) (find (λ (o : Open). j == o.command) os) None) is.listed
     ∙ ap (λ o. cond (is_new t n) o None) (find-map (open_entry t) (λ (o : Open). j == o.command) (open_commands t))
@@ -100,7 +100,7 @@ ended-complete tb t n j f is =
     go false = refl
 
 -- the entry of the command whose start is refused
-pub ended-refusal : (tb : Table) (t : Trace) (n : ℕ) → IsTable tb t → find (λ (o : Open). o.order == n) tb.open.items ≡ option_map (open_entry t) (ended_by t (In n (Answered true)))
+pub ended-refusal : (tb : Table) (t : Trace) (n : ℕ) → IsTable tb t → find (λ (o : Open). o.order == n) tb.opened.items ≡ option_map (open_entry t) (ended_by t (In n (Answered true)))
 ended-refusal tb t n is =
     ap (find (λ (o : Open). o.order == n)) is.listed
     ∙ find-map (open_entry t) (λ (o : Open). o.order == n) (open_commands t)
@@ -163,7 +163,7 @@ pub record IsQuiet (t : Trace) (e : Event) : Type 0 where
   pub no_code : (k : ℕ) → cond (updates k (next t e)) (rc_of e) None ≡ None
 
 pub listed-keep : (tb : Table) (t : Trace) (e : Event) → IsTable tb t → is_go e ≡ false → ((k : ℕ) → is_open t k ≡ true → ends_at k (next t e) ≡ false) → IsQuiet t e
-    → tb.open.items ≡ map (open_entry (t ++ e ∷ [])) (open_commands (t ++ e ∷ []))
+    → tb.opened.items ≡ map (open_entry (t ++ e ∷ [])) (open_commands (t ++ e ∷ []))
 listed-keep tb t e is g h q =
     is.listed
     ∙ map-open t (open_entry t) (open_entry (t ++ e ∷ [])) (λ k o. sym (entry-keep t e k (open-is-started t k o) (q.no_stop k) (q.no_code k)))

@@ -49,7 +49,7 @@ seen-Up t n down =
     go false = refl
 
 pub table-Up : (tb tb' : Table) (t : Trace) → IsTable tb t → refusal t Up ≡ None
-    → tb'.link ≡ linked.Up → tb'.orders ≡ cond (is_link_cut tb.link) tb.orders 0 → tb'.open.items ≡ tb.open.items → tb'.outcomes.items ≡ tb.outcomes.items → tb'.seen.ranges ≡ tb.seen.ranges
+    → tb'.link ≡ linked.Up → tb'.orders ≡ cond (is_link_cut tb.link) tb.orders 0 → tb'.opened.items ≡ tb.opened.items → tb'.outcomes.items ≡ tb.outcomes.items → tb'.seen.ranges ≡ tb.seen.ranges
     → IsTable tb' (t ++ Up ∷ [])
 table-Up tb tb' t is r e-link e-orders e-open e-outcomes e-seen =
     let down : is_up t ≡ false = already t _ r in
@@ -81,7 +81,7 @@ seen-Cut t n up =
     same (Some m) = refl
 
 pub table-Cut : (tb tb' : Table) (t : Trace) → IsTable tb t → refusal t Cut ≡ None
-    → tb'.link ≡ linked.Cut → tb'.orders ≡ tb.orders → tb'.open.items ≡ tb.open.items → tb'.outcomes.items ≡ tb.outcomes.items → tb'.seen.ranges ≡ tb.seen.ranges
+    → tb'.link ≡ linked.Cut → tb'.orders ≡ tb.orders → tb'.opened.items ≡ tb.opened.items → tb'.outcomes.items ≡ tb.outcomes.items → tb'.seen.ranges ≡ tb.seen.ranges
     → IsTable tb' (t ++ Cut ∷ [])
 table-Cut tb tb' t is r e-link e-orders e-open e-outcomes e-seen =
     let up : is_up t ≡ true = not-up t _ r in
@@ -131,7 +131,7 @@ ended-Down t k o l h = go (is_open t k) refl
     go false e = ap (outcome_from o) shut ∙ closed o (outcome t k) (ap (outcome_from o) (sym e) ∙ h) ∙ sym after
 
 pub table-Down : (tb tb' : Table) (t : Trace) → IsTable tb t
-    → tb'.link ≡ linked.Down → tb'.orders ≡ tb.orders → tb'.open.items ≡ [] → tb'.outcomes.items ≡ tb.outcomes.items → tb'.seen.ranges ≡ []
+    → tb'.link ≡ linked.Down → tb'.orders ≡ tb.orders → tb'.opened.items ≡ [] → tb'.outcomes.items ≡ tb.outcomes.items → tb'.seen.ranges ≡ []
     → IsTable tb' (t ++ Down ∷ [])
 table-Down tb tb' t is e-link e-orders e-open e-outcomes e-seen =
     let more : orders (t ++ Down ∷ []) ≡ orders t + 0 = orders-push t Down in
@@ -219,9 +219,9 @@ length-map f [] = refl
 length-map f (x ∷ xs) = ap suc (length-map f xs)
 
 -- a start that isn't refused finds a place
-pub go-room : (tb : Table) (t : Trace) → IsTable tb t → refusal t Go ≡ None → length tb.open.items < 4
+pub go-room : (tb : Table) (t : Trace) → IsTable tb t → refusal t Go ≡ None → length tb.opened.items < 4
 go-room tb t is r =
-    let same : length tb.open.items ≡ length (open_commands t) = ap length is.listed ∙ length-map (open_entry t) (open_commands t) in
+    let same : length tb.opened.items ≡ length (open_commands t) = ap length is.listed ∙ length-map (open_entry t) (open_commands t) in
     let few : nat_le 4 (length (open_commands t)) ≡ false = go (is_up t) (nat_le 4 (length (open_commands t))) r in
     grind (arith, nat_tests)
   where
@@ -231,7 +231,7 @@ go-room tb t is r =
     go false true h = cc
 
 pub table-Go : (tb tb' : Table) (t : Trace) → IsTable tb t → was_taken t ≡ true → refusal t Go ≡ None
-    → tb'.link ≡ tb.link → tb'.orders ≡ tb.orders + 1 → tb'.open.items ≡ tb.open.items ++ entry (length tb.outcomes.items) tb.orders false Exception ∷ [] → tb'.outcomes.items ≡ tb.outcomes.items ++ None ∷ [] → tb'.seen.ranges ≡ tb.seen.ranges
+    → tb'.link ≡ tb.link → tb'.orders ≡ tb.orders + 1 → tb'.opened.items ≡ tb.opened.items ++ entry (length tb.outcomes.items) tb.orders false Exception ∷ [] → tb'.outcomes.items ≡ tb.outcomes.items ++ None ∷ [] → tb'.seen.ranges ≡ tb.seen.ranges
     → IsTable tb' (t ++ Go ∷ [])
 table-Go tb tb' t is taken r e-link e-orders e-open e-outcomes e-seen =
     let up : is_up t ≡ true = not-up t _ r in
@@ -278,7 +278,7 @@ entry-Stop t j k l =
     ∙ ap (λ z. entry k (start_order t k) (list_any (is_stop_of k) t || (j == k)) (result_of_rc (option_or z (last_rc t k)))) (no-code t (Stop j) k refl)
 
 pub table-Stop : (tb tb' : Table) (t : Trace) (j : ℕ) → IsTable tb t → refusal t (Stop j) ≡ None
-    → tb'.link ≡ tb.link → tb'.orders ≡ tb.orders + 1 → tb'.open.items ≡ map (with_stop j) tb.open.items → tb'.outcomes.items ≡ tb.outcomes.items → tb'.seen.ranges ≡ tb.seen.ranges
+    → tb'.link ≡ tb.link → tb'.orders ≡ tb.orders + 1 → tb'.opened.items ≡ map (with_stop j) tb.opened.items → tb'.outcomes.items ≡ tb.outcomes.items → tb'.seen.ranges ≡ tb.seen.ranges
     → IsTable tb' (t ++ Stop j ∷ [])
 table-Stop tb tb' t j is r e-link e-orders e-open e-outcomes e-seen =
     let up : is_up t ≡ true = not-up t _ r in
@@ -302,7 +302,7 @@ table-Stop tb tb' t j is r e-link e-orders e-open e-outcomes e-seen =
 
 -- the parts of the table that a message may change
 pub record IsHeard (tb' : Table) (t : Trace) (e : Event) : Type 0 where
-  pub listed : tb'.open.items ≡ map (open_entry (t ++ e ∷ [])) (open_commands (t ++ e ∷ []))
+  pub listed : tb'.opened.items ≡ map (open_entry (t ++ e ∷ [])) (open_commands (t ++ e ∷ []))
   pub counted : length tb'.outcomes.items ≡ commands (t ++ e ∷ [])
   pub ended : (k : ℕ) → k < commands (t ++ e ∷ []) → outcome_from (get_or tb'.outcomes.items k None) (is_open (t ++ e ∷ []) k) ≡ outcome (t ++ e ∷ []) k
 
@@ -322,7 +322,7 @@ table-In tb tb' t n body is e-link e-orders heard had =
     }
 
 -- nothing that is kept of the commands changes
-pub heard-nothing : (tb tb' : Table) (t : Trace) (n : ℕ) (body : Body) → IsTable tb t → tb'.open.items ≡ tb.open.items → tb'.outcomes.items ≡ tb.outcomes.items
+pub heard-nothing : (tb tb' : Table) (t : Trace) (n : ℕ) (body : Body) → IsTable tb t → tb'.opened.items ≡ tb.opened.items → tb'.outcomes.items ≡ tb.outcomes.items
     → ((k : ℕ) → is_open t k ≡ true → ends_at k (next t (In n body)) ≡ false) → ((k : ℕ) → cond (updates k (next t (In n body))) (rc_of (In n body)) None ≡ None) → IsHeard tb' t (In n body)
 heard-nothing tb tb' t n body is e-open e-outcomes stays quiet = record {
   listed = e-open ∙ listed-keep tb t (In n body) is refl stays (record { no_stop = λ k. refl; no_code = quiet });

@@ -60,7 +60,7 @@ pub record IsTable (tb : Table) (t : Trace) : Type 0 where
   pub up : is_link_up tb.link ≡ is_up t
   pub cut : is_link_cut tb.link ≡ is_cut t
   pub numbered : tb.orders ≡ orders t
-  pub listed : tb.open.items ≡ map (open_entry t) (open_commands t)
+  pub listed : tb.opened.items ≡ map (open_entry t) (open_commands t)
   pub counted : length tb.outcomes.items ≡ commands t
   pub ended : (k : ℕ) → k < commands t → outcome_from (slice_index_or tb.outcomes.items k None) (is_open t k) ≡ outcome t k
   pub had : (n : ℕ) → verdict_in tb.seen.ranges n ≡ seen t n
@@ -79,4 +79,4 @@ pub record IsSession (s : Lane) (counted : List Bool) (tb : Table) : Type 0 wher
   pub lane : IsLane s
   pub flagged : counted ≡ flags s.trace
   pub table : IsTable tb s.trace
-  pub places : 4 ≤ vec_capacity tb.open
+  pub places : 4 ≤ vec_capacity tb.opened

@@ -146,7 +146,7 @@ pub struct Table {
     /// How many orders the session had.
     pub orders: u64,
     /// The open commands, oldest first: at most four.
-    pub open: Vec<Open>,
+    pub opened: Vec<Open>,
     /// For each command how it ended. None stands for one that is open, and for one that ended with its session.
     pub outcomes: Vec<Option<Results>>,
     /// The request numbers that the session had, with the first verdicts. None while the lane is down.
@@ -157,12 +157,12 @@ impl Table {
     /// The table of the empty trace.
     pub fn new(alloc: Global) -> Result<Table, AllocError>
         ensures empty { IfOk result (λ tb. IsTable tb []) }
-        ensures places { IfOk result (λ tb. 4 ≤ vec_capacity tb.open) }
+        ensures places { IfOk result (λ tb. 4 ≤ vec_capacity tb.opened) }
     {
         Ok(Table {
             link: Link::Down,
             orders: 0,
-            open: Vec::with_capacity(alloc, 4)?,
+            opened: Vec::with_capacity(alloc, 4)?,
             outcomes: Vec::new(alloc),
             seen: Ranges::new(alloc),
         })
@@ -172,7 +172,7 @@ impl Table {
     pub fn is_open(&self, command: u64) -> bool
         ensures { (t : Trace) → IsTable self.now t → result ≡ is_open_in t command }
     {
-        with_command(self.open.as_slice(), command).is_some()
+        with_command(self.opened.as_slice(), command).is_some()
     }
 
     /// How many commands were started.
@@ -260,7 +260,7 @@ impl Table {
         match event {
             Event::Down => return None,
             Event::Go => {
-                if self.open.len() >= 4 {
+                if self.opened.len() >= 4 {
                     return Some(Refusal::TooManyOpen);
                 }
             }
@@ -317,14 +317,14 @@ impl Table {
         match body {
             Body::Complete { command, .. } => {
                 if self.is_new(number) {
-                    with_command(self.open.as_slice(), *command)
+                    with_command(self.opened.as_slice(), *command)
                 } else {
                     None
                 }
             }
             Body::Answered { fault } => {
                 if *fault {
-                    with_order(self.open.as_slice(), number)
+                    with_order(self.opened.as_slice(), number)
                 } else {
                     None
                 }
@@ -348,7 +348,7 @@ impl Table {
         match event {
             Event::Up | Event::Cut | Event::Stop(_) => Ok(None),
             Event::Go => Ok(Some(Item::Open(self.outcomes.len() as u64))),
-            Event::Down => Ok(if self.open.is_empty() {
+            Event::Down => Ok(if self.opened.is_empty() {
                 None
             } else {
                 Some(Item::Gone)
@@ -377,7 +377,7 @@ impl Table {
     /// Makes room for so many events more.
     pub fn reserve(&mut self, additional: usize) -> Result<(), AllocError>
         ensures table { (t : Trace) → IsTable self.old t → IsTable self.new t }
-        ensures places { vec_capacity self.new.open ≡ vec_capacity self.old.open }
+        ensures places { vec_capacity self.new.opened ≡ vec_capacity self.old.opened }
         ensures room { table_room self.old ≤ table_room self.new }
         ensures ok { OnOk result (additional ≤ table_room self.new) }
         ensures succeeds { additional ≤ table_room self.old → IsOk result }
@@ -390,10 +390,10 @@ impl Table {
     pub fn take(&mut self, event: &Event)
         requires known { (t : Trace) × IsTable self.old t × (refusal_of t event.now ≡ None) }
         requires orders { self.old.orders < 2 ^ 63 }
-        requires places { 4 ≤ vec_capacity self.old.open }
+        requires places { 4 ≤ vec_capacity self.old.opened }
         requires room { 0 < table_room self.old }
         ensures table { (t : Trace) → IsTable self.old t → was_taken t ≡ true → refusal_of t event.now ≡ None → IsTable self.new (t ++ event.now ∷ []) }
-        ensures places { 4 ≤ vec_capacity self.new.open }
+        ensures places { 4 ≤ vec_capacity self.new.opened }
         ensures room { table_room self.old ≤ table_room self.new + 1 }
     {
         match event {
@@ -420,7 +420,7 @@ impl Table {
     #[inline(never)]
     fn take_up(&mut self)
         ensures table { (t : Trace) → IsTable self.old t → refusal_of t Event.Up ≡ None → IsTable self.new (t ++ Event.Up ∷ []) }
-        ensures places { vec_capacity self.new.open ≡ vec_capacity self.old.open }
+        ensures places { vec_capacity self.new.opened ≡ vec_capacity self.old.opened }
         ensures room { table_room self.old ≤ table_room self.new }
     {
         self.orders = self.orders_after_up();
@@ -432,7 +432,7 @@ impl Table {
     #[inline(never)]
     fn take_cut(&mut self)
         ensures table { (t : Trace) → IsTable self.old t → refusal_of t Event.Cut ≡ None → IsTable self.new (t ++ Event.Cut ∷ []) }
-        ensures places { vec_capacity self.new.open ≡ vec_capacity self.old.open }
+        ensures places { vec_capacity self.new.opened ≡ vec_capacity self.old.opened }
         ensures room { table_room self.old ≤ table_room self.new }
     {
         self.link = Link::Cut;
@@ -443,11 +443,11 @@ impl Table {
     #[inline(never)]
     fn take_down(&mut self)
         ensures table { (t : Trace) → IsTable self.old t → IsTable self.new (t ++ Event.Down ∷ []) }
-        ensures places { vec_capacity self.new.open ≡ vec_capacity self.old.open }
+        ensures places { vec_capacity self.new.opened ≡ vec_capacity self.old.opened }
         ensures room { table_room self.old ≤ table_room self.new }
     {
         self.link = Link::Down;
-        self.open.clear();
+        self.opened.clear();
         self.seen.clear();
     }
 
@@ -455,10 +455,10 @@ impl Table {
     #[inline(never)]
     fn take_go(&mut self)
         requires orders { self.old.orders < 2 ^ 63 }
-        requires places { 4 ≤ vec_capacity self.old.open }
+        requires places { 4 ≤ vec_capacity self.old.opened }
         requires room { 0 < table_room self.old }
         ensures table { (t : Trace) → IsTable self.old t → was_taken t ≡ true → refusal_of t Event.Go ≡ None → IsTable self.new (t ++ Event.Go ∷ []) }
-        ensures places { 4 ≤ vec_capacity self.new.open }
+        ensures places { 4 ≤ vec_capacity self.new.opened }
         ensures room { table_room self.old ≤ table_room self.new + 1 }
     {
         let entry = Open {
@@ -467,7 +467,7 @@ impl Table {
             stopped: false,
             told: Results::Exception,
         };
-        let _ = self.open.push(entry);
+        let _ = self.opened.push(entry);
         let _ = self.outcomes.push(None);
         self.orders += 1;
     }
@@ -477,10 +477,10 @@ impl Table {
     fn take_stop(&mut self, command: u64)
         requires { self.old.orders < 2 ^ 63 }
         ensures table { (t : Trace) → IsTable self.old t → refusal_of t (Event.Stop command) ≡ None → IsTable self.new (t ++ Event.Stop command ∷ []) }
-        ensures places { vec_capacity self.new.open ≡ vec_capacity self.old.open }
+        ensures places { vec_capacity self.new.opened ≡ vec_capacity self.old.opened }
         ensures room { table_room self.old ≤ table_room self.new }
     {
-        note_stop(&mut self.open, command);
+        note_stop(&mut self.opened, command);
         self.orders += 1;
     }
 
@@ -490,7 +490,7 @@ impl Table {
         requires known { IsTableUp self.old }
         requires room { 0 < table_room self.old }
         ensures table { (t : Trace) → IsTable self.old t → was_taken t ≡ true → up_of t ≡ true → IsTable self.new (t ++ Event.In number body.now ∷ []) }
-        ensures places { vec_capacity self.new.open ≡ vec_capacity self.old.open }
+        ensures places { vec_capacity self.new.opened ≡ vec_capacity self.old.opened }
         ensures room { table_room self.old ≤ table_room self.new + 1 }
     {
         match body {
@@ -513,10 +513,10 @@ impl Table {
     fn take_refusal(&mut self, number: u64)
         requires { IsTableUp self.old }
         ensures table { (t : Trace) → IsTable self.old t → was_taken t ≡ true → up_of t ≡ true → IsTable self.new (t ++ Event.In number (Body.Answered true) ∷ []) }
-        ensures places { vec_capacity self.new.open ≡ vec_capacity self.old.open }
+        ensures places { vec_capacity self.new.opened ≡ vec_capacity self.old.opened }
         ensures room { table_room self.new ≡ table_room self.old }
     {
-        if let Some(entry) = with_order(self.open.as_slice(), number) {
+        if let Some(entry) = with_order(self.opened.as_slice(), number) {
             self.end(entry, true);
         }
     }
@@ -528,7 +528,7 @@ impl Table {
         requires asks { asks body.now ≡ true }
         requires fresh { verdict_in self.old.seen.ranges number ≡ None }
         ensures table { (t : Trace) → IsTable self.old t → up_of t ≡ true → IsTable self.new (t ++ Event.In number body.now ∷ []) }
-        ensures places { vec_capacity self.new.open ≡ vec_capacity self.old.open }
+        ensures places { vec_capacity self.new.opened ≡ vec_capacity self.old.opened }
         ensures room { table_room self.old ≤ table_room self.new + 1 }
     {
         let verdict = self.verdict(body);
@@ -536,11 +536,11 @@ impl Table {
         match body {
             Body::Update { command, rc, .. } => {
                 if let Some(rc) = rc {
-                    note_told(&mut self.open, *command, result_of_code(*rc));
+                    note_told(&mut self.opened, *command, result_of_code(*rc));
                 }
             }
             Body::Complete { command, fault } => {
-                if let Some(entry) = with_command(self.open.as_slice(), *command) {
+                if let Some(entry) = with_command(self.opened.as_slice(), *command) {
                     self.end(entry, *fault);
                 }
             }
@@ -553,16 +553,16 @@ impl Table {
     #[inline(never)]
     fn end(&mut self, entry: Open, fault: bool)
         requires { entry.command < length self.old.outcomes.items }
-        ensures listed { self.new.open.items ≡ filter (λ (o : Open). not (entry.command == o.command)) self.old.open.items }
+        ensures listed { self.new.opened.items ≡ filter (λ (o : Open). not (entry.command == o.command)) self.old.opened.items }
         ensures ended { self.new.outcomes.items ≡ slice_set self.old.outcomes.items entry.command (Some (ends_as_lem entry fault)) }
         ensures link { self.new.link ≡ self.old.link }
         ensures orders { self.new.orders ≡ self.old.orders }
         ensures seen { self.new.seen ≡ self.old.seen }
-        ensures places { vec_capacity self.new.open ≡ vec_capacity self.old.open }
+        ensures places { vec_capacity self.new.opened ≡ vec_capacity self.old.opened }
         ensures room { table_room self.new ≡ table_room self.old }
     {
         self.outcomes[entry.command as usize] = Some(entry.ends_as(fault));
-        self.open.retain(|other| entry.command != other.command);
+        self.opened.retain(|other| entry.command != other.command);
     }
 }
 

@@ -1,3 +1,5 @@
+//! Lines of a log from a place on, gathered from its blocks.
+
 ghost use Rattle.std.specs.Prelude.{◌≡◌, ◌++◌, ◌≤◌, ◌<◌, ◌+◌, length, map, take, drop, Some, IfOk, string_bytes, slice_get};
 ghost use Rattle.bm_lines.specs.Lines.{content_of};
 ghost use Rattle.bm_session.specs.Trace.{joined, slice};

@@ -8,16 +8,13 @@ ghost use Rattle.bm_store.specs.Kept.{Named, names_kept, blocks_of, logs_kept, w
 use crate::chunk::LogState;
 use crate::named::NamedLog;
 use crate::placed::Placed;
-use bm_lines::{LogName, NameTable, Parcel, Part};
+use bm_lines::{FEW_NAMES, LogName, NameTable, Parcel, Part};
 use bm_session::Results;
 use std::alloc::{AllocError, Global};
 use std::marker::Model;
 
 /// The log that is there from the start of a command (Buildbot manual).
 const STDIO: &str = "stdio";
-
-/// As many logs, or parts of a parcel, are looked through faster than a table is made.
-const FEW: usize = 8;
 
 /// The logs of one command that have a block, and how the command ended.
 #[derive(Drop)]
@@ -288,7 +285,7 @@ impl CommandLogs {
             return Ok(());
         }
         let parts = parcel.parts();
-        if self.places.is_none() && self.named.len() < FEW && parts.len() < FEW {
+        if self.places.is_none() && self.named.len() < FEW_NAMES && parts.len() < FEW_NAMES {
             return add_all(&mut self.named, parts);
         }
         self.add_by_table(parts)
@@ -321,7 +318,7 @@ impl CommandLogs {
         ensures back { IfErr result (λ p. p ≡ parcel) }
         ensures err { OnErr result (self.new ≡ self.old) }
     {
-        if self.ended.is_none() && self.places.is_none() && self.named.len() < FEW {
+        if self.ended.is_none() && self.places.is_none() && self.named.len() < FEW_NAMES {
             let alloc = *self.named.allocator();
             let part = parcel.into_only_part()?;
             match take_part(&mut self.named, part) {

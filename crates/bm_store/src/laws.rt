@@ -1,3 +1,5 @@
+//! Whose logs a book has, as a contract.
+
 ghost use Rattle.bm_store.specs.Laws.{BooksHaveTheLogs, VisibleBooksHaveTheLogs, BooksAnswerLooks, KeptBooksMeanLogs};
 
 /// Where each event of a trace was taken, the book of its items has the logs, by name, and the outcomes of the

@@ -1,9 +1,13 @@
 //! The kinds of value.
 
+ghost use Rattle.std.specs.Prelude.{◌≡◌, IfOk};
+ghost use Rattle.bm_value.specs.Tree.{str};
+ghost use Rattle.bm_value.specs.View.{tree};
+
 use crate::bytes::Bytes;
 use crate::num::Num;
 use crate::text::Text;
-use std::alloc::{Allocator, Global};
+use std::alloc::{AllocError, Allocator, Global};
 
 /// A MessagePack value, whose parts lie in the allocator `A`.
 #[cycle(value)]
@@ -36,6 +40,15 @@ impl<A: Allocator> Drop for Value<A> {
             Value::Array(items) => drop(items),
             Value::Map(pairs) => drop(pairs),
         }
+    }
+}
+
+impl<A: Allocator + Copy> Value<A> {
+    /// The str of this text, under the allocator where it isn't short.
+    pub fn from_str(alloc: A, text: &str) -> Result<Value<A>, AllocError>
+        ensures { IfOk result (λ v. tree v ≡ str text.now) }
+    {
+        Ok(Value::Str(Text::from_str(alloc, text)?))
     }
 }
 

@@ -1,11 +1,10 @@
 //! Answers of a worker to the requests of its master.
 
-ghost use Rattle.std.specs.Prelude.{◌≡◌, ◌<◌, IfOk};
+ghost use Rattle.std.specs.Prelude.{◌≡◌, IfOk};
 ghost use Rattle.bm_value.specs.View.{tree};
-ghost use Rattle.bm_value.specs.Tree.{str};
 ghost use Rattle.bm_work.specs.Answers.{result_of, is_done, is_exception, info};
 
-use bm_value::{Pair, Pairs, Text, Value};
+use bm_value::{Pair, Pairs, Value};
 use std::alloc::{AllocError, Global};
 
 /// What a worker answers to a request.
@@ -43,20 +42,14 @@ impl Answer {
         match self {
             Answer::Done => Ok(Value::Nil),
             Answer::Info => info(alloc),
-            Answer::BadArguments => text(alloc, "bad arguments"),
-            Answer::NoSuchCommandName => text(alloc, "no such command name"),
-            Answer::AlreadyRuns => text(alloc, "command already runs"),
-            Answer::TooManyCommands => text(alloc, "too many commands"),
-            Answer::NoSuchCommand => text(alloc, "no such command"),
-            Answer::NoSuchOperation => text(alloc, "no such operation"),
+            Answer::BadArguments => Value::from_str(alloc, "bad arguments"),
+            Answer::NoSuchCommandName => Value::from_str(alloc, "no such command name"),
+            Answer::AlreadyRuns => Value::from_str(alloc, "command already runs"),
+            Answer::TooManyCommands => Value::from_str(alloc, "too many commands"),
+            Answer::NoSuchCommand => Value::from_str(alloc, "no such command"),
+            Answer::NoSuchOperation => Value::from_str(alloc, "no such operation"),
         }
     }
-}
-
-fn text(alloc: Global, text: &str) -> Result<Value<Global>, AllocError>
-    ensures { IfOk result (λ v. tree v ≡ str text.now) }
-{
-    Ok(Value::Str(Text::from_str(alloc, text)?))
 }
 
 /// What the worker tells of itself.
@@ -65,8 +58,8 @@ fn info(alloc: Global) -> Result<Value<Global>, AllocError>
 {
     let mut vec = Vec::new(alloc);
     vec.push(Pair {
-        key: text(alloc, "version")?,
-        value: text(alloc, "buildworker 1")?,
+        key: Value::from_str(alloc, "version")?,
+        value: Value::from_str(alloc, "buildworker 1")?,
     })?;
     Ok(Value::Map(Pairs { vec }))
 }

@@ -1,3 +1,5 @@
+//! Laws of what viewers see, as contracts.
+
 ghost use Rattle.bm_world.specs.Laws.{VisibleLogsGrow, DrainedLogsAreWhole, LooksNeverShrink, RefusalsAreNotMemory};
 
 /// What viewers see of a log is a prefix of what they see after more drains; once everything is drained it is the

@@ -33,7 +33,7 @@ pub fn response(alloc: Global, seq: u64, verdict: Verdict) -> Result<Vec<u8>, Wr
         return Err(Wrong::Differs("a response's number is too great"));
     }
     let result = match verdict.exception() {
-        Some(exception) => text_value(alloc, exception)?,
+        Some(exception) => Value::from_str(alloc, exception)?,
         None => Value::Nil,
     };
     let exception = verdict.exception().is_some();
@@ -69,7 +69,7 @@ pub fn interrupt(alloc: Global, command: u64) -> Result<Request, AllocError> {
 fn args(alloc: Global, command: u64, words: Words) -> Result<Value<Global>, AllocError> {
     let value = match words {
         Words::List | Words::OtherName => list(alloc, command)?,
-        Words::Line => text_value(alloc, format!(in alloc; "build {command}")?.as_str())?,
+        Words::Line => Value::from_str(alloc, format!(in alloc; "build {command}")?.as_str())?,
         Words::NoWord => Value::Array(Items {
             vec: Vec::new(alloc),
         }),
@@ -77,7 +77,7 @@ fn args(alloc: Global, command: u64, words: Words) -> Result<Value<Global>, Allo
     };
     let mut vec = Vec::new(alloc);
     vec.push(Pair {
-        key: text_value(alloc, "command")?,
+        key: Value::from_str(alloc, "command")?,
         value,
     })?;
     Ok(Value::Map(Pairs { vec }))
@@ -85,12 +85,7 @@ fn args(alloc: Global, command: u64, words: Words) -> Result<Value<Global>, Allo
 
 fn list(alloc: Global, command: u64) -> Result<Value<Global>, AllocError> {
     let mut vec = Vec::new(alloc);
-    vec.push(text_value(alloc, "build")?)?;
-    vec.push(text_value(alloc, format!(in alloc; "{command}")?.as_str())?)?;
+    vec.push(Value::from_str(alloc, "build")?)?;
+    vec.push(Value::from_str(alloc, format!(in alloc; "{command}")?.as_str())?)?;
     Ok(Value::Array(Items { vec }))
-}
-
-fn text_value(alloc: Global, text: &str) -> Result<Value<Global>, AllocError> {
-    let text = String::from_str(alloc, text)?;
-    Ok(Value::Str(bm_value::Text::from_string(text)))
 }

@@ -8,10 +8,10 @@ use Rattle.bm_session.proofs.table.Table.take_go.Goals as goal
 
 pub returns-clause-table : goal.returns-clause-table
 returns-clause-table c = λ t is w r.
-    let four : length c.args.self.now.open.items < 4 = go-room c.args.self.now t is r in
-    let fits : vec_len c.args.self.now.open < vec_capacity c.args.self.now.open = grind (arith, common_steps) in
+    let four : length c.args.self.now.opened.items < 4 = go-room c.args.self.now t is r in
+    let fits : vec_len c.args.self.now.opened < vec_capacity c.args.self.now.opened = grind (arith, common_steps) in
     let put : IsOk c.push.result = c.push.ensures.succeeds fits in
-    let open_items : c.push.new.self.items ≡ c.args.self.now.open.items ++ entry (length c.args.self.now.outcomes.items) c.args.self.now.orders false Exception ∷ [] = grind (arith, common_steps) in
+    let open_items : c.push.new.self.items ≡ c.args.self.now.opened.items ++ entry (length c.args.self.now.outcomes.items) c.args.self.now.orders false Exception ∷ [] = grind (arith, common_steps) in
     let room : vec_len c.args.self.now.outcomes < vec_capacity c.args.self.now.outcomes = omega (arith, c.requires.room) in
     let put_outcome : IsOk c.push-2.result = c.push-2.ensures.succeeds room in
     let outcome_items : c.push-2.new.self.items ≡ c.args.self.now.outcomes.items ++ None ∷ [] = grind (arith, common_steps) in

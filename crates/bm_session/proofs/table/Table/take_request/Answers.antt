@@ -18,23 +18,23 @@ use Rattle.bm_session.proofs.table.Table.take_request.Goals as goal
 -- the laws, at a body that is known by an equation
 
 code-of : (tb tb' : Table) (t : Trace) (n j : ℕ) (body : Body) (parcel : List Part) (z : ℤ) (v : Verdict) → body ≡ Update j parcel (Some z) → IsTable tb t → is_up t ≡ true → IsFresh tb tb' n v → v ≡ verdict t (In n body)
-    → tb'.link ≡ tb.link → tb'.orders ≡ tb.orders → tb'.outcomes ≡ tb.outcomes → tb'.open.items ≡ map (with_told j (result_of_rc (Some z))) tb.open.items → IsTable tb' (t ++ In n body ∷ [])
+    → tb'.link ≡ tb.link → tb'.orders ≡ tb.orders → tb'.outcomes ≡ tb.outcomes → tb'.opened.items ≡ map (with_told j (result_of_rc (Some z))) tb.opened.items → IsTable tb' (t ++ In n body ∷ [])
 code-of tb tb' t n j body parcel z v e is up fresh ev e-link e-orders e-outcomes e-open =
     subst (λ b. IsTable tb' (t ++ In n b ∷ [])) (sym e) (taken-code tb tb' t n j parcel z v is up fresh (ev ∙ ap (λ b. verdict t (In n b)) e) e-link e-orders e-outcomes e-open)
 
 complete-of : (tb tb' : Table) (t : Trace) (n j : ℕ) (body : Body) (f : Bool) (v : Verdict) (x : Open) → body ≡ Complete j f → IsTable tb t → is_up t ≡ true → IsFresh tb tb' n v → v ≡ verdict t (In n body)
-    → find (λ (o : Open). j == o.command) tb.open.items ≡ Some x → IsClosed tb tb' x f → IsTable tb' (t ++ In n body ∷ [])
+    → find (λ (o : Open). j == o.command) tb.opened.items ≡ Some x → IsClosed tb tb' x f → IsTable tb' (t ++ In n body ∷ [])
 complete-of tb tb' t n j body f v x e is up fresh ev at closed =
     subst (λ b. IsTable tb' (t ++ In n b ∷ [])) (sym e) (taken-complete tb tb' t n j f v x is up fresh (ev ∙ ap (λ b. verdict t (In n b)) e) at closed)
 
 quiet-of : (tb tb' : Table) (t : Trace) (n : ℕ) (body b : Body) (v : Verdict) → body ≡ b → asks b ≡ true → ((u : Unit {0}) → ends_nothing b ≡ true) → rc_of (In n b) ≡ None → IsTable tb t → is_up t ≡ true → IsFresh tb tb' n v → v ≡ verdict t (In n body)
-    → tb'.link ≡ tb.link → tb'.orders ≡ tb.orders → tb'.outcomes ≡ tb.outcomes → tb'.open ≡ tb.open → IsTable tb' (t ++ In n body ∷ [])
+    → tb'.link ≡ tb.link → tb'.orders ≡ tb.orders → tb'.outcomes ≡ tb.outcomes → tb'.opened ≡ tb.opened → IsTable tb' (t ++ In n body ∷ [])
 quiet-of tb tb' t n body b v e a q no_rc is up fresh ev e-link e-orders e-outcomes e-open =
     subst (λ x. IsTable tb' (t ++ In n x ∷ [])) (sym e) (taken-quiet tb tb' t n b v is up fresh (ev ∙ ap (λ x. verdict t (In n x)) e) a (ends-none t n b (q tt)) no_rc e-link e-orders e-outcomes e-open)
 
 -- a complete of no open command
-missed-of : (tb tb' : Table) (t : Trace) (n j : ℕ) (body : Body) (f : Bool) (v : Verdict) → body ≡ Complete j f → find (λ (o : Open). j == o.command) tb.open.items ≡ None → IsTable tb t → is_up t ≡ true → IsFresh tb tb' n v → v ≡ verdict t (In n body)
-    → tb'.link ≡ tb.link → tb'.orders ≡ tb.orders → tb'.outcomes ≡ tb.outcomes → tb'.open ≡ tb.open → IsTable tb' (t ++ In n body ∷ [])
+missed-of : (tb tb' : Table) (t : Trace) (n j : ℕ) (body : Body) (f : Bool) (v : Verdict) → body ≡ Complete j f → find (λ (o : Open). j == o.command) tb.opened.items ≡ None → IsTable tb t → is_up t ≡ true → IsFresh tb tb' n v → v ≡ verdict t (In n body)
+    → tb'.link ≡ tb.link → tb'.orders ≡ tb.orders → tb'.outcomes ≡ tb.outcomes → tb'.opened ≡ tb.opened → IsTable tb' (t ++ In n body ∷ [])
 missed-of tb tb' t n j body f v e none is up fresh ev e-link e-orders e-outcomes e-open =
     subst (λ x. IsTable tb' (t ++ In n x ∷ [])) (sym e) (taken-quiet tb tb' t n (Complete j f) v is up fresh (ev ∙ ap (λ x. verdict t (In n x)) e) refl (complete-none tb t n j f is up fresh.new none) refl e-link e-orders e-outcomes e-open)
 
@@ -57,7 +57,7 @@ pub returns-in-Some-clause-table : goal.returns-in-Some-clause-table
 returns-in-Some-clause-table c = λ t is up.
     code-of c.args.self.now _ t c.args.number c.in-Update.command c.args.body.now c.in-Update.parcel c.in-Some.rc c.verdict-verdict.result (c.in-Update.is ∙ ap (Update c.in-Update.command c.in-Update.parcel) c.in-Some.is) is up
     (record { new = c.requires.fresh; holds = c.insert.ensures.holds }) (c.verdict-verdict.ensures t c.args.number is) refl refl refl
-    (c.note_told.ensures.items ∙ ap (λ r. map (with_told c.in-Update.command r) c.args.self.now.open.items) c.result_of_code.ensures)
+    (c.note_told.ensures.items ∙ ap (λ r. map (with_told c.in-Update.command r) c.args.self.now.opened.items) c.result_of_code.ensures)
 
 pub returns-in_default-rc-clause-table : goal.returns-in_default-rc-clause-table
 returns-in_default-rc-clause-table c = λ t is up.
