@@ -28,19 +28,34 @@ fn told_under(
     told(alloc, parcel.of(name).expect(rt, "a part of that name"))
 }
 
+/// Whether the block has the content.
+fn holds(alloc: Global, block: Block, want: &str) -> Result<bool, AllocError> {
+    Ok(told(alloc, &block)?.as_str() == want)
+}
+
+fn added(alloc: Global, letter: Letter, text: &str) -> Result<Block, AllocError> {
+    let mut block = Block::new(alloc);
+    block.add(letter, text)?;
+    Ok(block)
+}
+
+fn given(alloc: Global, letter: Letter, text: &str) -> Result<Block, AllocError> {
+    Block::of_text(alloc, letter, Text::from_str(alloc, text)?)
+}
+
+fn in_a_parcel(alloc: Global, letter: Letter, text: &str) -> Result<Block, AllocError> {
+    let parcel = Parcel::of_str(alloc, LogName::stdio(), letter, text)?;
+    parcel.parts()[0].block.copy()
+}
+
 /// Whether each way to cut the text gives the content.
 fn is_cut(alloc: Global, letter: Letter, text: &str, want: &str) -> Result<bool, AllocError> {
-    let mut added = Block::new(alloc);
-    added.add(letter, text)?;
-    let given = Block::of_text(alloc, letter, Text::from_str(alloc, text)?)?;
-    let read = Block::of_str(alloc, letter, text)?;
-    let parcel = Parcel::of_str(alloc, LogName::stdio(), letter, text)?;
     Ok(
-        told(alloc, &cut(alloc, letter, text)?)?.as_str() == want
-            && told(alloc, &added)?.as_str() == want
-            && told(alloc, &given)?.as_str() == want
-            && told(alloc, &read)?.as_str() == want
-            && content(alloc, parcel.parts()[0].block.lines())?.as_str() == want,
+        holds(alloc, cut(alloc, letter, text)?, want)?
+            && holds(alloc, added(alloc, letter, text)?, want)?
+            && holds(alloc, given(alloc, letter, text)?, want)?
+            && holds(alloc, Block::of_str(alloc, letter, text)?, want)?
+            && holds(alloc, in_a_parcel(alloc, letter, text)?, want)?,
     )
 }
 
@@ -121,28 +136,49 @@ fn copies_of_names_are_equal(rt: HostRuntime) -> Result<(), Fail> {
     Ok(())
 }
 
+/// Adds the text to the parcel.
+fn add(
+    rt: &impl Abort,
+    alloc: Global,
+    parcel: &mut Parcel,
+    (name, letter, text): (&str, Letter, &str),
+) -> Result<(), AllocError> {
+    let name = named(rt, alloc, name)?;
+    parcel.add(&name, letter, text)
+}
+
+/// Whether the parcel has the content under each name, and no other part.
+fn has(
+    rt: &impl Abort,
+    alloc: Global,
+    parcel: &Parcel,
+    wants: &[(&str, &str)],
+) -> Result<bool, AllocError> {
+    for (name, want) in wants {
+        if told_under(rt, alloc, parcel, name)?.as_str() != *want {
+            return Ok(false);
+        }
+    }
+    Ok(parcel.parts().len() == wants.len())
+}
+
 #[test]
 fn items_join_under_their_names(rt: HostRuntime) -> Result<(), Fail> {
     let alloc = rt.alloc();
-    let stdio = named(&rt, alloc, "stdio")?;
-    let other = named(&rt, alloc, "l")?;
     let mut parcel = Parcel::new(alloc);
-    parcel.add(&stdio, Letter::O, "a\n")?;
-    parcel.add(&other, Letter::O, "")?;
-    parcel.add(&stdio, Letter::O, "s\n")?;
+    let items = [
+        ("stdio", Letter::O, "a\n"),
+        ("l", Letter::O, ""),
+        ("stdio", Letter::O, "s\n"),
+    ];
+    for item in items {
+        add(&rt, alloc, &mut parcel, item)?;
+    }
     let copy = parcel.copy()?;
-    parcel.add(&stdio, Letter::E, "b\n")?;
-    assert_eq!(rt;
-        told_under(&rt, alloc, &parcel, "stdio")?.as_str(),
-        "oa\nos\neb\n"
-    );
-    assert_eq!(rt; told_under(&rt, alloc, &parcel, "l")?.as_str(), "");
+    add(&rt, alloc, &mut parcel, ("stdio", Letter::E, "b\n"))?;
+    assert!(rt; has(&rt, alloc, &parcel, &[("stdio", "oa\nos\neb\n"), ("l", "")])?);
     assert!(rt; parcel.of("m").is_none());
-    assert_eq!(rt; parcel.parts().len(), 2);
-    assert_eq!(rt;
-        told_under(&rt, alloc, &copy, "stdio")?.as_str(),
-        "oa\nos\n"
-    );
+    assert!(rt; has(&rt, alloc, &copy, &[("stdio", "oa\nos\n"), ("l", "")])?);
     Ok(())
 }
 
@@ -171,15 +207,12 @@ fn given_texts_join_under_their_names(rt: HostRuntime) -> Result<(), Fail> {
     for item in items {
         give(&rt, alloc, &mut parcel, item)?;
     }
-    assert_eq!(rt; parcel.parts().len(), 3);
     let wants = [
         ("stdio", "ea\nhd\n"),
         ("l", "ob\noc\nob\noc\n"),
         ("m", "ob\noc\n"),
     ];
-    for (name, want) in wants {
-        assert_eq!(rt; told_under(&rt, alloc, &parcel, name)?.as_str(), want);
-    }
+    assert!(rt; has(&rt, alloc, &parcel, &wants)?);
     Ok(())
 }
 

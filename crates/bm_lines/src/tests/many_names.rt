@@ -54,22 +54,33 @@ fn is_whole(
     Ok(parcel.parts().len() == NAMES as usize && parcel.of("a").is_none())
 }
 
+/// The parcel of all names, each with one line.
+fn of_all(rt: &impl Abort, alloc: Global) -> Result<Parcel, AllocError> {
+    let mut builder = ParcelBuilder::new(alloc);
+    for place in 0..NAMES {
+        let name = numbered(rt, alloc, number_at(place))?;
+        builder.add_text(&name, Letter::O, Text::from_str(alloc, "a")?)?;
+    }
+    Ok(builder.into_parcel())
+}
+
+/// The parcel with a line more under each name.
+fn with_more(rt: &impl Abort, alloc: Global, parcel: &Parcel) -> Result<Parcel, AllocError> {
+    let mut copy = parcel.copy()?;
+    for number in 0..NAMES {
+        let name = numbered(rt, alloc, number)?;
+        copy.add(&name, Letter::E, "b")?;
+    }
+    Ok(copy)
+}
+
 #[test]
 fn many_names_keep_their_places(rt: HostRuntime) -> Result<(), Fail> {
     let alloc = rt.alloc();
-    let mut builder = ParcelBuilder::new(alloc);
-    for place in 0..NAMES {
-        let name = numbered(&rt, alloc, number_at(place))?;
-        builder.add_text(&name, Letter::O, Text::from_str(alloc, "a")?)?;
-    }
-    let parcel = builder.into_parcel();
+    let parcel = of_all(&rt, alloc)?;
     assert!(rt; is_whole(&rt, alloc, &parcel, "oa\n")?);
-    let mut copy = parcel.copy()?;
-    for number in 0..NAMES {
-        let name = numbered(&rt, alloc, number)?;
-        copy.add(&name, Letter::E, "b")?;
-    }
-    assert!(rt; is_whole(&rt, alloc, &copy, "oa\neb\n")?);
+    let more = with_more(&rt, alloc, &parcel)?;
+    assert!(rt; is_whole(&rt, alloc, &more, "oa\neb\n")?);
     assert!(rt; is_whole(&rt, alloc, &parcel, "oa\n")?);
     Ok(())
 }
