@@ -54,12 +54,22 @@ fn is_whole(
     Ok(parcel.parts().len() == NAMES as usize && parcel.of("a").is_none())
 }
 
+/// Gives the builder a line under the name at the place.
+fn give(
+    rt: &impl Abort,
+    alloc: Global,
+    builder: &mut ParcelBuilder,
+    place: u32,
+) -> Result<(), AllocError> {
+    let name = numbered(rt, alloc, number_at(place))?;
+    builder.add_text(&name, Letter::O, Text::from_str(alloc, "a")?)
+}
+
 /// The parcel of all names, each with one line.
 fn of_all(rt: &impl Abort, alloc: Global) -> Result<Parcel, AllocError> {
     let mut builder = ParcelBuilder::new(alloc);
     for place in 0..NAMES {
-        let name = numbered(rt, alloc, number_at(place))?;
-        builder.add_text(&name, Letter::O, Text::from_str(alloc, "a")?)?;
+        give(rt, alloc, &mut builder, place)?;
     }
     Ok(builder.into_parcel())
 }

@@ -15,12 +15,23 @@ fn name_of(rt: &impl Abort, alloc: Global, number: u32) -> Result<LogName, Alloc
     Ok(LogName::new(alloc, digits.as_str())?.expect(rt, "a name of a log"))
 }
 
+/// Gives the builder a text for the log.
+fn give(
+    rt: &impl Abort,
+    alloc: Global,
+    builder: &mut ParcelBuilder,
+    number: u32,
+    text: &str,
+) -> Result<(), AllocError> {
+    let name = name_of(rt, alloc, number)?;
+    builder.add_text(&name, Letter::O, Text::from_str(alloc, text)?)
+}
+
 /// The text for each log.
 fn for_each(rt: &impl Abort, alloc: Global, text: &str) -> Result<Item, AllocError> {
     let mut builder = ParcelBuilder::new(alloc);
     for number in 0..LOGS {
-        let name = name_of(rt, alloc, number)?;
-        builder.add_text(&name, Letter::O, Text::from_str(alloc, text)?)?;
+        give(rt, alloc, &mut builder, number, text)?;
     }
     Ok(Item::Lines(0, builder.into_parcel()))
 }
