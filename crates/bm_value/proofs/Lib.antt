@@ -2,6 +2,7 @@ pub mod Utf8
 pub mod ShortTexts
 pub mod Covered
 pub mod Values
+pub mod Trees
 pub mod Loops
 pub mod Soundness
 pub mod Completeness
