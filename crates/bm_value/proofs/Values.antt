@@ -26,17 +26,6 @@ unfolding value_at
 value_at-is zero bytes = refl
 value_at-is (suc room) bytes = refl
 
-pub no_byte : (room : ℕ) (bytes : List ℕ) → length bytes < 1 → value_at room bytes ≡ Err Truncated
-no_byte room [] h = value_at-is room []
-no_byte room (b ∷ bytes) h = absurd (omega arith)
-
-pub first_byte : (room : ℕ) (bytes : List ℕ) (r : Row) → 0 < length bytes → r ≡ row (get_or bytes 0 0) → value_at room bytes ≡ row_with (inner room) r (drop 1 bytes)
-first_byte room [] r h is = absurd (omega arith)
-first_byte room (b ∷ bytes) r h is = value_at-is room (b ∷ bytes) ∙ ap (λ (x : Row). row_with (inner room) x bytes) (sym is)
-
-pub gives_along : {X Y : Type 0} (view : X → Y) (r : Result X DecodeError) (a b : Result Y DecodeError) → a ≡ b → Gives view r a → Gives view r b
-gives_along view r a b e h = subst (λ x. Gives view r x) e h
-
 pub items_tree-of : {A : Type 0} (v : Vec (Value A) A) → items_tree (roll-Items A record { vec = v }) ≡ trees_of (map tree v.items)
 items_tree-of {A} v = fold-roll-Items A Tree Trees TreePair TreePairs value_step items_step pair_step pairs_step record { vec = v }
 
@@ -48,24 +37,6 @@ tree-Map {A} p = ap tree (sym (rolls-Map p)) ∙ fold-roll-Value A Tree Trees Tr
 
 pub tree-Array : {A : Type 0} (x : Items A) → tree (Array x) ≡ array (items_tree x)
 tree-Array {A} x = ap tree (sym (rolls-Array x)) ∙ fold-roll-Value A Tree Trees TreePair TreePairs value_step items_step pair_step pairs_step (Value-F.Array x)
-
-pub tail_is : (bytes : List ℕ) → take (length bytes - 1) (drop 1 bytes) ≡ drop 1 bytes
-tail_is bytes = take_rest bytes 1
-
--- what stands behind the first byte is read by its row
-pub gives_row : {X : Type 0} (view : X → Tree × List ℕ) (out : Result X DecodeError) (room : ℕ) (bytes : List ℕ) (r : Row) → 0 < length bytes → r ≡ row (get_or bytes 0 0)
-    → Gives view out (row_with (inner room) r (take (length bytes - 1) (drop 1 bytes))) → Gives view out (value_at room bytes)
-gives_row view out room bytes r h is given =
-    subst (λ x. Gives view out x) (ap (row_with (inner room) r) (tail_is bytes) ∙ sym (first_byte room bytes r h is)) given
-
-pub behind_first : (room : ℕ) (bytes : List ℕ) → 0 < length bytes → row_with (inner room) (row (get_or bytes 0 0)) (take (length bytes - 1) (drop 1 bytes)) ≡ value_at room bytes
-behind_first room bytes h = ap (row_with (inner room) (row (get_or bytes 0 0))) (tail_is bytes) ∙ sym (first_byte room bytes (row (get_or bytes 0 0)) h refl)
-
--- a number without a sign, and the bytes behind it
-pub unsigned_read : (first room : ℕ) (rest : List ℕ) (w : Wide) (n : ℕ) (after : List ℕ) → row first ≡ rows.Plain (plain.Unsigned w) → number_at (width w) rest ≡ Ok (n, after)
-    → row_with (inner room) (row first) rest ≡ Ok (int (pos n), after)
-unfolding plain_at
-unsigned_read first room rest w n after is read = ap (λ r. row_with (inner room) r rest) is ∙ ap (mapped (λ k. int (pos k))) read
 
 pub array_read : (room : ℕ) (s : Size) (bytes : List ℕ) (n : ℕ) (rest : List ℕ) (ts : Trees) (after : List ℕ) → 0 < room → length_at s bytes ≡ Ok (n, rest) → items_at (value_at (room - 1)) n rest ≡ Ok (ts, after)
     → array_with (inner room) s bytes ≡ Ok (array ts, after)

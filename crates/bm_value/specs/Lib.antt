@@ -1,7 +1,6 @@
 pub mod Num
 pub mod Tree
 pub mod View
-pub mod Kept
 pub mod Field
 pub mod Row
 pub mod Reading
