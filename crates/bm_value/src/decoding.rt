@@ -19,7 +19,8 @@ use std::alloc::Allocator;
 /// # Errors
 ///
 /// The first fault from the left: `Truncated`, `Reserved`, `BadUtf8`, or `TooDeep` where arrays and
-/// maps nest deeper than 32. `Mem` where the allocator refused a request, at the place of the growth.
+/// maps nest deeper than 32. `Mem` where the allocator refused a request, at the place of the
+/// growth.
 pub fn decode<A: Allocator + Copy>(alloc: A, bytes: &[u8]) -> Result<(Value<A>, usize), DecodeError>
     // What is answered is spelled so.
     ensures found { IfOk result (λ x. Reads bytes.now (tree x.0) x.1) }
@@ -50,7 +51,8 @@ pub fn decode_whole<A: Allocator + Copy>(alloc: A, bytes: &[u8]) -> Result<Value
     ensures only { (t : Tree) → Spells bytes.now t → depth t ≤ 32 → DecodesWhole result (Ok t) }
     ensures trailing { result ≡ Err DecodeError.Trailing → Trails bytes.now }
     ensures trails { Trails bytes.now → DecodesWhole result (Err DecodeError.Trailing) }
-    ensures fault { IfErr result (λ e. e ≢ DecodeError.Mem → e ≢ DecodeError.Trailing → Fails bytes.now 0 e) }
+    ensures fault { IfErr result (λ e. e ≢ DecodeError.Mem → e ≢ DecodeError.Trailing
+        → Fails bytes.now 0 e) }
     ensures refused { (f : DecodeError) → Fails bytes.now 0 f → DecodesWhole result (Err f) }
 {
     let mut reader = Reader { alloc, rest: bytes };

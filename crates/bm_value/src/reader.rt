@@ -15,7 +15,8 @@ use crate::value::{Items, Pair, Pairs, Value};
 use std::alloc::Allocator;
 use std::str::from_utf8;
 
-/// The bytes that are left to be read, and where what is read shall lie. After an error what is left has no meaning.
+/// The bytes that are left to be read, and where what is read shall lie. After an error nothing is
+/// said of what is left.
 #[derive(Drop)]
 pub struct Reader<'a, A: Allocator> {
     pub alloc: A,
@@ -36,28 +37,32 @@ impl<'a, A: Allocator + Copy> Reader<'a, A> {
     }
 
     fn one(&mut self) -> Result<u8, DecodeError>
-        ensures { Gives (λ n. (n, self.new.rest.now)) result (number_at (width wide.One) self.old.rest.now) }
+        ensures { Gives (λ n. (n, self.new.rest.now)) result
+            (number_at (width wide.One) self.old.rest.now) }
     {
         let b = self.bytes(1)?;
         Ok(b[0])
     }
 
     fn two(&mut self) -> Result<u16, DecodeError>
-        ensures { Gives (λ n. (n, self.new.rest.now)) result (number_at (width wide.Two) self.old.rest.now) }
+        ensures { Gives (λ n. (n, self.new.rest.now)) result
+            (number_at (width wide.Two) self.old.rest.now) }
     {
         let b = self.bytes(2)?;
         Ok(u16::from_be_bytes([b[0], b[1]]))
     }
 
     fn four(&mut self) -> Result<u32, DecodeError>
-        ensures { Gives (λ n. (n, self.new.rest.now)) result (number_at (width wide.Four) self.old.rest.now) }
+        ensures { Gives (λ n. (n, self.new.rest.now)) result
+            (number_at (width wide.Four) self.old.rest.now) }
     {
         let b = self.bytes(4)?;
         Ok(u32::from_be_bytes([b[0], b[1], b[2], b[3]]))
     }
 
     fn eight(&mut self) -> Result<u64, DecodeError>
-        ensures { Gives (λ n. (n, self.new.rest.now)) result (number_at (width wide.Eight) self.old.rest.now) }
+        ensures { Gives (λ n. (n, self.new.rest.now)) result
+            (number_at (width wide.Eight) self.old.rest.now) }
     {
         let b = self.bytes(8)?;
         Ok(u64::from_be_bytes([b[0], b[1], b[2], b[3], b[4], b[5], b[6], b[7]]))
@@ -65,7 +70,8 @@ impl<'a, A: Allocator + Copy> Reader<'a, A> {
 
     /// An unsigned number.
     fn number(&mut self, wide: Wide) -> Result<u64, DecodeError>
-        ensures { Gives (λ n. (n, self.new.rest.now)) result (number_at (width wide) self.old.rest.now) }
+        ensures { Gives (λ n. (n, self.new.rest.now)) result
+            (number_at (width wide) self.old.rest.now) }
     {
         match wide {
             Wide::One => Ok(u64::from(self.one()?)),
@@ -121,7 +127,8 @@ impl<'a, A: Allocator + Copy> Reader<'a, A> {
     /// An application's type and its bytes.
     #[tactic(auto, unfolding(crate::specs::Reading::extension_at))]
     fn extension(&mut self, size: Size) -> Result<(i8, Bytes<A>), DecodeError>
-        ensures { Gives (λ x. ((x.0, x.1), self.new.rest.now)) result (extension_at size self.old.rest.now) }
+        ensures { Gives (λ x. ((x.0, x.1), self.new.rest.now)) result
+            (extension_at size self.old.rest.now) }
     {
         let n = self.length(size)?;
         let kind = self.one()?;
@@ -135,7 +142,8 @@ impl<'a, A: Allocator + Copy> Reader<'a, A> {
     /// A value with no value inside, behind its first byte.
     #[tactic(auto, unfolding(crate::specs::Reading::plain_at))]
     fn plain(&mut self, plain: Plain) -> Result<Value<A>, DecodeError>
-        ensures { Gives (λ v. (tree v, self.new.rest.now)) result (plain_at plain self.old.rest.now) }
+        ensures { Gives (λ v. (tree v, self.new.rest.now)) result
+            (plain_at plain self.old.rest.now) }
     {
         match plain {
             Plain::Nil => Ok(Value::Nil),
@@ -157,7 +165,8 @@ impl<'a, A: Allocator + Copy> Reader<'a, A> {
     /// The value at the front, where arrays and maps may nest `room` deep.
     #[cycle(read)]
     pub fn value(&mut self, room: u32) -> Result<Value<A>, DecodeError>
-        ensures { Gives (λ v. (tree v, self.new.rest.now)) result (value_at room self.old.rest.now) }
+        ensures { Gives (λ v. (tree v, self.new.rest.now)) result
+            (value_at room self.old.rest.now) }
     {
         let first = self.one()?;
         match row_of(first) {
@@ -170,7 +179,8 @@ impl<'a, A: Allocator + Copy> Reader<'a, A> {
 
     #[cycle(read)]
     fn array(&mut self, size: Size, room: u32) -> Result<Value<A>, DecodeError>
-        ensures { Gives (λ v. (tree v, self.new.rest.now)) result (array_with (inner room) size self.old.rest.now) }
+        ensures { Gives (λ v. (tree v, self.new.rest.now)) result
+            (array_with (inner room) size self.old.rest.now) }
     {
         if room == 0 {
             return Err(DecodeError::TooDeep);
@@ -182,7 +192,8 @@ impl<'a, A: Allocator + Copy> Reader<'a, A> {
 
     #[cycle(read)]
     fn map(&mut self, size: Size, room: u32) -> Result<Value<A>, DecodeError>
-        ensures { Gives (λ v. (tree v, self.new.rest.now)) result (map_with (inner room) size self.old.rest.now) }
+        ensures { Gives (λ v. (tree v, self.new.rest.now)) result
+            (map_with (inner room) size self.old.rest.now) }
     {
         if room == 0 {
             return Err(DecodeError::TooDeep);
@@ -195,7 +206,8 @@ impl<'a, A: Allocator + Copy> Reader<'a, A> {
     /// So many values. Memory is taken for those that were read, never by their claimed count.
     #[cycle(read)]
     fn items(&mut self, count: u64, room: u32) -> Result<Items<A>, DecodeError>
-        ensures { Gives (λ x. (items_tree x, self.new.rest.now)) result (items_at (value_at room) count self.old.rest.now) }
+        ensures { Gives (λ x. (items_tree x, self.new.rest.now)) result
+            (items_at (value_at room) count self.old.rest.now) }
     {
         let mut vec = Vec::new(self.alloc);
         'items: for _ in 0..count {
@@ -208,7 +220,8 @@ impl<'a, A: Allocator + Copy> Reader<'a, A> {
     /// So many pairs, as the items of an array.
     #[cycle(read)]
     fn pairs(&mut self, count: u64, room: u32) -> Result<Pairs<A>, DecodeError>
-        ensures { Gives (λ x. (pairs_tree x, self.new.rest.now)) result (pairs_at (value_at room) count self.old.rest.now) }
+        ensures { Gives (λ x. (pairs_tree x, self.new.rest.now)) result
+            (pairs_at (value_at room) count self.old.rest.now) }
     {
         let mut vec = Vec::new(self.alloc);
         'pairs: for _ in 0..count {
@@ -220,7 +233,8 @@ impl<'a, A: Allocator + Copy> Reader<'a, A> {
 
     #[cycle(read)]
     fn pair(&mut self, room: u32) -> Result<Pair<A>, DecodeError>
-        ensures { Gives (λ x. (pair_tree x, self.new.rest.now)) result (pair_at (value_at room) self.old.rest.now) }
+        ensures { Gives (λ x. (pair_tree x, self.new.rest.now)) result
+            (pair_at (value_at room) self.old.rest.now) }
     {
         let key = self.value(room)?;
         let value = self.value(room)?;

@@ -92,7 +92,7 @@ fn a_fault_before_the_refused_request_is_told(rt: HostRuntime) {
     assert!(rt; !heap.is_spent());
 }
 
-/// Whether the output is left at its one byte by want of memory, and the value is then written behind that.
+/// Whether want of memory left the output at its one byte, and the value is then written behind it.
 fn is_left<A: Allocator>(fault: Option<EncodeError>, value: &Value, out: &mut Vec<u8, A>) -> bool {
     fault == Some(EncodeError::Mem) && out.as_slice() == [7].as_slice() && is_appended(value, out)
 }
