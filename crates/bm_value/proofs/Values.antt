@@ -1,15 +1,8 @@
 -- A value by its first byte, and values level by level.
-use Rattle.std.proofs.Common.{◌≡◌, ℕ, zero, suc, pos, ◌<◌, ◌-◌, List, [], ◌∷◌, length, get_or, take, drop, map, Result, Ok, Err, Vec, refl, sym, ap, subst, ◌∙◌, arith}
-use Rattle.bm_value.specs.Row.{width, row}
-use Rattle.bm_value.specs.Tree.{Tree, int, array, dict, Trees, TreePair, Pairs as TreePairs}
+use Rattle.std.proofs.Common.{◌≡◌, ℕ, zero, suc, ◌<◌, ◌-◌, List, map, Ok, Vec, refl, sym, ap, ◌∙◌, arith}
+use Rattle.bm_value.specs.Tree.{Tree, array, dict, Trees, TreePair, Pairs as TreePairs}
 use Rattle.bm_value.specs.View.{value_step, items_step, pair_step, pairs_step, tree, trees_of, pairs_of, pair_tree, items_tree, pairs_tree}
-use Rattle.bm_value.specs.Reading.{Gives, mapped, ◌>>=◌, number_at, length_at, plain_at, items_at, pairs_at, array_with, map_with, value_at, value_with, row_with, inner}
-use Rattle.bm_value.specs.declared.fault.DecodeError.{DecodeError}
-use Rattle.bm_value.specs.declared.fault.DecodeError.TheVariants.{Truncated}
-use Rattle.bm_value.specs.declared.row.Row.{Row}
-use Rattle.bm_value.specs.declared.row.Row.TheVariants as rows
-use Rattle.bm_value.specs.declared.row.Plain.TheVariants as plain
-use Rattle.bm_value.specs.declared.row.Wide.{Wide}
+use Rattle.bm_value.specs.Reading.{mapped, ◌>>=◌, length_at, items_at, pairs_at, array_with, map_with, value_at, value_with, inner}
 use Rattle.bm_value.specs.declared.value.Items.{Items}
 use Rattle.bm_value.specs.declared.value.Value.{Value, Map, Array}
 use Rattle.bm_value.specs.declared.value.Pair.{Pair}
@@ -18,7 +11,6 @@ use Rattle.bm_value.specs.declared.value.Value.TheViews.{roll-Items, roll-Pairs}
 use Rattle.bm_value.specs.declared.value.Value.TheVariants.{rolls-Map, rolls-Array}
 use Rattle.bm_value.specs.declared.value.Value.TheOpen.{Value-F}
 use Rattle.bm_value.specs.declared.value.Value.TheFolds.{fold-roll-Value, fold-roll-Items, fold-roll-Pairs}
-use Rattle.std.proofs.lemmas.List.{take_rest}
 use Rattle.bm_value.specs.declared.row.Size.{Size}
 
 pub value_at-is : (room : ℕ) (bytes : List ℕ) → value_at room bytes ≡ value_with (inner room) bytes
