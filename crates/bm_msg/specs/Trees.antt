@@ -1,8 +1,10 @@
--- The trees that messages are written as: the number and the operation first, then the keys of the operation.
+-- The trees that messages are written as: the number and the operation first, then the keys of
+-- the operation.
 use Rattle.std.specs.Prelude.{ℕ, pos, Bool, true, false, List, [], ◌∷◌, map, codes, Option, Some, None}
 use Rattle.std.specs.Fmt.{decimal}
 use Rattle.bm_value.specs.Tree.{Tree, nil, bool, int, str, array, dict, none, item, TreePair}
 use Rattle.bm_value.specs.View.{trees_of, pairs_of}
+use Rattle.bm_value.specs.Writing.{written}
 use Rattle.bm_lines.specs.declared.line.Letter.{Letter}
 use Rattle.bm_lines.specs.declared.line.Letter.TheVariants.{O, E, H}
 use Rattle.bm_msg.specs.declared.field.Field.{Field}
@@ -53,14 +55,17 @@ command_key command = at (codes "command_id") (str (decimal command))
 
 -- the further keys of a request
 abbrev pub keys_of : Asked → List TreePair
-keys_of (auth username password session) = at (codes "username") (str username) ∷ at (codes "password") (str password) ∷ session_key session
-keys_of (update command fields) = command_key command ∷ at (codes "args") (array (trees_of (map item_of fields))) ∷ []
+keys_of (auth username password session) =
+    at (codes "username") (str username) ∷ at (codes "password") (str password) ∷ session_key session
+keys_of (update command fields) =
+    command_key command ∷ at (codes "args") (array (trees_of (map item_of fields))) ∷ []
 keys_of (complete command fault) = command_key command ∷ at (codes "args") (fault_tree fault) ∷ []
 keys_of (print message) = at (codes "message") (str message) ∷ []
 keys_of keepalive = []
 keys_of get_worker_info = []
 keys_of shutdown = []
-keys_of (start_command command name args) = command_key command ∷ at (codes "command_name") (str name) ∷ at (codes "args") args ∷ []
+keys_of (start_command command name args) =
+    command_key command ∷ at (codes "command_name") (str name) ∷ at (codes "args") args ∷ []
 keys_of (interrupt_command command why) = command_key command ∷ at (codes "why") (str why) ∷ []
 keys_of (unknown op) = []
 
@@ -70,10 +75,20 @@ exception_key true = at (codes "is_exception") (bool true) ∷ []
 exception_key false = []
 
 abbrev pub message_tree : ℕ → List ℕ → List TreePair → Tree
-message_tree n op keys = dict (pairs_of (at (codes "seq_number") (int (pos n)) ∷ at (codes "op") (str op) ∷ keys))
+message_tree n op keys =
+    dict (pairs_of (at (codes "seq_number") (int (pos n)) ∷ at (codes "op") (str op) ∷ keys))
 
 -- the tree of a message
 abbrev pub tree_of : Meaning → Tree
 tree_of (request n asked) = message_tree n (op_of asked) (keys_of asked)
 tree_of (response n result exception) =
     message_tree n (codes "response") (at (codes "result") result ∷ exception_key exception)
+
+-- the response that is nil, or the exception with this text
+abbrev pub answer : ℕ → Option (List ℕ) → Meaning
+answer n None = response n nil false
+answer n (Some text) = response n (str text) true
+
+-- the bytes of that response
+unfoldable pub answer_bytes : ℕ → Option (List ℕ) → List ℕ
+answer_bytes n exception = written (tree_of (answer n exception))

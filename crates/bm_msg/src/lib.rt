@@ -1,11 +1,14 @@
-//! The messages between a build master and a worker, read from MessagePack trees and written as bytes.
+//! The messages between a build master and a worker, read from MessagePack trees and written as
+//! bytes.
 //!
 //! The messages are those of the master-worker protocol of the Buildbot manual, MessagePack over
-//! WebSocket. The items of an update, the item `log` and the key `session` of `auth` are this project's profile.
+//! WebSocket. The items of an update, the item `log` and the key `session` of `auth` are this
+//! project's profile.
 #![tactic(auto)]
 
 mod fault;
 mod field;
+mod incoming;
 mod items;
 mod keys;
 mod kind;
@@ -21,8 +24,10 @@ mod writing;
 
 pub use fault::MsgError;
 pub use field::{Field, Fields};
+pub use incoming::Incoming;
+pub use keys::{LONGEST_SESSION, NUMBER_LIMIT};
 pub use message::{Message, Numbered, Response};
 pub use reading::read;
 pub use request::Request;
 pub use text_update::{TextUpdate, read_text};
-pub use writing::{write_request, write_response};
+pub use writing::{write_answer, write_request, write_response};

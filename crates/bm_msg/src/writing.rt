@@ -1,13 +1,14 @@
 //! Messages as bytes.
 
-ghost use Rattle.std.specs.Prelude.{◌≡◌, ◌<◌, ◌≤◌, ◌↔◌, ◌++◌, ◌∷◌, [], pos, map, codes, IfOk, OnOk, OnErr, IsErrOf};
+ghost use Rattle.std.specs.Prelude.{◌≡◌, ◌<◌, ◌≤◌, ◌^◌, ◌↔◌, length, ◌++◌, ◌∷◌, [], pos, map, codes, IfOk, OnOk, OnErr, IsErrOf, IfSome};
+ghost use Rattle.std.specs.Option.{option_copied};
 ghost use Rattle.bm_value.specs.Decoding.{IsReadBack};
 ghost use Rattle.bm_value.specs.Limits.{IsShort};
 ghost use Rattle.bm_value.specs.Tree.{depth, str, int, array, dict};
 ghost use Rattle.bm_value.specs.View.{tree, trees_of, pairs_of, pair_tree};
 ghost use Rattle.bm_value.specs.Writing.{written};
 ghost use Rattle.bm_msg.specs.Meaning.{asked, auth, start_command, request, response};
-ghost use Rattle.bm_msg.specs.Trees.{at, two, item_of, stream_of, op_of, session_key, fault_tree, command_key, keys_of, exception_key, tree_of};
+ghost use Rattle.bm_msg.specs.Trees.{at, two, item_of, stream_of, op_of, session_key, fault_tree, command_key, keys_of, exception_key, tree_of, answer, answer_bytes};
 ghost use Rattle.bm_msg.specs.Limits.{request_tree, response_tree};
 
 use crate::field::{Field, Fields};
@@ -25,7 +26,8 @@ fn put(
     key: &str,
     value: Value<Global>,
 ) -> Result<(), AllocError>
-    ensures { OnOk result (map pair_tree keys.new.items ≡ map pair_tree keys.old.items ++ at key.now (tree value) ∷ []) }
+    ensures { OnOk result (map pair_tree keys.new.items
+        ≡ map pair_tree keys.old.items ++ at key.now (tree value) ∷ []) }
 {
     keys.push(Pair {
         key: Value::from_str(alloc, key)?,
@@ -36,7 +38,8 @@ fn put(
 
 /// The keys that every message has.
 fn first_keys(alloc: Global, seq: u64, op: &str) -> Result<Vec<Pair<Global>>, AllocError>
-    ensures { IfOk result (λ v. map pair_tree v.items ≡ at (codes "seq_number") (int (pos seq)) ∷ at (codes "op") (str op.now) ∷ []) }
+    ensures { IfOk result (λ v. map pair_tree v.items
+        ≡ at (codes "seq_number") (int (pos seq)) ∷ at (codes "op") (str op.now) ∷ []) }
 {
     let mut keys = Vec::with_capacity(alloc, 5)?;
     put(alloc, &mut keys, "seq_number", Value::Int(Num::of_u64(seq)))?;
@@ -99,7 +102,8 @@ fn items(alloc: Global, fields: &Fields) -> Result<Value<Global>, AllocError>
 }
 
 fn command_key(alloc: Global, keys: &mut Vec<Pair<Global>>, command: u64) -> Result<(), AllocError>
-    ensures { OnOk result (map pair_tree keys.new.items ≡ map pair_tree keys.old.items ++ command_key command ∷ []) }
+    ensures { OnOk result (map pair_tree keys.new.items
+        ≡ map pair_tree keys.old.items ++ command_key command ∷ []) }
 {
     let number = command.to_string(alloc)?;
     put(
@@ -116,7 +120,8 @@ fn text_key(
     key: &str,
     said: &Text,
 ) -> Result<(), AllocError>
-    ensures { OnOk result (map pair_tree keys.new.items ≡ map pair_tree keys.old.items ++ at key.now (str said.now) ∷ []) }
+    ensures { OnOk result (map pair_tree keys.new.items
+        ≡ map pair_tree keys.old.items ++ at key.now (str said.now) ∷ []) }
 {
     put(alloc, keys, key, Value::from_str(alloc, said.as_str())?)
 }
@@ -153,7 +158,8 @@ fn session_key(
     keys: &mut Vec<Pair<Global>>,
     session: &Option<Text>,
 ) -> Result<(), AllocError>
-    ensures { OnOk result (map pair_tree keys.new.items ≡ map pair_tree keys.old.items ++ session_key session.now) }
+    ensures { OnOk result (map pair_tree keys.new.items
+        ≡ map pair_tree keys.old.items ++ session_key session.now) }
 {
     match session {
         Some(session) => text_key(alloc, keys, "session", session),
@@ -168,7 +174,8 @@ fn auth_keys(
     password: &Text,
     session: &Option<Text>,
 ) -> Result<(), AllocError>
-    ensures { OnOk result (map pair_tree keys.new.items ≡ map pair_tree keys.old.items ++ keys_of (auth username.now password.now session.now)) }
+    ensures { OnOk result (map pair_tree keys.new.items
+        ≡ map pair_tree keys.old.items ++ keys_of (auth username.now password.now session.now)) }
 {
     text_key(alloc, keys, "username", username)?;
     text_key(alloc, keys, "password", password)?;
@@ -182,7 +189,8 @@ fn start_keys(
     name: &Text,
     args: &Value<Global>,
 ) -> Result<(), AllocError>
-    ensures { OnOk result (map pair_tree keys.new.items ≡ map pair_tree keys.old.items ++ keys_of (start_command command name.now (tree args.now))) }
+    ensures { OnOk result (map pair_tree keys.new.items
+        ≡ map pair_tree keys.old.items ++ keys_of (start_command command name.now (tree args.now))) }
 {
     command_key(alloc, keys, command)?;
     text_key(alloc, keys, "command_name", name)?;
@@ -196,7 +204,8 @@ fn put_keys(
     keys: &mut Vec<Pair<Global>>,
     request: &Request,
 ) -> Result<(), AllocError>
-    ensures { OnOk result (map pair_tree keys.new.items ≡ map pair_tree keys.old.items ++ keys_of (asked request.now)) }
+    ensures { OnOk result (map pair_tree keys.new.items
+        ≡ map pair_tree keys.old.items ++ keys_of (asked request.now)) }
 {
     match request {
         Request::Auth {
@@ -246,21 +255,12 @@ fn written_map(alloc: Global, keys: Vec<Pair<Global>>) -> Result<Vec<u8>, AllocE
 }
 
 fn request_keys(alloc: Global, message: &Numbered) -> Result<Vec<Pair<Global>>, AllocError>
-    ensures { IfOk result (λ v. dict (pairs_of (map pair_tree v.items)) ≡ request_tree message.now) }
+    ensures { IfOk result (λ v. dict (pairs_of (map pair_tree v.items))
+        ≡ request_tree message.now) }
 {
     let mut keys = first_keys(alloc, message.seq, op_of(&message.request))?;
     put_keys(alloc, &mut keys, &message.request)?;
     Ok(keys)
-}
-
-fn request_bytes(alloc: Global, message: &Numbered) -> Result<Vec<u8>, AllocError>
-    requires nests { depth (request_tree message.now) ≤ 32 }
-    requires short { IsShort (request_tree message.now) }
-    ensures ok { IfOk result (λ v. v.items ≡ written (request_tree message.now)) }
-    ensures back { IfOk result (λ v. IsReadBack (request_tree message.now)) }
-{
-    let keys = request_keys(alloc, message)?;
-    written_map(alloc, keys)
 }
 
 fn put_exception(
@@ -268,7 +268,8 @@ fn put_exception(
     keys: &mut Vec<Pair<Global>>,
     exception: bool,
 ) -> Result<(), AllocError>
-    ensures { OnOk result (map pair_tree keys.new.items ≡ map pair_tree keys.old.items ++ exception_key exception) }
+    ensures { OnOk result (map pair_tree keys.new.items
+        ≡ map pair_tree keys.old.items ++ exception_key exception) }
 {
     if exception {
         put(alloc, keys, "is_exception", Value::Bool(true))?;
@@ -276,31 +277,36 @@ fn put_exception(
     Ok(())
 }
 
-fn response_keys(alloc: Global, message: &Response) -> Result<Vec<Pair<Global>>, AllocError>
-    ensures { IfOk result (λ v. dict (pairs_of (map pair_tree v.items)) ≡ response_tree message.now) }
+/// The keys of the response to request `seq`.
+fn result_keys(
+    alloc: Global,
+    seq: u64,
+    answered: Value<Global>,
+    exception: bool,
+) -> Result<Vec<Pair<Global>>, AllocError>
+    ensures { IfOk result (λ v. dict (pairs_of (map pair_tree v.items))
+        ≡ tree_of (response seq (tree answered) exception)) }
 {
-    let mut keys = first_keys(alloc, message.seq, "response")?;
-    let result = message.result.copy_into(alloc)?;
-    put(alloc, &mut keys, "result", result)?;
-    put_exception(alloc, &mut keys, message.exception)?;
+    let mut keys = first_keys(alloc, seq, "response")?;
+    put(alloc, &mut keys, "result", answered)?;
+    put_exception(alloc, &mut keys, exception)?;
     Ok(keys)
 }
 
-fn response_bytes(alloc: Global, message: &Response) -> Result<Vec<u8>, AllocError>
-    requires nests { depth (response_tree message.now) ≤ 32 }
-    requires short { IsShort (response_tree message.now) }
-    ensures ok { IfOk result (λ v. v.items ≡ written (response_tree message.now)) }
-    ensures back { IfOk result (λ v. IsReadBack (response_tree message.now)) }
+fn response_keys(alloc: Global, message: &Response) -> Result<Vec<Pair<Global>>, AllocError>
+    ensures { IfOk result (λ v. dict (pairs_of (map pair_tree v.items))
+        ≡ response_tree message.now) }
 {
-    let keys = response_keys(alloc, message)?;
-    written_map(alloc, keys)
+    let result = message.result.copy_into(alloc)?;
+    result_keys(alloc, message.seq, result, message.exception)
 }
 
 fn request_written(alloc: Global, message: &Numbered) -> Result<Vec<u8>, EncodeError>
     ensures ok { IfOk result (λ v. v.items ≡ written (request_tree message.now)) }
     ensures back { IfOk result (λ v. IsReadBack (request_tree message.now)) }
     ensures deep { IsErrOf result EncodeError.TooDeep ↔ (32 < depth (request_tree message.now)) }
-    ensures long { IsErrOf result EncodeError.TooLong ↔ ((depth (request_tree message.now) ≤ 32) × ¬ IsShort (request_tree message.now)) }
+    ensures long { IsErrOf result EncodeError.TooLong
+        ↔ ((depth (request_tree message.now) ≤ 32) × ¬ IsShort (request_tree message.now)) }
 {
     if !request_nests(message) {
         return Err(EncodeError::TooDeep);
@@ -308,14 +314,16 @@ fn request_written(alloc: Global, message: &Numbered) -> Result<Vec<u8>, EncodeE
     if !is_short_request(message) {
         return Err(EncodeError::TooLong);
     }
-    Ok(request_bytes(alloc, message)?)
+    let keys = request_keys(alloc, message)?;
+    Ok(written_map(alloc, keys)?)
 }
 
 fn response_written(alloc: Global, message: &Response) -> Result<Vec<u8>, EncodeError>
     ensures ok { IfOk result (λ v. v.items ≡ written (response_tree message.now)) }
     ensures back { IfOk result (λ v. IsReadBack (response_tree message.now)) }
     ensures deep { IsErrOf result EncodeError.TooDeep ↔ (32 < depth (response_tree message.now)) }
-    ensures long { IsErrOf result EncodeError.TooLong ↔ ((depth (response_tree message.now) ≤ 32) × ¬ IsShort (response_tree message.now)) }
+    ensures long { IsErrOf result EncodeError.TooLong
+        ↔ ((depth (response_tree message.now) ≤ 32) × ¬ IsShort (response_tree message.now)) }
 {
     if !response_nests(message) {
         return Err(EncodeError::TooDeep);
@@ -323,7 +331,8 @@ fn response_written(alloc: Global, message: &Response) -> Result<Vec<u8>, Encode
     if !is_short_response(message) {
         return Err(EncodeError::TooLong);
     }
-    Ok(response_bytes(alloc, message)?)
+    let keys = response_keys(alloc, message)?;
+    Ok(written_map(alloc, keys)?)
 }
 
 /// The written form of a request: the number, the operation and its keys in the order of the
@@ -335,10 +344,14 @@ fn response_written(alloc: Global, message: &Response) -> Result<Vec<u8>, Encode
 /// `TooDeep` where the args of a `start_command` nest deeper than 31; `TooLong` where a part is
 /// longer than 2^32-1; `Mem` where memory ran out.
 pub fn write_request(alloc: Global, message: &Numbered) -> Result<Vec<u8>, EncodeError>
-    ensures ok { IfOk result (λ v. v.items ≡ written (tree_of (request message.now.seq (asked message.now.request)))) }
-    ensures back { IfOk result (λ v. IsReadBack (tree_of (request message.now.seq (asked message.now.request)))) }
-    ensures deep { IsErrOf result EncodeError.TooDeep ↔ (32 < depth (tree_of (request message.now.seq (asked message.now.request)))) }
-    ensures long { IsErrOf result EncodeError.TooLong ↔ ((depth (tree_of (request message.now.seq (asked message.now.request))) ≤ 32)
+    ensures ok { IfOk result (λ v. v.items
+        ≡ written (tree_of (request message.now.seq (asked message.now.request)))) }
+    ensures back { IfOk result (λ v.
+        IsReadBack (tree_of (request message.now.seq (asked message.now.request)))) }
+    ensures deep { IsErrOf result EncodeError.TooDeep
+        ↔ (32 < depth (tree_of (request message.now.seq (asked message.now.request)))) }
+    ensures long { IsErrOf result EncodeError.TooLong
+        ↔ ((depth (tree_of (request message.now.seq (asked message.now.request))) ≤ 32)
         × ¬ IsShort (tree_of (request message.now.seq (asked message.now.request)))) }
 {
     request_written(alloc, message)
@@ -352,13 +365,36 @@ pub fn write_request(alloc: Global, message: &Numbered) -> Result<Vec<u8>, Encod
 /// `TooDeep` where the result nests deeper than 31; `TooLong` where a part of it is longer than
 /// 2^32-1; `Mem` where memory ran out.
 pub fn write_response(alloc: Global, message: &Response) -> Result<Vec<u8>, EncodeError>
-    ensures ok { IfOk result (λ v. v.items ≡ written (tree_of (response message.now.seq (tree message.now.result) message.now.exception))) }
-    ensures back { IfOk result (λ v. IsReadBack (tree_of (response message.now.seq (tree message.now.result) message.now.exception))) }
+    ensures ok { IfOk result (λ v. v.items ≡ written (tree_of
+        (response message.now.seq (tree message.now.result) message.now.exception))) }
+    ensures back { IfOk result (λ v. IsReadBack (tree_of
+        (response message.now.seq (tree message.now.result) message.now.exception))) }
     ensures deep { IsErrOf result EncodeError.TooDeep
-        ↔ (32 < depth (tree_of (response message.now.seq (tree message.now.result) message.now.exception))) }
+        ↔ (32 < depth (tree_of
+        (response message.now.seq (tree message.now.result) message.now.exception))) }
     ensures long { IsErrOf result EncodeError.TooLong
-        ↔ ((depth (tree_of (response message.now.seq (tree message.now.result) message.now.exception)) ≤ 32)
-        × ¬ IsShort (tree_of (response message.now.seq (tree message.now.result) message.now.exception))) }
+        ↔ ((depth (tree_of
+        (response message.now.seq (tree message.now.result) message.now.exception)) ≤ 32)
+        × ¬ IsShort (tree_of
+        (response message.now.seq (tree message.now.result) message.now.exception))) }
 {
     response_written(alloc, message)
+}
+
+/// The written form of the response to request `seq` that is nil, or the exception with this text.
+/// It is read back, whatever follows it.
+#[tactic(auto, unfolding(crate::specs::Trees::answer_bytes))]
+pub fn write_answer(alloc: Global, seq: u64, exception: Option<&str>) -> Result<Vec<u8>, AllocError>
+    requires number { seq < 2 ^ 63 }
+    requires short { IfSome exception (λ text. length text.now < 2 ^ 32) }
+    ensures ok { IfOk result (λ v. v.items ≡ answer_bytes seq (option_copied exception.entry)) }
+    ensures back { IfOk result (λ v.
+        IsReadBack (tree_of (answer seq (option_copied exception.entry)))) }
+{
+    let result = match exception {
+        Some(text) => Value::from_str(alloc, text)?,
+        None => Value::Nil,
+    };
+    let keys = result_keys(alloc, seq, result, exception.is_some())?;
+    written_map(alloc, keys)
 }
