@@ -17,7 +17,7 @@ mod text;
 pub use block::{Block, append_content, content, cut};
 pub use builder::ParcelBuilder;
 pub use line::{Letter, Line};
-pub use log_name::LogName;
+pub use log_name::{LogName, MOST_NAME_BYTES, STDIO};
 pub use name_table::{FEW_NAMES, NameTable};
 pub use one_or_many::OneOrMany;
 pub use parcel::{Parcel, Part};

@@ -7,7 +7,10 @@ use std::marker::Model;
 use std::sync::Arc;
 
 /// The log of standard output, standard error and headers (Buildbot manual).
-const STDIO: &str = "stdio";
+pub const STDIO: &str = "stdio";
+
+/// As many bytes of UTF-8 the name of a log has at most (this project's profile).
+pub const MOST_NAME_BYTES: usize = 255;
 
 /// The name of a log: 1 to 255 bytes of UTF-8 (this project's profile).
 ///
@@ -46,7 +49,7 @@ impl LogName {
         if name == STDIO {
             return Ok(Some(LogName::stdio()));
         }
-        if name.is_empty() || name.len() > 255 {
+        if name.is_empty() || name.len() > MOST_NAME_BYTES {
             return Ok(None);
         }
         let text = Arc::new(alloc, Text::from_str(alloc, name)?)?;
