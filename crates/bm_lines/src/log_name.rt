@@ -1,3 +1,5 @@
+//! The name of a log.
+
 ghost use Rattle.std.specs.Prelude.{◌≡◌, IfOk, IfSome, IfNone, bytes_eq};
 ghost use Rattle.bm_lines.specs.Names.{IsLogName, stdio};
 
@@ -74,7 +76,6 @@ impl LogName {
     }
 
     /// Whether the names are the same. That two are `stdio` is seen without a look at their texts.
-    #[inline(always)]
     pub fn is_same(&self, other: &LogName) -> bool
         ensures { result ≡ bytes_eq self.now other.now }
     {

@@ -1,3 +1,5 @@
+//! A parcel that is put together.
+
 ghost use Rattle.std.specs.Prelude.{◌≡◌, [], OnOk, OnErr, IfOk};
 ghost use Rattle.bm_lines.specs.Lines.{lines_of};
 ghost use Rattle.bm_lines.specs.Parcels.{names_of, with_item};
@@ -51,18 +53,16 @@ impl ParcelBuilder {
         ensures err { OnErr result (self.new ≡ self.old) }
     {
         if self.places.is_none() && self.parcel.parts().len() < FEW_NAMES {
-            return self.parcel.add_text(name, letter, text);
+            return self.parcel.add(name, letter, text.as_str());
         }
-        self.add_by_table(name, letter, text)
+        self.add_by_table(name, letter, text.as_str())
     }
 
-    /// The same where a walk would take long.
+    /// Appends the lines of a text, where a walk over the names would take long.
     ///
     /// After want of memory there is no table; the next call makes it.
-    #[cold]
-    #[inline(never)]
-    fn add_by_table(&mut self, name: &LogName, letter: Letter, text: Text) -> Result<(), AllocError>
-        ensures ok { OnOk result (self.new ≡ with_item name.now (lines_of letter text) self.old) }
+    fn add_by_table(&mut self, name: &LogName, letter: Letter, text: &str) -> Result<(), AllocError>
+        ensures ok { OnOk result (self.new ≡ with_item name.now (lines_of letter text.now) self.old) }
         ensures err { OnErr result (self.new ≡ self.old) }
     {
         let places = match self.places.take() {
