@@ -160,10 +160,8 @@ impl Session {
         }
     }
 
-    /// The same for an event that stays where it is: answers what the master sends and the event's item, or why it isn't
-    /// taken. Then `record` takes it.
-    #[inline(never)]
-    pub fn prepare(&mut self, event: &Event) -> Result<(Reply, Option<Item>), Refusal>
+    /// What the master sends after the event, and its item, or why it isn't taken. Makes the room that it needs.
+    fn prepare(&mut self, event: &Event) -> Result<(Reply, Option<Item>), Refusal>
         ensures same { self.new.trace ≡ self.old.trace }
         ensures room { self.old.room ≤ self.new.room }
 
@@ -195,9 +193,8 @@ impl Session {
         Ok((reply, item))
     }
 
-    /// Takes an event that was prepared, where none was taken since. It is moved at once to where it stays.
-    #[inline(never)]
-    pub fn record(&mut self, event: Event)
+    /// Takes an event that was prepared, where none was taken since.
+    fn record(&mut self, event: Event)
         requires accepted { refusal_of self.old.trace event ≡ None }
         requires room { needed event ≤ self.old.room }
         ensures { self.new.trace ≡ self.old.trace ++ event ∷ [] }
@@ -212,7 +209,6 @@ impl Session {
 
     /// Takes the event of the plan: answers what the master sends, and the event's item unless it was taken from the
     /// plan before.
-    #[inline(always)]
     pub fn commit(&mut self, plan: Plan) -> (Reply, Option<Item>)
         requires { IsPlanFor self.old plan }
         ensures trace { self.new.trace ≡ self.old.trace ++ plan.event ∷ [] }
@@ -254,7 +250,6 @@ impl Session {
     }
 
     /// Gives the event of the plan back. Nothing was done.
-    #[inline(always)]
     pub fn withdraw(&mut self, plan: Plan) -> Event
         ensures event { result ≡ plan.event }
         ensures same { self.new ≡ self.old }
