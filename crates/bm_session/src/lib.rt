@@ -15,7 +15,6 @@ mod refusal;
 mod reply;
 mod results;
 mod run;
-mod scan;
 mod seen;
 mod session;
 mod table;
