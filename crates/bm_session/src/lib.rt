@@ -5,10 +5,10 @@
 #![tactic(auto)]
 
 mod carried;
-mod counted;
 mod event;
 mod item;
 pub mod laws;
+mod log;
 mod plan;
 mod ranges;
 mod refusal;

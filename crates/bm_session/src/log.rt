@@ -1,11 +1,11 @@
-//! The logs of a trace, by one walk, where it is known which events count.
-ghost use Rattle.std.specs.Prelude.{◌≡◌, ◌++◌, ◌||◌, not, length, if◌then◌else◌, IfOk, []};
+//! The logs of a trace, by one walk.
+ghost use Rattle.std.specs.Prelude.{◌≡◌, ◌++◌, ◌||◌, true, not, if◌then◌else◌, IfOk, []};
 ghost use Rattle.bm_lines.specs.Parcels.{blocks_under};
 ghost use Rattle.bm_session.specs.Events.{is_update_of, parcel_of};
-ghost use Rattle.bm_session.specs.Trace.{blocks, log as log_of, joined, is_empty};
-ghost use Rattle.bm_session.specs.Counted.{flags};
+ghost use Rattle.bm_session.specs.Trace.{blocks, log as log_of, joined, is_empty, was_taken};
 
 use crate::event::{Body, Event};
+use crate::table::Table;
 use bm_lines::{Line, Parcel};
 use std::alloc::{AllocError, Global};
 
@@ -96,34 +96,26 @@ fn append_added(
     }
 }
 
-/// Whether the command has a block under the name.
-pub fn has_blocks(t: &[Event], counted: &[bool], command: u64, name: &str) -> bool
-    requires each { length counted.now ≡ length t.now }
-    requires counts { counted.now ≡ flags t.now }
-    ensures { result ≡ not (is_empty (blocks t.now command name.now)) }
-{
-    let mut found = false;
-    for i in 0..t.len() {
-        found = found_after(found, counted[i], &t[i], command, name);
-    }
-    found
-}
-
-/// The log of the command under the name.
-pub fn log(
+/// The log of the command under the name, and whether it has a block. A table runs over the trace, which was taken, and
+/// tells which updates count.
+pub fn walk(
     alloc: Global,
     t: &[Event],
-    counted: &[bool],
     command: u64,
     name: &str,
-) -> Result<Vec<Line>, AllocError>
-    requires each { length counted.now ≡ length t.now }
-    requires counts { counted.now ≡ flags t.now }
-    ensures { IfOk result (λ lines. lines.items ≡ log_of t.now command name.now) }
+) -> Result<(bool, Vec<Line>), AllocError>
+    requires { was_taken t.now ≡ true }
+    ensures found { IfOk result (λ r. r.0 ≡ not (is_empty (blocks t.now command name.now))) }
+    ensures lines { IfOk result (λ r. r.1.items ≡ log_of t.now command name.now) }
 {
+    let mut table = Table::new(alloc)?;
+    let mut found = false;
     let mut lines = Vec::new(alloc);
     for i in 0..t.len() {
-        append_added(&mut lines, counted[i], &t[i], command, name)?;
+        let event = &t[i];
+        let counts = table.follow(event)?;
+        found = found_after(found, counts, event, command, name);
+        append_added(&mut lines, counts, event, command, name)?;
     }
-    Ok(lines)
+    Ok((found, lines))
 }
