@@ -1,3 +1,5 @@
+//! A lane's session.
+
 ghost use Rattle.std.specs.Prelude.{◌≡◌, ◌⊎◌, ◌++◌, ◌∷◌, ◌||◌, ◌≤◌, ◌<◌, ◌^◌, [], Some, None, true, false, IfOk, IfErr, IsOk, OnOk, if◌then◌else◌};
 ghost use Rattle.bm_session.specs.Trace.{is_up as up_of, is_cut as cut_of, orders as orders_of, commands as commands_of, refusal as refusal_of, reply as reply_of, item as item_of, log as log_of, has_log as has_log_in, outcome as outcome_of, was_taken};
 ghost use Rattle.bm_session.specs.Seen.{HoldsSeen};
@@ -13,7 +15,7 @@ use crate::results::Results;
 use crate::run::Ran;
 use crate::seen::Seen;
 use crate::table::Table;
-use bm_lines::Block;
+use bm_lines::{Block, STDIO};
 use std::alloc::{AllocError, Global};
 use std::marker::Model;
 
@@ -106,7 +108,7 @@ impl Session {
             return Ok(None);
         }
         let (found, lines) = log::walk(alloc, self.events.as_slice(), command, name)?;
-        if name != "stdio" && !found {
+        if name != STDIO && !found {
             return Ok(None);
         }
         Ok(Some(Block::from_lines(alloc, lines)?))

@@ -1,3 +1,5 @@
+//! What a session keeps of its trace.
+
 ghost use Rattle.std.specs.Prelude.{◌≡◌, ◌==◌, ◌||◌, ◌&&◌, ◌≤◌, ◌<◌, ◌+◌, ◌^◌, ◌∷◌, ◌++◌, [], slice_set, ℕ, true, false, not, List, length, map, filter, find, option_map, is_some, if◌then◌else◌, Some, None, IfOk, IsOk, OnOk, vec_len, vec_capacity};
 ghost use Rattle.std.specs.List.{list_any};
 ghost use Rattle.bm_session.specs.Events.{is_fault as is_fault_event};
@@ -14,6 +16,12 @@ use crate::reply::{Reply, Verdict};
 use crate::results::Results;
 use bm_value::Num;
 use std::alloc::{AllocError, Global};
+
+/// So many commands of a lane may be open.
+pub const MOST_OPEN: usize = 4;
+
+/// So many events a lane may have, and one more that gives its session up.
+pub const MOST_EVENTS: usize = 999_999;
 
 /// Whether a lane's worker is there.
 #[derive(Clone, Copy, Debug, PartialEq, Eq)]
@@ -161,7 +169,7 @@ impl Table {
         Ok(Table {
             link: Link::Down,
             orders: 0,
-            opened: Vec::with_capacity(alloc, 4)?,
+            opened: Vec::with_capacity(alloc, MOST_OPEN)?,
             outcomes: Vec::new(alloc),
             seen: Ranges::new(alloc),
         })
@@ -261,7 +269,7 @@ impl Table {
         match event {
             Event::Down => return None,
             Event::Go => {
-                if self.opened.len() >= 4 {
+                if self.opened.len() >= MOST_OPEN {
                     return Some(Refusal::TooManyOpen);
                 }
             }
@@ -272,7 +280,7 @@ impl Table {
             }
             _ => {}
         }
-        if taken >= 999_999 {
+        if taken >= MOST_EVENTS {
             Some(Refusal::Full)
         } else {
             None
