@@ -254,16 +254,6 @@ fn request_keys(alloc: Global, message: &Numbered) -> Result<Vec<Pair<Global>>, 
     Ok(keys)
 }
 
-fn request_bytes(alloc: Global, message: &Numbered) -> Result<Vec<u8>, AllocError>
-    requires nests { depth (request_tree message.now) ≤ 32 }
-    requires short { IsShort (request_tree message.now) }
-    ensures ok { IfOk result (λ v. v.items ≡ written (request_tree message.now)) }
-    ensures back { IfOk result (λ v. IsReadBack (request_tree message.now)) }
-{
-    let keys = request_keys(alloc, message)?;
-    written_map(alloc, keys)
-}
-
 fn put_exception(
     alloc: Global,
     keys: &mut Vec<Pair<Global>>,
@@ -300,16 +290,6 @@ fn response_keys(alloc: Global, message: &Response) -> Result<Vec<Pair<Global>>,
     result_keys(alloc, message.seq, result, message.exception)
 }
 
-fn response_bytes(alloc: Global, message: &Response) -> Result<Vec<u8>, AllocError>
-    requires nests { depth (response_tree message.now) ≤ 32 }
-    requires short { IsShort (response_tree message.now) }
-    ensures ok { IfOk result (λ v. v.items ≡ written (response_tree message.now)) }
-    ensures back { IfOk result (λ v. IsReadBack (response_tree message.now)) }
-{
-    let keys = response_keys(alloc, message)?;
-    written_map(alloc, keys)
-}
-
 fn request_written(alloc: Global, message: &Numbered) -> Result<Vec<u8>, EncodeError>
     ensures ok { IfOk result (λ v. v.items ≡ written (request_tree message.now)) }
     ensures back { IfOk result (λ v. IsReadBack (request_tree message.now)) }
@@ -322,7 +302,8 @@ fn request_written(alloc: Global, message: &Numbered) -> Result<Vec<u8>, EncodeE
     if !is_short_request(message) {
         return Err(EncodeError::TooLong);
     }
-    Ok(request_bytes(alloc, message)?)
+    let keys = request_keys(alloc, message)?;
+    Ok(written_map(alloc, keys)?)
 }
 
 fn response_written(alloc: Global, message: &Response) -> Result<Vec<u8>, EncodeError>
@@ -337,7 +318,8 @@ fn response_written(alloc: Global, message: &Response) -> Result<Vec<u8>, Encode
     if !is_short_response(message) {
         return Err(EncodeError::TooLong);
     }
-    Ok(response_bytes(alloc, message)?)
+    let keys = response_keys(alloc, message)?;
+    Ok(written_map(alloc, keys)?)
 }
 
 /// The written form of a request: the number, the operation and its keys in the order of the
