@@ -6,6 +6,7 @@ pub mod Words
 mod Rows
 mod Scanned
 mod Lanes
+mod Orders
 mod Runs
 mod Fields
 mod Merged
