@@ -169,7 +169,7 @@ linked-Up x s = go (refusal x.scene.lane.trace Up) refl
 
 pub linked : (f : ℕ → List Line) (x : Linked) (p : Happening) → is_possible x p ≡ true → AgreeOf f x → LinkOf x → LinkOf (after_one x p)
 linked f x (Learn n) ok h s = record {
-  in_order = learns (requests_taken x.scene.lane.trace) (length x.scene.worker.reports) (passage x.link) n s.in_order (arrived-number x.link.sent x.link.arrived n (and-right (is_up x.scene.lane.trace) _ ok));
+  in_order = learns (requests_taken x.scene.lane.trace) (length x.scene.worker.reports) (passage x.link) n s.in_order (arrived-number x.link.sent x.link.arrived n ok);
   sent_of = s.sent_of;
 }
 linked f x (Do (Run k)) ok h s = s
