@@ -3,7 +3,6 @@
 
 mod answers;
 mod arguments;
-mod hex_digits;
 mod incoming;
 pub mod laws;
 mod numbers;
