@@ -6,12 +6,11 @@ use Rattle.std.proofs.lemmas.Bool.Decides.{nat_tests}
 use Rattle.std.proofs.lemmas.List.{append-nil, length_push}
 use Rattle.bm_lines.specs.declared.line.Line.{Line}
 use Rattle.bm_session.proofs.Pushed.{next}
-use Rattle.bm_session.proofs.Taken.{and-right}
 use Rattle.bm_session.specs.declared.event.Event.{Event}
 use Rattle.bm_session.specs.declared.event.Event.TheVariants.{Up, In, Go, Stop, Cut, Down}
 use Rattle.bm_session.specs.declared.event.Body.TheVariants.{Answered}
 use Rattle.bm_session.specs.declared.refusal.Refusal.{Refusal}
-use Rattle.bm_session.specs.Trace.{Trace, begins_session, is_fresh, is_new_number, is_up, is_cut, refusal}
+use Rattle.bm_session.specs.Trace.{Trace, begins_session, is_fresh, is_new_number, is_cut, refusal}
 use Rattle.bm_work.specs.Core.{numbers}
 use Rattle.bm_work.specs.Stream.{Report, sent, stream, stream_from, without_answer}
 use Rattle.bm_world.specs.declared.step.Step.TheVariants.{Hear, Drain, Look}

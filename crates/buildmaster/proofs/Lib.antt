@@ -20,5 +20,3 @@ mod Bytes
 mod HeardBytes
 mod SmallNumbers
 mod Lines
-mod Windows
-mod Scripts

@@ -3,5 +3,3 @@ pub mod Resumed
 pub mod Laws
 pub mod Wire
 pub mod Hex
-pub mod Window
-pub mod Script

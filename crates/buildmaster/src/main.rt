@@ -6,12 +6,10 @@ mod arguments;
 mod incoming;
 pub mod laws;
 mod numbers;
-mod reader;
 mod replay;
 mod script;
 #[cfg(test)]
 mod tests;
-mod window;
 
 use arguments::{Job, USAGE, read_job};
 use replay::replay_run;
