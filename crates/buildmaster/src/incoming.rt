@@ -88,8 +88,6 @@ fn event_of(alloc: Global, arena: &Bump, bytes: &[u8]) -> Result<Event, Unread>
 }
 
 /// The event that a message of any kind is.
-#[cold]
-#[inline(never)]
 fn event_in(alloc: Global, message: &Value<&Bump>) -> Result<Event, Unread>
     ensures { (bytes : List ℕ) → Spells bytes (tree message.now) → HearsRequests bytes result }
 {
