@@ -153,7 +153,7 @@ table-Down tb tb' t is e-link e-orders e-open e-outcomes e-seen =
 
 -- Orders
 
-stop-open : (t : Trace) (j : ℕ) → refusal t (Stop j) ≡ None → is_open t j ≡ true
+pub stop-open : (t : Trace) (j : ℕ) → refusal t (Stop j) ≡ None → is_open t j ≡ true
 stop-open t j r = go (is_up t) (is_open t j) r
   where
     go : (u o : Bool) → first_reason (reason_if (not u) NotUp) (first_reason (reason_if (not o) NoSuchCommand) (full t (Stop j))) ≡ None → o ≡ true

@@ -8,6 +8,7 @@ mod carried;
 mod counted;
 mod event;
 mod item;
+pub mod laws;
 mod plan;
 mod ranges;
 mod refusal;

@@ -1,5 +1,5 @@
-ghost use Rattle.std.specs.Prelude.{◌≡◌, ◌⊎◌, ◌++◌, ◌∷◌, ◌||◌, ◌≤◌, [], Some, None, true, false, IfOk, IfErr, IsOk, OnOk, if◌then◌else◌};
-ghost use Rattle.bm_session.specs.Trace.{is_up as up_of, is_cut as cut_of, refusal as refusal_of, reply as reply_of, item as item_of, log as log_of, has_log as has_log_in, outcome as outcome_of, was_taken};
+ghost use Rattle.std.specs.Prelude.{◌≡◌, ◌⊎◌, ◌++◌, ◌∷◌, ◌||◌, ◌≤◌, ◌<◌, ◌^◌, [], Some, None, true, false, IfOk, IfErr, IsOk, OnOk, if◌then◌else◌};
+ghost use Rattle.bm_session.specs.Trace.{is_up as up_of, is_cut as cut_of, orders as orders_of, commands as commands_of, refusal as refusal_of, reply as reply_of, item as item_of, log as log_of, has_log as has_log_in, outcome as outcome_of, was_taken};
 ghost use Rattle.bm_session.specs.Seen.{HoldsSeen};
 ghost use Rattle.bm_session.specs.Session.{IsPlanFor, needed, ran_as, trace_as, ran_after, trace_after};
 
@@ -67,6 +67,36 @@ impl Session {
     {
         let Session { events, .. } = self;
         events
+    }
+
+    /// Whether the lane is up: a connection of the worker takes messages and orders. It takes constant time.
+    pub fn is_up(&self) -> bool
+        ensures { result ≡ up_of self.now.trace }
+    {
+        self.table.is_up()
+    }
+
+    /// Whether the lane is cut: the session may be resumed or given up. It takes constant time.
+    pub fn is_cut(&self) -> bool
+        ensures { result ≡ cut_of self.now.trace }
+    {
+        self.table.is_cut()
+    }
+
+    /// The number that the next order gets which is taken, in this session. It takes constant time.
+    pub fn next_order(&self) -> u64
+        ensures number { result ≡ orders_of self.now.trace }
+        ensures small { result < 2 ^ 63 }
+    {
+        self.table.orders
+    }
+
+    /// The number of the command that is started next. It takes constant time.
+    pub fn next_command(&self) -> u64
+        ensures number { result ≡ commands_of self.now.trace }
+        ensures small { result < 2 ^ 63 }
+    {
+        self.table.commands()
     }
 
     /// The log of the command under the name, or None where that log isn't there.

@@ -224,7 +224,8 @@ impl Table {
         }
     }
 
-    fn is_up(&self) -> bool
+    /// Whether the lane is up.
+    pub fn is_up(&self) -> bool
         ensures { (t : Trace) → IsTable self.now t → result ≡ up_of t }
     {
         match self.link {
@@ -233,7 +234,8 @@ impl Table {
         }
     }
 
-    fn is_cut(&self) -> bool
+    /// Whether the lane is cut.
+    pub fn is_cut(&self) -> bool
         ensures { (t : Trace) → IsTable self.now t → result ≡ cut_of t }
     {
         match self.link {
