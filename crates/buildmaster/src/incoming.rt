@@ -1,15 +1,13 @@
 //! A recorded message of the worker, from hex digits to an event.
 
 ghost use Rattle.std.specs.Prelude.{◌≡◌, ◌⊎◌, ℕ, List, IfOk, IfErr};
-ghost use Rattle.bm_value.specs.Spelling.{Spells};
-ghost use Rattle.bm_value.specs.View.{tree};
 ghost use Rattle.buildmaster.specs.Hex.{Write};
 ghost use Rattle.buildmaster.specs.Wire.{HearsRequests};
 ghost use Rattle.buildmaster.specs.declared.incoming.Unread.TheVariants.{Hex, OutOfMemory};
 
-use bm_msg::{MsgError, read, read_text};
+use bm_msg::MsgError;
 use bm_session::Event;
-use bm_value::{DecodeError, Value, decode_whole};
+use bm_value::{DecodeError, decode_whole};
 use bumpalo::Bump;
 use hex::FromHexError;
 use std::alloc::{AllocError, Allocator, Global};
@@ -78,25 +76,8 @@ fn event_of(alloc: Global, arena: &Bump, bytes: &[u8]) -> Result<Event, Unread>
         Err(DecodeError::Mem) => return Err(Unread::OutOfMemory),
         Err(fault) => return Err(Unread::Spelling(fault)),
     };
-    match read_text(&tree) {
-        Some(update) => match Event::of_text(alloc, update) {
-            Ok(event) => Ok(event),
-            Err(_) => Err(Unread::OutOfMemory),
-        },
-        None => event_in(alloc, &tree),
-    }
-}
-
-/// The event that a message of any kind is.
-fn event_in(alloc: Global, message: &Value<&Bump>) -> Result<Event, Unread>
-    ensures { (bytes : List ℕ) → Spells bytes (tree message.now) → HearsRequests bytes result }
-{
-    match read(alloc, message) {
-        Ok(message) => match Event::of_message(alloc, message) {
-            Ok(heard) => Ok(heard),
-            Err(_) => Err(Unread::OutOfMemory),
-        },
-        Err(MsgError::BadArgs(number)) => Ok(Event::bad_args(number)),
+    match Event::of_value(alloc, &tree) {
+        Ok(event) => Ok(event),
         Err(MsgError::Mem) => Err(Unread::OutOfMemory),
         Err(fault) => Err(Unread::Meaning(fault)),
     }
