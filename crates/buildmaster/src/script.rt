@@ -67,7 +67,8 @@ pub enum ScriptLine<'a> {
 /// A read that failed, one that was interrupted too; `FileTooLarge` where the script has more than
 /// `MOST_BYTES`; and `OutOfMemory`.
 pub fn read_script<R: Read>(alloc: Global, input: &mut R) -> io::Result<Vec<u8>>
-    ensures read { IfOk result (λ script. Consumes (R.remaining input.old) (R.remaining input.new) script.items) }
+    ensures read { IfOk result (λ script.
+        Consumes (R.remaining input.old) (R.remaining input.new) script.items) }
     ensures end { OnOk result (IsAtEnd (R.remaining input.new)) }
     ensures few { IfOk result (λ script. vec_len script ≤ 67108864) }
 {
