@@ -35,9 +35,15 @@ impl Model for Session {
 
     ghost Value = { Lane };
 
-    ghost view = { λ s. record { trace = s.events.items; room = min (vec_capacity s.events - vec_len s.events) (table_room s.table) } };
+    ghost view = { λ s. record {
+      trace = s.events.items;
+      room = min (vec_capacity s.events - vec_len s.events) (table_room s.table);
+    } };
 
-    ghost invariant = { λ s. IsSession (record { trace = s.events.items; room = min (vec_capacity s.events - vec_len s.events) (table_room s.table) }) s.table };
+    ghost invariant = { λ s. IsSession (record {
+      trace = s.events.items;
+      room = min (vec_capacity s.events - vec_len s.events) (table_room s.table);
+    }) s.table };
 }
 
 impl Session {
