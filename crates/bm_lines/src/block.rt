@@ -97,15 +97,6 @@ impl Block {
         }
     }
 
-    /// The lines of a text: its parts between the characters `\n`, without a last empty part.
-    pub fn of_str(alloc: Global, letter: Letter, text: &str) -> Result<Block, AllocError>
-        ensures { IfOk result (λ b. b ≡ lines_of letter text.now) }
-    {
-        let mut block = Block::new(alloc);
-        block.add(letter, text)?;
-        Ok(block)
-    }
-
     /// The block of these lines, which aren't copied.
     pub fn from_lines(alloc: Global, lines: Vec<Line>) -> Result<Block, AllocError>
         ensures { IfOk result (λ b. b ≡ lines.items) }
@@ -226,6 +217,15 @@ fn push_parts(out: &mut Vec<Line>, letter: Letter, text: &str) -> Result<(), All
         out.push(Line { letter, text })?;
     }
     Ok(())
+}
+
+/// The lines of a text: its parts between the characters `\n`, without a last empty part.
+pub fn cut(alloc: Global, letter: Letter, text: &str) -> Result<Block, AllocError>
+    ensures { IfOk result (λ b. b ≡ lines_of letter text.now) }
+{
+    let mut block = Block::new(alloc);
+    block.add(letter, text)?;
+    Ok(block)
 }
 
 /// For each line its letter in lower case, its text and `\n`.

@@ -14,11 +14,10 @@ mod parcel_builder;
 mod tests;
 mod text;
 
-pub use block::{Block, append_content, content};
+pub use block::{Block, append_content, content, cut};
 pub use line::{Letter, Line};
 pub use log_name::{LogName, MOST_NAME_BYTES, STDIO};
 pub use name_table::{FEW_NAMES, NameTable};
-pub use one_or_many::OneOrMany;
 pub use parcel::{Parcel, Part};
 pub use parcel_builder::ParcelBuilder;
 pub use text::Text;

@@ -9,7 +9,7 @@ ghost use Rattle.bm_lines.specs.OneOrMany.{items_of};
 ghost use Rattle.bm_lines.specs.Parcels.{are_distinct, names_of, with_item, block_under};
 ghost use Rattle.bm_lines.specs.Places.{HasPlaces};
 
-use crate::block::Block;
+use crate::block::{Block, cut};
 use crate::line::Letter;
 use crate::log_name::LogName;
 use crate::name_table::NameTable;
@@ -69,18 +69,6 @@ impl Parcel {
     }
 
     /// The lines of a text under a name.
-    pub fn of_text(
-        alloc: Global,
-        name: LogName,
-        letter: Letter,
-        text: Text,
-    ) -> Result<Parcel, AllocError>
-        ensures { IfOk result (λ p. p ≡ with_item name (lines_of letter text) []) }
-    {
-        Parcel::of_str(alloc, name, letter, text.as_str())
-    }
-
-    /// The lines of a text under a name.
     pub fn of_str(
         alloc: Global,
         name: LogName,
@@ -89,7 +77,7 @@ impl Parcel {
     ) -> Result<Parcel, AllocError>
         ensures { IfOk result (λ p. p ≡ with_item name (lines_of letter text.now) []) }
     {
-        let block = Block::of_str(alloc, letter, text)?;
+        let block = cut(alloc, letter, text)?;
         Ok(Parcel {
             alloc,
             parts: OneOrMany::One(Part { name, block }),
@@ -187,7 +175,7 @@ fn push(
     ensures ok { OnOk result (items_of parts.new ≡ items_of parts.old ++ record { name = name.now; block = lines_of letter text.now } ∷ []) }
     ensures err { OnErr result (items_of parts.new ≡ items_of parts.old) }
 {
-    let block = Block::of_str(alloc, letter, text)?;
+    let block = cut(alloc, letter, text)?;
     let name = name.copy()?;
     parts.push(alloc, Part { name, block })
 }

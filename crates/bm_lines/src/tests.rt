@@ -4,7 +4,7 @@ mod many_names;
 mod memory;
 
 use crate::{
-    Block, Letter, Line, LogName, Parcel, ParcelBuilder, STDIO, Text, append_content, content,
+    Block, Letter, Line, LogName, Parcel, ParcelBuilder, STDIO, Text, append_content, content, cut,
 };
 use std::alloc::{AllocError, Global};
 use std::process::Abort;
@@ -53,19 +53,12 @@ fn in_a_parcel(alloc: Global, letter: Letter, text: &str) -> Result<Block, Alloc
     parcel.parts()[0].block.copy()
 }
 
-fn of_a_text(alloc: Global, letter: Letter, text: &str) -> Result<Block, AllocError> {
-    let text = Text::from_str(alloc, text)?;
-    let parcel = Parcel::of_text(alloc, LogName::stdio(), letter, text)?;
-    parcel.parts()[0].block.copy()
-}
-
 /// Whether each way to cut the text gives the content.
 fn is_cut(alloc: Global, letter: Letter, text: &str, want: &str) -> bool {
-    holds(alloc, Block::of_str(alloc, letter, text), want)
+    holds(alloc, cut(alloc, letter, text), want)
         && holds(alloc, added(alloc, letter, text), want)
         && holds(alloc, built(alloc, letter, text), want)
         && holds(alloc, in_a_parcel(alloc, letter, text), want)
-        && holds(alloc, of_a_text(alloc, letter, text), want)
 }
 
 #[test]
@@ -88,7 +81,7 @@ fn texts_are_cut_at_line_ends_alone(rt: HostRuntime) -> Result<(), Fail> {
 #[test]
 fn a_copy_keeps_its_lines_when_the_block_grows(rt: HostRuntime) -> Result<(), Fail> {
     let alloc = rt.alloc();
-    let mut block = Block::of_str(alloc, Letter::O, "a\n")?;
+    let mut block = cut(alloc, Letter::O, "a\n")?;
     let copy = block.copy()?;
     block.add(Letter::E, "b")?;
     assert!(rt; is_told(alloc, &copy, "oa\n") && is_told(alloc, &block, "oa\neb\n"));

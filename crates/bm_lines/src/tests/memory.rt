@@ -3,7 +3,9 @@
 //! These are made for `tests/refused_memory`, which runs each once for each of its requests, with that one refused. In the
 //! gate no request is refused, so what is asserted behind an error doesn't run there; what the calls make is asserted.
 
-use crate::{Block, Letter, Line, LogName, Parcel, ParcelBuilder, Text, append_content, content};
+use crate::{
+    Block, Letter, Line, LogName, Parcel, ParcelBuilder, Text, append_content, content, cut,
+};
 use std::alloc::{AllocError, Global};
 use std::process::Abort;
 use std::test::Fail;
@@ -29,7 +31,7 @@ fn is_told(alloc: Global, lines: &[Line], want: &str) -> bool {
 #[test]
 fn refused_block_keeps_its_lines(rt: HostRuntime) -> Result<(), Fail> {
     let alloc = rt.alloc();
-    let mut block = again(|| Block::of_str(alloc, Letter::E, "x\n\ny"))?;
+    let mut block = again(|| cut(alloc, Letter::E, "x\n\ny"))?;
     let shared = again(|| block.copy())?;
     if block.add(Letter::O, "z\n").is_err() {
         assert!(rt; is_told(alloc, block.lines(), "ex\ne\ney\n"));
@@ -43,7 +45,7 @@ fn refused_block_keeps_its_lines(rt: HostRuntime) -> Result<(), Fail> {
 #[test]
 fn refused_content_can_be_appended_again(rt: HostRuntime) -> Result<(), Fail> {
     let alloc = rt.alloc();
-    let block = again(|| Block::of_str(alloc, Letter::O, "a\nb"))?;
+    let block = again(|| cut(alloc, Letter::O, "a\nb"))?;
     let mut text = again(|| String::from_str(alloc, "> "))?;
     if append_content(&mut text, block.lines()).is_err() {
         assert!(rt; text.as_str().starts_with("> "));
