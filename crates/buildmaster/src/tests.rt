@@ -13,7 +13,7 @@ mod viewing;
 mod words;
 
 use crate::replay::replay_run;
-use std::alloc::Global;
+use std::alloc::{AllocError, Global};
 use std::process::Abort;
 use std::test::Fail;
 
@@ -23,6 +23,13 @@ pub struct Replayed {
     pub status: u8,
     pub output: String,
     pub faults: String,
+}
+
+impl Replayed {
+    /// Whether the replay ended with this status and printed this.
+    pub fn is(&self, status: u8, output: &str, faults: &str) -> bool {
+        self.status == status && self.output.as_str() == output && self.faults.as_str() == faults
+    }
 }
 
 /// Replays the input over a queue of `capacity` items.
@@ -40,11 +47,8 @@ pub fn replay_bytes(alloc: Global, capacity: u32, input: &[u8]) -> Result<Replay
     })
 }
 
-/// Replays the lines of a script. A message in hex stands for the line that takes it in.
-pub fn replay_script(alloc: Global, capacity: u32, script: &[&str]) -> Result<Replayed, Fail>
-    requires some { 1 ≤ capacity }
-    requires few { capacity ≤ 65536 }
-{
+/// The lines of a script as its text. A message in hex stands for the line that takes it in.
+pub fn script_text(alloc: Global, script: &[&str]) -> Result<String, AllocError> {
     let mut text = String::new(alloc);
     for line in script {
         if line.starts_with('8') {
@@ -53,7 +57,15 @@ pub fn replay_script(alloc: Global, capacity: u32, script: &[&str]) -> Result<Re
         text.push_str(line)?;
         text.push_str("\n")?;
     }
-    replay_bytes(alloc, capacity, text.as_bytes())
+    Ok(text)
+}
+
+/// Replays the lines of a script over a queue of `capacity` items.
+pub fn replay_script(alloc: Global, capacity: u32, script: &[&str]) -> Result<Replayed, Fail>
+    requires some { 1 ≤ capacity }
+    requires few { capacity ≤ 65536 }
+{
+    replay_bytes(alloc, capacity, script_text(alloc, script)?.as_bytes())
 }
 
 /// The replay of the script gives these answers and ends well.
@@ -75,7 +87,7 @@ pub fn assert_answers(
 }
 
 /// The lines as a text, each with its line end.
-pub fn joined(alloc: Global, lines: &[&str]) -> Result<String, Fail> {
+pub fn joined(alloc: Global, lines: &[&str]) -> Result<String, AllocError> {
     let mut text = String::new(alloc);
     for line in lines {
         text.push_str(line)?;

@@ -1,11 +1,11 @@
 //! Input and output that a replay refuses or that fail.
 
-use super::messages::*;
-use super::{joined, replay_bytes, replay_script};
+use super::{Replayed, replay_bytes, replay_script};
 use crate::replay::replay_run;
+use crate::script::MOST_BYTES;
+use std::alloc::Global;
 use std::io;
 use std::io::{Read, Write};
-use std::process::Abort;
 use std::test::Fail;
 
 /// A reader that gives its bytes and then fails.
@@ -45,56 +45,79 @@ impl Write for FailingWriter {
     }
 }
 
+/// A reader of so many signs `#`, of which each begins a comment.
+#[derive(Drop)]
+struct Comments {
+    left: usize,
+}
+
+impl Read for Comments {
+    fn read(&mut self, buf: &mut [u8]) -> io::Result<usize> {
+        let count = self.left.min(buf.len());
+        buf[..count].fill(b'#');
+        self.left -= count;
+        Ok(count)
+    }
+}
+
 /// A reader that never ends.
 #[derive(Drop)]
 struct Endless;
 
 impl Read for Endless {
     fn read(&mut self, buf: &mut [u8]) -> io::Result<usize> {
-        for byte in buf.iter_mut() {
-            *byte = b'\n';
-        }
+        buf.fill(b'\n');
         Ok(buf.len())
     }
 }
 
+/// Replays what the reader gives over a queue of four items.
+fn replay_from<R: Read + Drop>(alloc: Global, input: R) -> Result<Replayed, Fail> {
+    let mut output = Vec::new(alloc);
+    let mut faults = Vec::new(alloc);
+    let status = replay_run(alloc, 4, input, &mut output, &mut faults);
+    Ok(Replayed {
+        status,
+        output: String::from_utf8(output)?,
+        faults: String::from_utf8(faults)?,
+    })
+}
+
+/// Lines of another form.
+const OTHER_FORMS: [&str; 25] = [
+    "up ",
+    "Up",
+    " up",
+    "up\r",
+    "stop",
+    "stop x",
+    "stop +1",
+    "stop  1",
+    "stop 18446744073709551616",
+    "in",
+    "in c",
+    "in xy",
+    "in c1\t",
+    "log",
+    "log ",
+    "log x",
+    "log -1",
+    "serve",
+    "in\tc1",
+    "drain ",
+    "look",
+    "look 0",
+    "look 0 0",
+    "look 0 0 x",
+    "look 0  0 0",
+];
+
 #[test]
 fn line_of_another_form_is_told_after_the_answers_before(rt: HostRuntime) -> Result<(), Fail> {
-    for line in [
-        "up ",
-        "Up",
-        " up",
-        "up\r",
-        "stop",
-        "stop x",
-        "stop +1",
-        "stop  1",
-        "stop 18446744073709551616",
-        "in",
-        "in c",
-        "in xy",
-        "in c1\t",
-        "log",
-        "log ",
-        "log x",
-        "log -1",
-        "serve",
-        "in\tc1",
-        "drain ",
-        "look",
-        "look 0",
-        "look 0 0",
-        "look 0 0 x",
-        "look 0  0 0",
-    ] {
+    for line in &OTHER_FORMS {
         let replayed = replay_script(rt.alloc(), 4, &["up", "", line, "go"])?;
-        assert_eq!(rt; replayed.output.as_str(), "ok\n", "at {line:?}");
-        assert_eq!(rt;
-            replayed.faults.as_str(),
-            "line 3: not understood\n",
-            "at {line:?}"
-        );
-        assert_eq!(rt; replayed.status, 1, "at {line:?}");
+        let told = replayed.is(1, "ok\n", "line 3: not understood\n");
+        assert!(rt; told, "at {line:?}");
     }
     Ok(())
 }
@@ -102,78 +125,72 @@ fn line_of_another_form_is_told_after_the_answers_before(rt: HostRuntime) -> Res
 #[test]
 fn text_that_is_no_utf8_is_passed_over_in_a_comment_alone(rt: HostRuntime) -> Result<(), Fail> {
     let comment = replay_bytes(rt.alloc(), 4, b"# \xff\nup")?;
-    assert_eq!(rt; comment.output.as_str(), "ok\n");
-    assert_eq!(rt; comment.status, 0);
+    assert!(rt; comment.is(0, "ok\n", ""));
     let line = replay_bytes(rt.alloc(), 4, b"log 0 \xff\n")?;
-    assert_eq!(rt; line.faults.as_str(), "line 1: not understood\n");
-    assert_eq!(rt; line.status, 1);
+    assert!(rt; line.is(1, "", "line 1: not understood\n"));
     Ok(())
 }
 
-/// A read that fails after these bytes ends the replay with status 1, and nothing is answered or told.
-fn assert_unanswered(rt: &(impl AllocGlobal + Abort), bytes: &[u8], kind: io::ErrorKind) {
-    let mut output = Vec::new(rt.alloc());
-    let mut faults = Vec::new(rt.alloc());
-    let input = FailingReader { bytes, kind };
-    let status = replay_run(rt.alloc(), 4, input, &mut output, &mut faults);
-    assert_eq!(rt; status, 1);
-    assert!(rt; output.is_empty());
-    assert!(rt; faults.is_empty());
+/// Whether a read that fails after these bytes ends the replay with status 1, and nothing is answered or told.
+fn is_unanswered(alloc: Global, bytes: &[u8], kind: io::ErrorKind) -> Result<bool, Fail> {
+    Ok(replay_from(alloc, FailingReader { bytes, kind })?.is(1, "", ""))
 }
 
 #[test]
 fn failed_read_answers_nothing(rt: HostRuntime) -> Result<(), Fail> {
     for kind in [io::ErrorKind::ConnectionReset, io::ErrorKind::Interrupted] {
-        assert_unanswered(&rt, b"up\ngo\n", kind);
+        assert!(rt; is_unanswered(rt.alloc(), b"up\ngo\n", kind)?);
     }
-    // Lines were answered before the read fails, and one that isn't understood may have been met.
+    // Many lines were read before the read fails, and one that isn't understood may be among them.
     for first in ["up\n", "no\n"] {
         let mut script = String::from_str(rt.alloc(), first)?;
         for _ in 0..30_000 {
             script.push_str("up\n")?;
         }
-        assert_unanswered(&rt, script.as_bytes(), io::ErrorKind::ConnectionReset);
+        let kind = io::ErrorKind::ConnectionReset;
+        assert!(rt; is_unanswered(rt.alloc(), script.as_bytes(), kind)?);
     }
     Ok(())
 }
 
 #[test]
 fn input_that_is_too_long_answers_nothing(rt: HostRuntime) -> Result<(), Fail> {
-    let mut output = Vec::new(rt.alloc());
-    let mut faults = Vec::new(rt.alloc());
-    let status = replay_run(rt.alloc(), 4, Endless, &mut output, &mut faults);
-    assert_eq!(rt; status, 1);
-    assert!(rt; output.is_empty());
-    assert!(rt; faults.is_empty());
+    assert!(rt; replay_from(rt.alloc(), Endless)?.is(1, "", ""));
+    Ok(())
+}
+
+/// Replays a comment of so many bytes and then `up`.
+fn commented(alloc: Global, left: usize) -> Result<Replayed, Fail> {
+    let end: &[u8] = b"\nup";
+    replay_from(alloc, Comments { left }.chain(end))
+}
+
+#[test]
+fn longest_input_is_taken(rt: HostRuntime) -> Result<(), Fail> {
+    assert!(rt; commented(rt.alloc(), MOST_BYTES - 3)?.is(0, "ok\n", ""));
     Ok(())
 }
 
 #[test]
-fn failed_write_is_told_by_the_status_alone(rt: HostRuntime) -> Result<(), Fail> {
-    for room in 0..12 {
-        let mut faults = Vec::new(rt.alloc());
-        let script = joined(rt.alloc(), &["up", "go"])?;
-        let status = replay_run(
-            rt.alloc(),
-            4,
-            script.as_bytes(),
-            FailingWriter { room },
-            &mut faults,
-        );
-        assert_eq!(rt; status, 1);
-        assert!(rt; faults.is_empty());
-    }
-    let mut faults = Vec::new(rt.alloc());
-    let script = joined(rt.alloc(), &["up", "go"])?;
-    let status = replay_run(
-        rt.alloc(),
-        4,
-        script.as_bytes(),
-        FailingWriter { room: 13 },
-        &mut faults,
-    );
-    assert_eq!(rt; status, 0);
+fn input_with_a_byte_too_many_answers_nothing(rt: HostRuntime) -> Result<(), Fail> {
+    assert!(rt; commented(rt.alloc(), MOST_BYTES - 2)?.is(1, "", ""));
     Ok(())
+}
+
+/// The status of a replay of 13 bytes of answers where the output has room for so many, or none where a fault is told.
+fn status_in_room(alloc: Global, room: usize) -> Option<u8> {
+    let input: &[u8] = b"up\ngo\n";
+    let mut faults = Vec::new(alloc);
+    let status = replay_run(alloc, 4, input, FailingWriter { room }, &mut faults);
+    faults.is_empty().then_some(status)
+}
+
+#[test]
+fn failed_write_is_told_by_the_status_alone(rt: HostRuntime) {
+    for room in 0..13 {
+        assert!(rt; status_in_room(rt.alloc(), room) == Some(1), "at {room}");
+    }
+    assert!(rt; status_in_room(rt.alloc(), 13) == Some(0));
 }
 
 #[test]
@@ -181,6 +198,6 @@ fn unreadable_line_that_can_not_be_told_ends_with_its_status(rt: HostRuntime) {
     let mut output = Vec::new(rt.alloc());
     let input: &[u8] = b"up\nno\n";
     let status = replay_run(rt.alloc(), 4, input, &mut output, FailingWriter { room: 0 });
-    assert_eq!(rt; status, 1);
-    assert_eq!(rt; output.as_slice(), b"ok\n".as_slice());
+    assert!(rt; status == 1);
+    assert!(rt; output.as_slice() == b"ok\n".as_slice());
 }

@@ -1,67 +1,84 @@
 //! Replays whose requests for memory may be refused. In the gate none is; `tests/refused_memory` refuses each in turn.
 
-use crate::replay::replay_run;
-use std::process::Abort;
+ghost use Rattle.std.specs.Prelude.{◌≤◌};
 
-/// A script, and what it answers.
-#[derive(Clone, Copy)]
-struct Row {
-    script: &'static str,
-    answers: &'static str,
+use super::rows::{LOST, LOST_ANSWERS, RESUMED, RESUMED_ANSWERS};
+use super::viewing::{
+    FULL, FULL_ANSWERS, NAMED, NAMED_ANSWERS, SLICED, SLICED_ANSWERS, VIEWED, VIEWED_ANSWERS,
+};
+use super::{Replayed, joined, replay_bytes, script_text};
+use std::alloc::{AllocError, Global};
+use std::test::Fail;
+
+/// A script and its answers, as texts.
+fn texts(alloc: Global, script: &[&str], answers: &[&str]) -> Result<(String, String), AllocError> {
+    Ok((script_text(alloc, script)?, joined(alloc, answers)?))
 }
 
-/// The replay answers all, or ends with status 1 after the first answers and tells nothing.
-fn answers_or_stops(rt: &(impl AllocGlobal + Abort), row: &Row) {
-    let mut output = Vec::new(rt.alloc());
-    let mut faults = Vec::new(rt.alloc());
-    let status = replay_run(
-        rt.alloc(),
-        8,
-        row.script.as_bytes(),
-        &mut output,
-        &mut faults,
-    );
-    assert!(rt; faults.is_empty());
-    if status == 0 {
-        assert_eq!(rt; output.as_slice(), row.answers.as_bytes());
-    } else {
-        assert_eq!(rt; status, 1);
-        assert!(rt; row.answers.as_bytes().starts_with(output.as_slice()));
+/// Whether the replay ended with status 1 after the first of these answers, and told nothing.
+fn stopped(replayed: &Replayed, answers: &str) -> bool {
+    replayed.status == 1
+        && replayed.faults.is_empty()
+        && answers.starts_with(replayed.output.as_str())
+}
+
+/// Whether the replay answers all. Where one of its requests for memory is refused it is to end with status 1 after its first
+/// answers, and to answer all when it is made again.
+fn is_answered(
+    rt: &HostRuntime,
+    capacity: u32,
+    script: &[&str],
+    answers: &[&str],
+) -> Result<bool, Fail>
+    requires some { 1 ≤ capacity }
+    requires few { capacity ≤ 65536 }
+{
+    let alloc = rt.alloc();
+    let (script, answers) = match texts(alloc, script, answers) {
+        Ok(texts) => texts,
+        Err(_) => texts(alloc, script, answers)?,
+    };
+    let first = replay_bytes(alloc, capacity, script.as_bytes())?;
+    if first.is(0, answers.as_str(), "") {
+        return Ok(true);
     }
+    let _ = println!(rt; "met: a replay");
+    let again = replay_bytes(alloc, capacity, script.as_bytes())?;
+    Ok(stopped(&first, answers.as_str()) && again.is(0, answers.as_str(), ""))
 }
 
 #[test]
-fn viewed_log_is_answered_or_stops(rt: HostRuntime) {
-    let row = Row {
-        script: "up\ngo\nin 84aa7365715f6e756d62657200a26f70a6757064617465aa636f6d6d616e645f6964a130a4617267739192a67374646f7574a2610a\nlook 0 0 10\ndrain\nlook 0 0 10\ndrain\nlook 0 0 10\nlog 0",
-        answers: "ok\nstart 0 0\nanswer 0 nil\nno log\ntook\nchunk 0 0\ntook\nchunk 0 1\noa\nlog 0 1 open\noa\n",
-    };
-    answers_or_stops(&rt, &row);
+fn viewed_log_is_answered_or_stops(rt: HostRuntime) -> Result<(), Fail> {
+    assert!(rt; is_answered(&rt, 8, &VIEWED, &VIEWED_ANSWERS)?);
+    Ok(())
 }
 
 #[test]
-fn lost_session_is_answered_or_stops(rt: HostRuntime) {
-    let row = Row {
-        script: "up\ngo\nin 84aa7365715f6e756d62657200a26f70a6757064617465aa636f6d6d616e645f6964a130a4617267739192a67374646f7574a2610a\ndown\nup\nin 84aa7365715f6e756d62657200a26f70a6757064617465aa636f6d6d616e645f6964a130a4617267739192a67374646f7574a2610a\ngo\nin 84aa7365715f6e756d62657201a26f70a6757064617465aa636f6d6d616e645f6964a131a4617267739192a67374646f7574a26e0a\nin 84aa7365715f6e756d62657200a26f70a6757064617465aa636f6d6d616e645f6964a131a4617267739192a67374646f7574a27a0a\nlog 0\nlog 1",
-        answers: "ok\nstart 0 0\nanswer 0 nil\nok\nok\nanswer 0 exception no such command\nstart 0 1\nanswer 1 nil\nanswer 0 exception no such command\nlog 0 1 RETRY\noa\nlog 1 1 open\non\n",
-    };
-    answers_or_stops(&rt, &row);
+fn lost_session_is_answered_or_stops(rt: HostRuntime) -> Result<(), Fail> {
+    assert!(rt; is_answered(&rt, 8, &LOST, &LOST_ANSWERS)?);
+    Ok(())
 }
 
 #[test]
-fn resumed_session_is_answered_or_stops(rt: HostRuntime) {
-    let row = Row {
-        script: "up\ngo\nin 84aa7365715f6e756d62657200a26f70a6757064617465aa636f6d6d616e645f6964a130a4617267739192a67374646f7574a2610a\nin 84aa7365715f6e756d62657201a26f70a6757064617465aa636f6d6d616e645f6964a130a4617267739192a67374646f7574a2620a\ncut\nup\nin 84aa7365715f6e756d62657201a26f70a6757064617465aa636f6d6d616e645f6964a130a4617267739192a67374646f7574a2620a\nin 84aa7365715f6e756d62657202a26f70a6757064617465aa636f6d6d616e645f6964a130a4617267739192a67374646f7574a2630a\nlog 0\ndrain\ndrain\ndrain\ndrain\ndrain",
-        answers: "ok\nstart 0 0\nanswer 0 nil\nanswer 1 nil\nok\nok\nanswer 1 nil\nanswer 2 nil\nlog 0 3 open\noa\nob\noc\ntook\ntook\ntook\ntook\nempty\n",
-    };
-    answers_or_stops(&rt, &row);
+fn resumed_session_is_answered_or_stops(rt: HostRuntime) -> Result<(), Fail> {
+    assert!(rt; is_answered(&rt, 8, &RESUMED, &RESUMED_ANSWERS)?);
+    Ok(())
 }
 
 #[test]
-fn named_log_is_answered_or_stops(rt: HostRuntime) {
-    let row = Row {
-        script: "up\ngo\nin 84aa7365715f6e756d62657200a26f70a6757064617465aa636f6d6d616e645f6964a130a4617267739192a36c6f6792a16ca2780a\nlog 0 l\ndrain\ndrain\nlook 0 0 9 l",
-        answers: "ok\nstart 0 0\nanswer 0 nil\nlog 0 1 open\nox\ntook\ntook\nchunk 0 1\nox\n",
-    };
-    answers_or_stops(&rt, &row);
+fn named_log_is_answered_or_stops(rt: HostRuntime) -> Result<(), Fail> {
+    assert!(rt; is_answered(&rt, 8, &NAMED, &NAMED_ANSWERS)?);
+    Ok(())
+}
+
+#[test]
+fn parts_of_a_log_are_answered_or_stop(rt: HostRuntime) -> Result<(), Fail> {
+    assert!(rt; is_answered(&rt, 8, &SLICED, &SLICED_ANSWERS)?);
+    Ok(())
+}
+
+#[test]
+fn full_queue_is_answered_or_stops(rt: HostRuntime) -> Result<(), Fail> {
+    assert!(rt; is_answered(&rt, 4, &FULL, &FULL_ANSWERS)?);
+    Ok(())
 }

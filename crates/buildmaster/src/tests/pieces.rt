@@ -58,11 +58,6 @@ const VIEWED: &str =
 const ANSWERS: &str =
     "ok\nstart 0 0\nanswer 0 nil\nno log\ntook\nchunk 0 0\ntook\nchunk 0 1\noa\nlog 0 1 open\noa\n";
 
-/// Whether a replay answered this, and then met the line of another form.
-fn stopped_at(replayed: &Replayed, answers: &str, fault: &str) -> bool {
-    replayed.status == 1 && replayed.output.as_str() == answers && replayed.faults.as_str() == fault
-}
-
 #[test]
 fn lines_of_any_length_are_counted_and_answered(rt: HostRuntime) -> Result<(), Fail> {
     let answers = "ok\nrefused already up\nrefused already up\n";
@@ -70,7 +65,7 @@ fn lines_of_any_length_are_counted_and_answered(rt: HostRuntime) -> Result<(), F
         let script = commented(rt.alloc(), *length)?;
         for most in &[1, 1_000, usize::MAX] {
             let replayed = replay_pieces(rt.alloc(), *most, script.as_bytes())?;
-            let stopped = stopped_at(&replayed, answers, "line 7: not understood\n");
+            let stopped = replayed.is(1, answers, "line 7: not understood\n");
             assert!(rt; stopped, "at {length}, {most}");
         }
     }
@@ -81,7 +76,7 @@ fn lines_of_any_length_are_counted_and_answered(rt: HostRuntime) -> Result<(), F
 fn answers_are_the_same_in_whichever_pieces_lines_come(rt: HostRuntime) -> Result<(), Fail> {
     for most in 1..=VIEWED.len() {
         let replayed = replay_pieces(rt.alloc(), most, VIEWED.as_bytes())?;
-        let stopped = stopped_at(&replayed, ANSWERS, "line 12: not understood\n");
+        let stopped = replayed.is(1, ANSWERS, "line 12: not understood\n");
         assert!(rt; stopped, "at {most}");
     }
     Ok(())

@@ -83,37 +83,41 @@ fn repeat_is_answered_as_first(rt: HostRuntime) -> Result<(), Fail> {
     assert_answers(&rt, 8, &SCRIPT, &ANSWERS)
 }
 
+/// A session that is lost, and the next one.
+pub static LOST: [&str; 11] = [
+    "up",
+    "go",
+    UPDATE_ZERO,
+    "down",
+    "up",
+    UPDATE_ZERO,
+    "go",
+    NEXT_COMMAND_ONE,
+    NEXT_COMMAND_ZERO,
+    "log 0",
+    "log 1",
+];
+
+/// What it answers.
+pub static LOST_ANSWERS: [&str; 13] = [
+    "ok",
+    "start 0 0",
+    "answer 0 nil",
+    "ok",
+    "ok",
+    "answer 0 exception no such command",
+    "start 0 1",
+    "answer 1 nil",
+    "answer 0 exception no such command",
+    "log 0 1 RETRY",
+    "oa",
+    "log 1 1 open",
+    "on",
+];
+
 #[test]
 fn numbers_start_afresh_after_a_loss(rt: HostRuntime) -> Result<(), Fail> {
-    static SCRIPT: [&str; 11] = [
-        "up",
-        "go",
-        UPDATE_ZERO,
-        "down",
-        "up",
-        UPDATE_ZERO,
-        "go",
-        NEXT_COMMAND_ONE,
-        NEXT_COMMAND_ZERO,
-        "log 0",
-        "log 1",
-    ];
-    static ANSWERS: [&str; 13] = [
-        "ok",
-        "start 0 0",
-        "answer 0 nil",
-        "ok",
-        "ok",
-        "answer 0 exception no such command",
-        "start 0 1",
-        "answer 1 nil",
-        "answer 0 exception no such command",
-        "log 0 1 RETRY",
-        "oa",
-        "log 1 1 open",
-        "on",
-    ];
-    assert_answers(&rt, 8, &SCRIPT, &ANSWERS)
+    assert_answers(&rt, 8, &LOST, &LOST_ANSWERS)
 }
 
 #[test]
@@ -138,34 +142,48 @@ fn text_may_stand_in_a_list(rt: HostRuntime) -> Result<(), Fail> {
     assert_answers(&rt, 8, &SCRIPT, &ANSWERS)
 }
 
+/// A session that is resumed, with a request that is sent again, and its drains.
+pub static RESUMED: [&str; 14] = [
+    "up",
+    "go",
+    UPDATE_ZERO,
+    UPDATE_ONE,
+    "cut",
+    "up",
+    UPDATE_ONE,
+    UPDATE_TWO,
+    "log 0",
+    "drain",
+    "drain",
+    "drain",
+    "drain",
+    "drain",
+];
+
+/// What it answers.
+pub static RESUMED_ANSWERS: [&str; 17] = [
+    "ok",
+    "start 0 0",
+    "answer 0 nil",
+    "answer 1 nil",
+    "ok",
+    "ok",
+    "answer 1 nil",
+    "answer 2 nil",
+    "log 0 3 open",
+    "oa",
+    "ob",
+    "oc",
+    "took",
+    "took",
+    "took",
+    "took",
+    "empty",
+];
+
 #[test]
 fn resumed_session_loses_and_doubles_no_line(rt: HostRuntime) -> Result<(), Fail> {
-    static SCRIPT: [&str; 9] = [
-        "up",
-        "go",
-        UPDATE_ZERO,
-        UPDATE_ONE,
-        "cut",
-        "up",
-        UPDATE_ONE,
-        UPDATE_TWO,
-        "log 0",
-    ];
-    static ANSWERS: [&str; 12] = [
-        "ok",
-        "start 0 0",
-        "answer 0 nil",
-        "answer 1 nil",
-        "ok",
-        "ok",
-        "answer 1 nil",
-        "answer 2 nil",
-        "log 0 3 open",
-        "oa",
-        "ob",
-        "oc",
-    ];
-    assert_answers(&rt, 8, &SCRIPT, &ANSWERS)
+    assert_answers(&rt, 8, &RESUMED, &RESUMED_ANSWERS)
 }
 
 #[test]
