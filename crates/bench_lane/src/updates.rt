@@ -1,14 +1,14 @@
 //! Updates of one line each, heard by a reader's end.
 
 use bm_lane::{HearRefusal, ReaderEnd, Yard};
-use bm_lines::{Letter, LogName, Parcel};
+use bm_lines::{Letter, LogName, Parcel, STDIO};
 use bm_session::{Body, Event};
 use std::alloc::{AllocError, Global};
 use std::sync::Wait;
 use std::thread;
 
 /// The log of all updates.
-pub const LOG: &str = "stdio";
+pub const LOG: &str = STDIO;
 
 fn update(alloc: Global, seq: u64) -> Result<Event, AllocError> {
     let mut parcel = Parcel::new(alloc);

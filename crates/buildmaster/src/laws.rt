@@ -13,7 +13,7 @@ pub fn said_is_logged()
     ensures numbers { NumbersAreSmall }
 {}
 
-/// The same over connections that are cut, with whatever is in flight, and resumed. Where the worker has nothing unanswered,
+/// What is said is logged over connections that are cut, with whatever is in flight, and resumed. Where the worker has nothing unanswered,
 /// no session was given up and the lane is drained, viewers see all that was said. A resumed schedule is a schedule, so all
 /// that holds of those holds here; and what is sent over its connections are the worker's requests, each with its number and
 /// its bytes.
@@ -27,8 +27,7 @@ pub fn resumed_is_logged()
 
 /// The bytes play no part: those of each request that a worker can say spell a tree that can be decoded and is a message, and
 /// whatever tree they spell and whatever message it is, its event is the one that schedules deliver. `Worker::say` and
-/// `finish` give these bytes; `decode_whole`, `read` and `Event::of_message` answer such a tree, message and event, and so do
-/// `read_text` and `Event::of_text`.
+/// `finish` give these bytes; `decode_whole` answers such a tree, and `Event::of_value` its event.
 pub fn bytes_are_the_event()
     ensures read { BytesAreRead }
     ensures event { BytesAreTheEvent }

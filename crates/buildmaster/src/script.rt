@@ -4,6 +4,7 @@ ghost use Rattle.std.specs.Prelude.{◌≡◌, ◌≢◌, ◌≤◌, ◌++◌, �
 ghost use Rattle.std.specs.Io.KnownBytes.{Consumes, IsAtEnd};
 
 use crate::numbers::read_number;
+use bm_lines::STDIO;
 use memchr::memchr;
 use std::alloc::Global;
 use std::io;
@@ -14,10 +15,6 @@ pub const MOST_BYTES: usize = 67_108_864;
 
 /// At the most so many bytes come with one read.
 const PIECE: usize = 65_536;
-
-/// The log that a line asks for where it names none: that of standard output, standard error and
-/// header lines, as in the Buildbot manual.
-const STDIO: &str = "stdio";
 
 /// What a line of a script asks that is neither a message nor a drain.
 #[derive(Clone, Copy, Debug, PartialEq, Eq)]
