@@ -9,7 +9,7 @@ ghost use Rattle.bm_msg.specs.Reading.{carries, seen, named_field, log_item, ite
 
 use crate::field::{Field, Fields};
 use crate::keys::str_of;
-use bm_lines::{Letter, LogName, Text};
+use bm_lines::{Letter, LogName, MOST_NAME_BYTES, Text};
 use bm_value::{Items, Num, Value};
 use std::alloc::{AllocError, Allocator, Global};
 
@@ -26,13 +26,10 @@ pub enum Seen<'a> {
     Wrong,
 }
 
-/// The longest name of a log, in bytes.
-const LONGEST_NAME: usize = 255;
-
 fn is_log_name(name: &str) -> bool
     ensures { result ≡ is_log_name name.now }
 {
-    !name.is_empty() && name.len() <= LONGEST_NAME
+    !name.is_empty() && name.len() <= MOST_NAME_BYTES
 }
 
 /// The text of a str, or of an array's first item.

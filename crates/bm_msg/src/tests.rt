@@ -8,7 +8,7 @@ use crate::{
 };
 use bm_lines::{Letter, Text};
 use bm_value::{EncodeError, Value, decode_whole};
-use std::alloc::Global;
+use std::alloc::{AllocError, Global};
 use std::test::Fail;
 
 const UPDATE_ZERO: &[u8] =
@@ -63,18 +63,28 @@ fn written(alloc: Global, message: &Message) -> Result<Vec<u8>, EncodeError> {
     }
 }
 
-/// The written form of an equal message.
-fn copy_written(alloc: Global, message: &Message) -> Result<Vec<u8>, EncodeError> {
-    let copied = message.copy(alloc)?;
-    written(alloc, &copied)
+/// Whether the message is written as these bytes.
+fn is_written_as(alloc: Global, message: &Message, want: &[u8]) -> bool {
+    match written(alloc, message) {
+        Ok(bytes) => bytes.as_slice() == want,
+        Err(_) => false,
+    }
+}
+
+/// Whether a copy of the message is written as these bytes.
+fn is_copied(alloc: Global, message: &Message, want: &[u8]) -> bool {
+    match message.copy(alloc) {
+        Ok(copied) => is_written_as(alloc, &copied, want),
+        Err(_) => false,
+    }
 }
 
 /// Whether the bytes are a message whose written form is `want`, as is that of a copy.
-fn is_written(alloc: Global, bytes: &[u8], want: &[u8]) -> Result<bool, Fail> {
-    let message = message(alloc, bytes)?;
-    let written = written(alloc, &message)?;
-    let copied = copy_written(alloc, &message)?;
-    Ok(written.as_slice() == want && copied.as_slice() == want)
+fn is_written(alloc: Global, bytes: &[u8], want: &[u8]) -> bool {
+    match message(alloc, bytes) {
+        Ok(message) => { is_written_as(alloc, &message, want) && is_copied(alloc, &message, want) }
+        Err(_) => false,
+    }
 }
 
 /// Messages in their written forms.
@@ -96,11 +106,10 @@ const WRITTEN: [&[u8]; 14] = [
 ];
 
 #[test]
-fn written_forms_are_read_and_written_back(rt: HostRuntime) -> Result<(), Fail> {
+fn written_forms_are_read_and_written_back(rt: HostRuntime) {
     for bytes in &WRITTEN {
-        assert!(&rt; is_written(rt.alloc(), bytes, bytes)?, "{bytes:?}");
+        assert!(&rt; is_written(rt.alloc(), bytes, bytes), "{bytes:?}");
     }
-    Ok(())
 }
 
 /// Messages in other spellings, and their written forms.
@@ -150,11 +159,10 @@ const OTHER_SPELLINGS: [(&[u8], &[u8]); 9] = [
 ];
 
 #[test]
-fn other_spellings_are_read_alike(rt: HostRuntime) -> Result<(), Fail> {
+fn other_spellings_are_read_alike(rt: HostRuntime) {
     for (bytes, want) in &OTHER_SPELLINGS {
-        assert!(&rt; is_written(rt.alloc(), bytes, want)?, "{bytes:?}");
+        assert!(&rt; is_written(rt.alloc(), bytes, want), "{bytes:?}");
     }
-    Ok(())
 }
 
 /// Values that are no message, and why.
@@ -238,9 +246,11 @@ fn what_is_no_message_is_told_why(rt: HostRuntime) {
 type OneText = (u64, u64, Letter, &'static str);
 
 /// Whether what is seen of the bytes' message is this text, or none.
-fn is_seen(alloc: Global, bytes: &[u8], want: Option<OneText>) -> Result<bool, Fail> {
-    let value = decode_whole(alloc, bytes)?;
-    let is_right = match (read_text(&value), want) {
+fn is_seen(alloc: Global, bytes: &[u8], want: Option<OneText>) -> bool {
+    let Ok(value) = decode_whole(alloc, bytes) else {
+        return false;
+    };
+    match (read_text(&value), want) {
         (Some(update), Some((seq, command, letter, text))) => {
             update.seq == seq
                 && update.command == command
@@ -248,8 +258,7 @@ fn is_seen(alloc: Global, bytes: &[u8], want: Option<OneText>) -> Result<bool, F
                 && update.text == text
         }
         (seen, want) => seen.is_none() && want.is_none(),
-    };
-    Ok(is_right)
+    }
 }
 
 /// Messages, and the text that is seen of each.
@@ -282,11 +291,10 @@ const SEEN: [(&[u8], Option<OneText>); 9] = [
 ];
 
 #[test]
-fn updates_of_one_text_are_seen(rt: HostRuntime) -> Result<(), Fail> {
+fn updates_of_one_text_are_seen(rt: HostRuntime) {
     for (bytes, want) in &SEEN {
-        assert!(&rt; is_seen(rt.alloc(), bytes, *want)?, "{bytes:?}");
+        assert!(&rt; is_seen(rt.alloc(), bytes, *want), "{bytes:?}");
     }
-    Ok(())
 }
 
 /// Whether it is update 0 of command 0, whose only field is this text of standard output.
@@ -343,34 +351,44 @@ enum Says {
     Other,
 }
 
-fn what_is_said(alloc: Global, bytes: &[u8]) -> Result<Says, Fail> {
-    let value = decode_whole(alloc, bytes)?;
-    let said = match Incoming::read(alloc, &value) {
-        Ok(Incoming::Message(message)) if is_update_zero(&message, "a\n") => Says::UpdateZero,
+fn what_was_read(read: &Result<Incoming, MsgError>) -> Says {
+    match read {
+        Ok(Incoming::Message(message)) if is_update_zero(message, "a\n") => Says::UpdateZero,
         Ok(Incoming::BadArgs(5)) => Says::BadArgsOfFive,
         Err(MsgError::NotMap) => Says::NoMap,
         Ok(_) | Err(_) => Says::Other,
-    };
-    Ok(said)
+    }
+}
+
+fn what_is_said(alloc: Global, bytes: &[u8]) -> Says {
+    match decode_whole(alloc, bytes) {
+        Ok(value) => what_was_read(&Incoming::read(alloc, &value)),
+        Err(_) => Says::Other,
+    }
 }
 
 #[test]
-fn bad_arguments_are_no_fault_of_what_is_heard(rt: HostRuntime) -> Result<(), Fail> {
+fn bad_arguments_are_no_fault_of_what_is_heard(rt: HostRuntime) {
     let alloc = rt.alloc();
-    assert!(rt; what_is_said(alloc, UPDATE_ZERO)? == Says::UpdateZero);
-    assert!(rt; what_is_said(alloc, UPDATE_OF_A_BAD_ITEM)? == Says::BadArgsOfFive);
-    assert!(rt; what_is_said(alloc, b"\x91\xc0")? == Says::NoMap);
-    Ok(())
+    assert!(rt; what_is_said(alloc, UPDATE_ZERO) == Says::UpdateZero);
+    assert!(rt; what_is_said(alloc, UPDATE_OF_A_BAD_ITEM) == Says::BadArgsOfFive);
+    assert!(rt; what_is_said(alloc, b"\x91\xc0") == Says::NoMap);
+}
+
+fn are_bytes(written: Result<Vec<u8>, AllocError>, want: &[u8]) -> bool {
+    match written {
+        Ok(bytes) => bytes.as_slice() == want,
+        Err(_) => false,
+    }
 }
 
 #[test]
-fn answers_are_nil_or_an_exception(rt: HostRuntime) -> Result<(), Fail> {
+fn answers_are_nil_or_an_exception(rt: HostRuntime) {
     let alloc = rt.alloc();
-    let nil = write_answer(alloc, 0, None)?;
-    let exception = write_answer(alloc, 1, Some("no such command"))?;
-    assert!(rt; nil.as_slice() == RESPONSE_ZERO);
-    assert!(rt; exception.as_slice() == EXCEPTION_ONE);
-    Ok(())
+    let nil = write_answer(alloc, 0, None);
+    let exception = write_answer(alloc, 1, Some("no such command"));
+    assert!(rt; are_bytes(nil, RESPONSE_ZERO));
+    assert!(rt; are_bytes(exception, EXCEPTION_ONE));
 }
 
 /// Empty arrays, one inside another.
@@ -383,51 +401,55 @@ fn nested(alloc: Global, depth: usize) -> Result<Value<Global>, Fail> {
     Ok(decode_whole(alloc, bytes.as_slice())?)
 }
 
-fn start(alloc: Global, depth: usize) -> Result<Numbered, Fail> {
+/// Why a start with args that nest this deep isn't written.
+fn start_fault(alloc: Global, depth: usize) -> Result<Option<EncodeError>, Fail> {
     let request = Request::StartCommand {
         command: 0,
         name: Text::from_str(alloc, "shell")?,
         args: nested(alloc, depth)?,
     };
-    Ok(Numbered { seq: 0, request })
+    Ok(write_request(alloc, &Numbered { seq: 0, request }).err())
 }
 
-fn answer(alloc: Global, depth: usize) -> Result<Response, Fail> {
-    Ok(Response {
+/// Why a response whose result nests this deep isn't written.
+fn response_fault(alloc: Global, depth: usize) -> Result<Option<EncodeError>, Fail> {
+    let response = Response {
         seq: 0,
         result: nested(alloc, depth)?,
         exception: false,
-    })
+    };
+    Ok(write_response(alloc, &response).err())
 }
 
 #[test]
 fn parts_nest_31_deep_and_no_deeper(rt: HostRuntime) -> Result<(), Fail> {
     let alloc = rt.alloc();
-    assert!(rt; write_request(alloc, &start(alloc, 31)?).is_ok());
-    assert_eq!(rt;
-        write_request(alloc, &start(alloc, 32)?).err(),
-        Some(EncodeError::TooDeep)
-    );
-    assert!(rt; write_response(alloc, &answer(alloc, 31)?).is_ok());
-    assert_eq!(rt;
-        write_response(alloc, &answer(alloc, 32)?).err(),
-        Some(EncodeError::TooDeep)
-    );
+    assert!(rt; start_fault(alloc, 31)?.is_none());
+    assert!(rt; start_fault(alloc, 32)? == Some(EncodeError::TooDeep));
+    assert!(rt; response_fault(alloc, 31)?.is_none());
+    assert!(rt; response_fault(alloc, 32)? == Some(EncodeError::TooDeep));
     Ok(())
 }
 
-#[test]
-fn faults_have_their_texts(rt: HostRuntime) -> Result<(), Fail> {
-    let alloc = rt.alloc();
-    let rows = [
-        (MsgError::NotMap, "not a map"),
-        (MsgError::NoSeq, "no seq_number"),
-        (MsgError::NoOp, "no op"),
-        (MsgError::BadArgs(5), "bad arguments"),
-        (MsgError::Mem, "out of memory"),
-    ];
-    for (fault, want) in rows {
-        assert_eq!(rt; fault.to_string(alloc)?.as_str(), want);
+/// The text of each fault.
+const TEXTS: [(MsgError, &str); 5] = [
+    (MsgError::NotMap, "not a map"),
+    (MsgError::NoSeq, "no seq_number"),
+    (MsgError::NoOp, "no op"),
+    (MsgError::BadArgs(5), "bad arguments"),
+    (MsgError::Mem, "out of memory"),
+];
+
+fn is_told(alloc: Global, fault: MsgError, want: &str) -> bool {
+    match fault.to_string(alloc) {
+        Ok(told) => told.as_str() == want,
+        Err(_) => false,
     }
-    Ok(())
+}
+
+#[test]
+fn faults_have_their_texts(rt: HostRuntime) {
+    for (fault, want) in &TEXTS {
+        assert!(&rt; is_told(rt.alloc(), *fault, want), "{want}");
+    }
 }
