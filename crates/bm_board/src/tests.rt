@@ -351,11 +351,12 @@ fn is_step(step: &StepPlan, plan: &Plan) -> bool {
 }
 
 fn are_steps(steps: &[StepPlan], plans: &[Plan]) -> bool {
+    for (n, step) in steps.iter().enumerate() {
+        if n >= plans.len() || !is_step(step, &plans[n]) {
+            return false;
+        }
+    }
     steps.len() == plans.len()
-        && steps
-            .iter()
-            .zip(plans)
-            .all(|(step, plan)| is_step(step, plan))
 }
 
 #[test]
