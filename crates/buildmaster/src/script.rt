@@ -69,15 +69,30 @@ pub fn read_script<R: Read>(alloc: Global, input: &mut R) -> io::Result<Vec<u8>>
     ensures end { OnOk result (IsAtEnd (R.remaining input.new)) }
     ensures few { IfOk result (λ script. vec_len script ≤ 67108864) }
 {
+    read_up_to(MOST_BYTES, alloc, input)
+}
+
+/// The bytes up to the input's end, of which there may be `most`.
+///
+/// # Errors
+///
+/// A read that failed, one that was interrupted too; `FileTooLarge` where there are more than `most`
+/// bytes; and `OutOfMemory`.
+pub fn read_up_to<R: Read>(most: usize, alloc: Global, input: &mut R) -> io::Result<Vec<u8>>
+    ensures read { IfOk result (λ script.
+        Consumes (R.remaining input.old) (R.remaining input.new) script.items) }
+    ensures end { OnOk result (IsAtEnd (R.remaining input.new)) }
+    ensures few { IfOk result (λ script. vec_len script ≤ most) }
+{
     let mut script = Vec::new(alloc);
     let mut piece = vec![in alloc; 0u8; PIECE]?;
     // Each read but the last gives a byte.
-    'reads: for _ in 0..=MOST_BYTES {
+    'reads: for _ in 0..=most {
         let count = input.read(piece.as_mut_slice())?;
         if count == 0 {
             return Ok(script);
         }
-        if count > MOST_BYTES - script.len() {
+        if count > most - script.len() {
             break;
         }
         script.extend_from_slice(&piece[..count])?;

@@ -2,8 +2,8 @@
 
 use super::{Replayed, replay_bytes, replay_script};
 use crate::replay::replay_run;
-use crate::script::MOST_BYTES;
-use std::alloc::Global;
+use crate::script::read_up_to;
+use std::alloc::{AllocError, Global};
 use std::io;
 use std::io::{Read, Write};
 use std::test::Fail;
@@ -136,19 +136,34 @@ fn is_unanswered(alloc: Global, bytes: &[u8], kind: io::ErrorKind) -> Result<boo
     Ok(replay_from(alloc, FailingReader { bytes, kind })?.is(1, "", ""))
 }
 
+/// A script of this first line and many more.
+fn behind(alloc: Global, first: &str) -> Result<String, AllocError> {
+    let mut script = String::from_str(alloc, first)?;
+    for _ in 0..30_000 {
+        script.push_str("up\n")?;
+    }
+    Ok(script)
+}
+
+/// How a read fails.
+const KINDS: [io::ErrorKind; 2] = [io::ErrorKind::ConnectionReset, io::ErrorKind::Interrupted];
+
 #[test]
 fn failed_read_answers_nothing(rt: HostRuntime) -> Result<(), Fail> {
-    for kind in [io::ErrorKind::ConnectionReset, io::ErrorKind::Interrupted] {
-        assert!(rt; is_unanswered(rt.alloc(), b"up\ngo\n", kind)?);
+    for kind in &KINDS {
+        assert!(rt;
+            is_unanswered(rt.alloc(), b"up\ngo\n", *kind)?,
+            "at {kind:?}"
+        );
     }
     // Many lines were read before the read fails, and one that isn't understood may be among them.
-    for first in ["up\n", "no\n"] {
-        let mut script = String::from_str(rt.alloc(), first)?;
-        for _ in 0..30_000 {
-            script.push_str("up\n")?;
-        }
+    for first in &["up\n", "no\n"] {
+        let script = behind(rt.alloc(), first)?;
         let kind = io::ErrorKind::ConnectionReset;
-        assert!(rt; is_unanswered(rt.alloc(), script.as_bytes(), kind)?);
+        assert!(rt;
+            is_unanswered(rt.alloc(), script.as_bytes(), kind)?,
+            "at {first:?}"
+        );
     }
     Ok(())
 }
@@ -159,22 +174,45 @@ fn input_that_is_too_long_answers_nothing(rt: HostRuntime) -> Result<(), Fail> {
     Ok(())
 }
 
-/// Replays a comment of so many bytes and then `up`.
-fn commented(alloc: Global, left: usize) -> Result<Replayed, Fail> {
+/// What is read of a comment of so many bytes and a line `up`, three bytes with the line end, where
+/// `most` bytes may come.
+fn commented(alloc: Global, left: usize, most: usize) -> io::Result<Vec<u8>> {
     let end: &[u8] = b"\nup";
-    replay_from(alloc, Comments { left }.chain(end))
+    read_up_to(most, alloc, &mut Comments { left }.chain(end))
+}
+
+/// Whether a comment of so many bytes and `up` are read whole, where no byte more may come.
+fn is_taken(alloc: Global, left: usize) -> bool {
+    let most = left.saturating_add(3);
+    match commented(alloc, left, most) {
+        Ok(script) => script.len() == most && script.as_slice().ends_with(b"\nup".as_slice()),
+        Err(_) => false,
+    }
+}
+
+/// Whether they are refused as too long, where a byte less may come.
+fn is_refused(alloc: Global, left: usize) -> bool {
+    match commented(alloc, left, left.saturating_add(2)) {
+        Ok(_) => false,
+        Err(error) => error.kind() == io::ErrorKind::FileTooLarge,
+    }
+}
+
+/// Lengths of a comment about that of the greatest read, which is 65,536 bytes, and far from it.
+const LENGTHS: [usize; 7] = [0, 1, 1_000, 65_533, 65_534, 65_536, 200_000];
+
+#[test]
+fn longest_input_is_taken(rt: HostRuntime) {
+    for left in &LENGTHS {
+        assert!(rt; is_taken(rt.alloc(), *left), "at {left}");
+    }
 }
 
 #[test]
-fn longest_input_is_taken(rt: HostRuntime) -> Result<(), Fail> {
-    assert!(rt; commented(rt.alloc(), MOST_BYTES - 3)?.is(0, "ok\n", ""));
-    Ok(())
-}
-
-#[test]
-fn input_with_a_byte_too_many_answers_nothing(rt: HostRuntime) -> Result<(), Fail> {
-    assert!(rt; commented(rt.alloc(), MOST_BYTES - 2)?.is(1, "", ""));
-    Ok(())
+fn input_with_a_byte_too_many_is_refused(rt: HostRuntime) {
+    for left in &LENGTHS {
+        assert!(rt; is_refused(rt.alloc(), *left), "at {left}");
+    }
 }
 
 /// The status of a replay of 13 bytes of answers where the output has room for so many, or none where a fault is told.

@@ -193,18 +193,23 @@ impl Command {
     pub fn is_run_by(&self, alloc: Global, command: u64, argv: &Argv) -> Result<bool, AllocError> {
         let number = format!(in alloc; "{command}")?;
         let line = format!(in alloc; "build {command}")?;
-        let words = argv.as_slice();
-        Ok(match (self.words, words.len()) {
-            (Words::List, 2) => words[0].as_str() == "build"
-                && words[1].as_str() == number.as_str(),
-            (Words::Line, 3) => {
-                words[0].as_str() == "sh"
-                    && words[1].as_str() == "-c"
-                    && words[2].as_str() == line.as_str()
-            }
+        Ok(match self.words {
+            Words::List => are(argv, &["build", number.as_str()]),
+            Words::Line => are(argv, &["sh", "-c", line.as_str()]),
             _ => false,
         })
     }
+}
+
+/// Whether the words are these.
+fn are(argv: &Argv, wanted: &[&str]) -> bool {
+    let words = argv.as_slice();
+    for (word, text) in words.iter().zip(wanted) {
+        if word.as_str() != *text {
+            return false;
+        }
+    }
+    words.len() == wanted.len()
 }
 
 fn more(count: usize, by: usize) -> usize {

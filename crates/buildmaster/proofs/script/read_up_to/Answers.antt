@@ -3,7 +3,7 @@ use Rattle.std.proofs.lemmas.List.{length-take}
 use Rattle.std.specs.Io.KnownBytes.{Consumes}
 use Rattle.std.proofs.KnownBytes.{Consumes-nil, Consumes-trans}
 use Rattle.buildmaster.proofs.Lines.{front-of, reads-none}
-use Rattle.buildmaster.proofs.script.read_script.Goals as goal
+use Rattle.buildmaster.proofs.script.read_up_to.Goals as goal
 
 pub reads-init : goal.reads-init
 reads-init g c = record {
@@ -15,7 +15,7 @@ reads-init g c = record {
 pub reads-preserved : goal.reads-preserved
 reads-preserved g c = record {
   read = rw c.in_ok-extend_from_slice.ensures.items (Consumes-trans _ _ _ _ _ c.reads.invariant.read (subst (λ ys. Consumes (g.R.Read.remaining c.reads.input) (g.R.Read.remaining c.read.new.self) ys) (front-of _ c.reads.piece.len _ _ _ c.in_ok-count.ensures.bound.0 (omega (arith, c.in_ok-count.ensures.bound.0, c.reads.invariant.room, c.reads.piece.ok.0, c.read.auto.buf)) c.deref.ensures.value) c.in_ok-count.ensures.bytes.0));
-  few = omega (arith, ap length c.in_ok-extend_from_slice.ensures.items, length-append c.reads.script.items (take c.in_ok-count.count c.deref.result.now), length-take c.in_ok-count.count c.deref.result.now, c.if-count-len.false, c.len.ensures, c.reads.script.ok.0, c.reads.invariant.few);
+  few = omega (arith, ap length c.in_ok-extend_from_slice.ensures.items, length-append c.reads.script.items (take c.in_ok-count.count c.deref.result.now), length-take c.in_ok-count.count c.deref.result.now, c.if-count-most.false, c.len.ensures, c.reads.script.ok.0, c.reads.invariant.few);
   room = omega (arith, c.reads.piece.ok.0, c.reads.invariant.room, length-take c.reads.piece.len (c.read.new.buf ++ drop (length c.read.new.buf) c.reads.piece.items), length-append c.read.new.buf (drop (length c.read.new.buf) c.reads.piece.items), length-drop (length c.read.new.buf) c.reads.piece.items);
 }
 
