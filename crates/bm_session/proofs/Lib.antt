@@ -4,11 +4,11 @@ pub mod Taken
 pub mod Visible
 pub mod Words
 mod Rows
-mod Scanned
 mod Lanes
 mod Orders
 mod Runs
 mod Fields
+mod Events
 mod Merged
 mod Inserted
 mod Listed
@@ -16,4 +16,4 @@ mod Lookups
 mod Stepped
 mod Taking
 mod Hearing
-mod Flagged
+mod Logged

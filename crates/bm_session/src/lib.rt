@@ -5,17 +5,16 @@
 #![tactic(auto)]
 
 mod carried;
-mod counted;
 mod event;
 mod item;
 pub mod laws;
+mod log;
 mod plan;
 mod ranges;
 mod refusal;
 mod reply;
 mod results;
 mod run;
-mod scan;
 mod seen;
 mod session;
 mod table;
@@ -29,6 +28,7 @@ pub use results::Results;
 pub use run::Ran;
 pub use seen::Seen;
 pub use session::Session;
+pub use table::{MOST_EVENTS, MOST_OPEN};
 
 #[cfg(test)]
 mod tests;

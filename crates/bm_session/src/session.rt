@@ -1,11 +1,13 @@
+//! A lane's session.
+
 ghost use Rattle.std.specs.Prelude.{◌≡◌, ◌⊎◌, ◌++◌, ◌∷◌, ◌||◌, ◌≤◌, ◌<◌, ◌^◌, [], Some, None, true, false, IfOk, IfErr, IsOk, OnOk, if◌then◌else◌};
 ghost use Rattle.bm_session.specs.Trace.{is_up as up_of, is_cut as cut_of, orders as orders_of, commands as commands_of, refusal as refusal_of, reply as reply_of, item as item_of, log as log_of, has_log as has_log_in, outcome as outcome_of, was_taken};
 ghost use Rattle.bm_session.specs.Seen.{HoldsSeen};
 ghost use Rattle.bm_session.specs.Session.{IsPlanFor, needed, ran_as, trace_as, ran_after, trace_after};
 
-use crate::counted;
 use crate::event::Event;
 use crate::item::Item;
+use crate::log;
 use crate::plan::Plan;
 use crate::refusal::Refusal;
 use crate::reply::Reply;
@@ -13,7 +15,7 @@ use crate::results::Results;
 use crate::run::Ran;
 use crate::seen::Seen;
 use crate::table::Table;
-use bm_lines::Block;
+use bm_lines::{Block, STDIO};
 use std::alloc::{AllocError, Global};
 use std::marker::Model;
 
@@ -23,8 +25,6 @@ use std::marker::Model;
 #[derive(Drop)]
 pub struct Session {
     events: Vec<Event>,
-    /// For each event whether it is an update that counts for a log.
-    counted: Vec<bool>,
     table: Table,
 }
 
@@ -35,9 +35,15 @@ impl Model for Session {
 
     ghost Value = { Lane };
 
-    ghost view = { λ s. record { trace = s.events.items; room = min (vec_capacity s.events - vec_len s.events) (min (vec_capacity s.counted - vec_len s.counted) (table_room s.table)) } };
+    ghost view = { λ s. record {
+      trace = s.events.items;
+      room = min (vec_capacity s.events - vec_len s.events) (table_room s.table);
+    } };
 
-    ghost invariant = { λ s. IsSession (record { trace = s.events.items; room = min (vec_capacity s.events - vec_len s.events) (min (vec_capacity s.counted - vec_len s.counted) (table_room s.table)) }) s.counted.items s.table };
+    ghost invariant = { λ s. IsSession (record {
+      trace = s.events.items;
+      room = min (vec_capacity s.events - vec_len s.events) (table_room s.table);
+    }) s.table };
 }
 
 impl Session {
@@ -47,7 +53,6 @@ impl Session {
     {
         Ok(Session {
             events: Vec::with_capacity(alloc, 2)?,
-            counted: Vec::new(alloc),
             table: Table::new(alloc)?,
         })
     }
@@ -99,27 +104,21 @@ impl Session {
         self.table.commands()
     }
 
-    /// The log of the command under the name, or None where that log isn't there.
+    /// The log of the command under the name, or None where that log isn't there. It reads the whole trace, and takes
+    /// memory for that unless the command was never started.
     pub fn log(&self, alloc: Global, command: u64, name: &str) -> Result<Option<Block>, AllocError>
-        ensures { IfOk result (λ log. log ≡ (if has_log_in self.now.trace command name.now then Some (log_of self.now.trace command name.now) else None)) }
+        ensures log { IfOk result (λ log. log ≡ (if has_log_in self.now.trace command name.now
+            then Some (log_of self.now.trace command name.now) else None)) }
+        ensures unstarted { commands_of self.now.trace ≤ command → IsOk result }
     {
-        if !self.has_log(command, name) {
+        if command >= self.table.commands() {
             return Ok(None);
         }
-        let events = self.events.as_slice();
-        let flags = self.counted.as_slice();
-        let lines = counted::log(alloc, events, flags, command, name)?;
+        let (found, lines) = log::walk(alloc, self.events.as_slice(), command, name)?;
+        if name != STDIO && !found {
+            return Ok(None);
+        }
         Ok(Some(Block::from_lines(alloc, lines)?))
-    }
-
-    /// Whether the log is there.
-    fn has_log(&self, command: u64, name: &str) -> bool
-        ensures { result ≡ has_log_in self.now.trace command name.now }
-    {
-        let events = self.events.as_slice();
-        let flags = self.counted.as_slice();
-        command < self.table.commands()
-            && (name == "stdio" || counted::has_blocks(events, flags, command, name))
     }
 
     /// How the command ended, or None while it is open or isn't there.
@@ -151,8 +150,10 @@ impl Session {
         ensures item { IfOk result (λ p. p.given ≡ item_of self.old.trace event) }
 
         ensures back { IfErr result (λ r. r.0 ≡ event) }
-        ensures refused { IfErr result (λ r. (refusal_of self.old.trace event ≡ Some r.1) ⊎ ((refusal_of self.old.trace event ≡ None) × (r.1 ≡ Refusal.Mem))) }
-        ensures down { event ≡ Event.Down → (up_of self.old.trace || cut_of self.old.trace) ≡ true → IsOk result }
+        ensures refused { IfErr result (λ r. (refusal_of self.old.trace event ≡ Some r.1)
+            ⊎ ((refusal_of self.old.trace event ≡ None) × (r.1 ≡ Refusal.Mem))) }
+        ensures down { event ≡ Event.Down → (up_of self.old.trace || cut_of self.old.trace) ≡ true
+            → IsOk result }
     {
         match self.prepare(&event) {
             Ok((reply, item)) => Ok(Plan::of(event, reply, item)),
@@ -160,10 +161,8 @@ impl Session {
         }
     }
 
-    /// The same for an event that stays where it is: answers what the master sends and the event's item, or why it isn't
-    /// taken. Then `record` takes it.
-    #[inline(never)]
-    pub fn prepare(&mut self, event: &Event) -> Result<(Reply, Option<Item>), Refusal>
+    /// What the master sends after the event, and its item, or why it isn't taken. Makes the room that it needs.
+    fn prepare(&mut self, event: &Event) -> Result<(Reply, Option<Item>), Refusal>
         ensures same { self.new.trace ≡ self.old.trace }
         ensures room { self.old.room ≤ self.new.room }
 
@@ -172,8 +171,10 @@ impl Session {
         ensures reply { IfOk result (λ r. r.0 ≡ reply_of self.old.trace event.now) }
         ensures item { IfOk result (λ r. r.1 ≡ item_of self.old.trace event.now) }
 
-        ensures refused { IfErr result (λ r. (refusal_of self.old.trace event.now ≡ Some r) ⊎ ((refusal_of self.old.trace event.now ≡ None) × (r ≡ Refusal.Mem))) }
-        ensures down { event.now ≡ Event.Down → (up_of self.old.trace || cut_of self.old.trace) ≡ true → IsOk result }
+        ensures refused { IfErr result (λ r. (refusal_of self.old.trace event.now ≡ Some r)
+            ⊎ ((refusal_of self.old.trace event.now ≡ None) × (r ≡ Refusal.Mem))) }
+        ensures down { event.now ≡ Event.Down
+            → (up_of self.old.trace || cut_of self.old.trace) ≡ true → IsOk result }
     {
         if let Some(reason) = self.table.refusal(self.events.len(), event) {
             return Err(reason);
@@ -186,33 +187,24 @@ impl Session {
             Event::Down => 1,
             _ => 2,
         };
-        if self.events.reserve(needed).is_err()
-            || self.counted.reserve(needed).is_err()
-            || self.table.reserve(needed).is_err()
-        {
+        if self.events.reserve(needed).is_err() || self.table.reserve(needed).is_err() {
             return Err(Refusal::Mem);
         }
         Ok((reply, item))
     }
 
-    /// Takes an event that was prepared, where none was taken since. It is moved at once to where it stays.
-    #[inline(never)]
-    pub fn record(&mut self, event: Event)
+    /// Takes an event that was prepared, where none was taken since.
+    fn record(&mut self, event: Event)
         requires accepted { refusal_of self.old.trace event ≡ None }
         requires room { needed event ≤ self.old.room }
         ensures { self.new.trace ≡ self.old.trace ++ event ∷ [] }
     {
-        let place = self.events.len();
+        self.table.take(&event);
         self.events.push_reserved(event);
-        let event = &self.events[place];
-        let counts = self.table.counts(event);
-        self.table.take(event);
-        self.counted.push_reserved(counts);
     }
 
     /// Takes the event of the plan: answers what the master sends, and the event's item unless it was taken from the
     /// plan before.
-    #[inline(always)]
     pub fn commit(&mut self, plan: Plan) -> (Reply, Option<Item>)
         requires { IsPlanFor self.old plan }
         ensures trace { self.new.trace ≡ self.old.trace ++ plan.event ∷ [] }
@@ -240,8 +232,10 @@ impl Session {
 
     /// Takes the event, or passes it over.
     fn take(&mut self, event: Event) -> Result<Ran, AllocError>
-        ensures trace { IfOk result (λ r. self.new.trace ≡ trace_as self.old.trace event (refusal_of self.old.trace event)) }
-        ensures ran { IfOk result (λ r. r ≡ ran_as self.old.trace event (refusal_of self.old.trace event)) }
+        ensures trace { IfOk result (λ r. self.new.trace
+            ≡ trace_as self.old.trace event (refusal_of self.old.trace event)) }
+        ensures ran { IfOk result
+            (λ r. r ≡ ran_as self.old.trace event (refusal_of self.old.trace event)) }
     {
         match self.ready(event) {
             Ok(plan) => {
@@ -254,7 +248,6 @@ impl Session {
     }
 
     /// Gives the event of the plan back. Nothing was done.
-    #[inline(always)]
     pub fn withdraw(&mut self, plan: Plan) -> Event
         ensures event { result ≡ plan.event }
         ensures same { self.new ≡ self.old }

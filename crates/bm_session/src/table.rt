@@ -1,11 +1,12 @@
+//! What a session keeps of its trace.
+
 ghost use Rattle.std.specs.Prelude.{◌≡◌, ◌==◌, ◌||◌, ◌&&◌, ◌≤◌, ◌<◌, ◌+◌, ◌^◌, ◌∷◌, ◌++◌, [], slice_set, ℕ, true, false, not, List, length, map, filter, find, option_map, is_some, if◌then◌else◌, Some, None, IfOk, IsOk, OnOk, vec_len, vec_capacity};
 ghost use Rattle.std.specs.List.{list_any};
 ghost use Rattle.bm_session.specs.Events.{is_fault as is_fault_event};
 ghost use Rattle.bm_session.specs.Trace.{Trace, is_up as up_of, is_cut as cut_of, commands as commands_of, is_open as is_open_in, is_new as is_new_in, ended_by as ended_by_of, outcome as outcome_of, verdict as verdict_of, answer as answer_of, reply as reply_of, refusal as refusal_of, item as item_of, result_of_rc, was_taken};
 ghost use Rattle.bm_session.specs.declared.table.Open.{Open};
-ghost use Rattle.bm_session.specs.Counted.{counts as counts_in};
 ghost use Rattle.bm_session.specs.Seen.{verdict_in};
-ghost use Rattle.bm_session.specs.Table.{IsTable, IsTableUp, is_link_cut, table_room, asks, open_entry, with_stop, with_told, ends_as as ends_as_lem};
+ghost use Rattle.bm_session.specs.Table.{IsTable, IsTableUp, counts as counts_in, is_link_cut, table_room, asks, open_entry, with_stop, with_told, ends_as as ends_as_lem};
 
 use crate::event::{Body, Event};
 use crate::item::Item;
@@ -15,6 +16,12 @@ use crate::reply::{Reply, Verdict};
 use crate::results::Results;
 use bm_value::Num;
 use std::alloc::{AllocError, Global};
+
+/// So many commands of a lane may be open.
+pub const MOST_OPEN: usize = 4;
+
+/// So many events a lane may have, and one more that gives its session up.
+pub const MOST_EVENTS: usize = 999_999;
 
 /// Whether a lane's worker is there.
 #[derive(Clone, Copy, Debug, PartialEq, Eq)]
@@ -162,7 +169,7 @@ impl Table {
         Ok(Table {
             link: Link::Down,
             orders: 0,
-            opened: Vec::with_capacity(alloc, 4)?,
+            opened: Vec::with_capacity(alloc, MOST_OPEN)?,
             outcomes: Vec::new(alloc),
             seen: Ranges::new(alloc),
         })
@@ -183,8 +190,9 @@ impl Table {
     }
 
     /// Whether the event is a fresh update of a command that is open.
-    pub fn counts(&self, event: &Event) -> bool
-        ensures { (t : Trace) → IsTable self.now t → refusal_of t event.now ≡ None → result ≡ counts_in t event.now }
+    fn counts(&self, event: &Event) -> bool
+        ensures { (t : Trace) → IsTable self.now t → refusal_of t event.now ≡ None
+            → result ≡ counts_in t event.now }
     {
         match event {
             Event::In(n, Body::Update { command, .. }) => self.updates(*n, *command),
@@ -208,7 +216,8 @@ impl Table {
 
     /// The verdict on a fresh request.
     fn verdict(&self, body: &Body) -> Verdict
-        ensures { (t : Trace) (n : ℕ) → IsTable self.now t → result ≡ verdict_of t (Event.In n body.now) }
+        ensures { (t : Trace) (n : ℕ) → IsTable self.now t
+            → result ≡ verdict_of t (Event.In n body.now) }
     {
         match body {
             Body::Update { command, .. } | Body::Complete { command, .. } => {
@@ -246,7 +255,8 @@ impl Table {
 
     /// Why the event isn't taken where so many were taken before it.
     pub fn refusal(&self, taken: usize, event: &Event) -> Option<Refusal>
-        ensures { (t : Trace) → IsTable self.now t → length t ≡ taken → result ≡ refusal_of t event.now }
+        ensures { (t : Trace) → IsTable self.now t → length t ≡ taken
+            → result ≡ refusal_of t event.now }
     {
         if let Event::Up = event {
             if self.is_up() {
@@ -262,7 +272,7 @@ impl Table {
         match event {
             Event::Down => return None,
             Event::Go => {
-                if self.opened.len() >= 4 {
+                if self.opened.len() >= MOST_OPEN {
                     return Some(Refusal::TooManyOpen);
                 }
             }
@@ -273,7 +283,7 @@ impl Table {
             }
             _ => {}
         }
-        if taken >= 999_999 {
+        if taken >= MOST_EVENTS {
             Some(Refusal::Full)
         } else {
             None
@@ -289,7 +299,8 @@ impl Table {
 
     /// The verdict that a request gets: the first one on its number.
     fn answer(&self, number: u64, body: &Body) -> Verdict
-        ensures { (t : Trace) → IsTable self.now t → up_of t ≡ true → result ≡ answer_of t number (Event.In number body.now) }
+        ensures { (t : Trace) → IsTable self.now t → up_of t ≡ true
+            → result ≡ answer_of t number (Event.In number body.now) }
     {
         match self.seen.verdict(number) {
             Some(first) => first,
@@ -299,7 +310,8 @@ impl Table {
 
     /// What the master sends after the event.
     pub fn reply(&self, event: &Event) -> Reply
-        ensures { (t : Trace) → IsTable self.now t → refusal_of t event.now ≡ None → result ≡ reply_of t event.now }
+        ensures { (t : Trace) → IsTable self.now t → refusal_of t event.now ≡ None
+            → result ≡ reply_of t event.now }
     {
         match event {
             Event::Up | Event::Cut | Event::Down => Reply::Silent,
@@ -314,7 +326,8 @@ impl Table {
 
     /// The open command that the message ends.
     fn ended(&self, number: u64, body: &Body) -> Option<Open>
-        ensures { (t : Trace) → IsTable self.now t → up_of t ≡ true → result ≡ option_map (open_entry t) (ended_by_of t (Event.In number body.now)) }
+        ensures { (t : Trace) → IsTable self.now t → up_of t ≡ true
+            → result ≡ option_map (open_entry t) (ended_by_of t (Event.In number body.now)) }
     {
         match body {
             Body::Complete { command, .. } => {
@@ -337,14 +350,16 @@ impl Table {
 
     /// Whether the event is a fresh update of the command, which is open.
     fn updates(&self, number: u64, command: u64) -> bool
-        ensures { (t : Trace) → IsTable self.now t → up_of t ≡ true → result ≡ (is_new_in t number && is_open_in t command) }
+        ensures { (t : Trace) → IsTable self.now t → up_of t ≡ true
+            → result ≡ (is_new_in t number && is_open_in t command) }
     {
         self.is_new(number) && self.is_open(command)
     }
 
     /// What the event does to the logs. A `Down` takes no memory.
     pub fn item(&self, event: &Event) -> Result<Option<Item>, AllocError>
-        ensures item { IfOk result (λ i. (t : Trace) → IsTable self.now t → refusal_of t event.now ≡ None → i ≡ item_of t event.now) }
+        ensures item { IfOk result (λ i. (t : Trace) → IsTable self.now t
+            → refusal_of t event.now ≡ None → i ≡ item_of t event.now) }
         ensures down { event.now ≡ Event.Down → IsOk result }
     {
         match event {
@@ -394,7 +409,8 @@ impl Table {
         requires orders { self.old.orders < 2 ^ 63 }
         requires places { 4 ≤ vec_capacity self.old.opened }
         requires room { 0 < table_room self.old }
-        ensures table { (t : Trace) → IsTable self.old t → was_taken t ≡ true → refusal_of t event.now ≡ None → IsTable self.new (t ++ event.now ∷ []) }
+        ensures table { (t : Trace) → IsTable self.old t → was_taken t ≡ true
+            → refusal_of t event.now ≡ None → IsTable self.new (t ++ event.now ∷ []) }
         ensures places { 4 ≤ vec_capacity self.new.opened }
         ensures room { table_room self.old ≤ table_room self.new + 1 }
     {
@@ -408,6 +424,23 @@ impl Table {
         }
     }
 
+    /// Takes the next event of a trace that was taken, and tells whether it counts for a log.
+    pub fn follow(&mut self, event: &Event) -> Result<bool, AllocError>
+        requires known { (t : Trace) × IsTable self.old t × (refusal_of t event.now ≡ None) }
+        requires orders { self.old.orders < 2 ^ 63 }
+        requires places { 4 ≤ vec_capacity self.old.opened }
+        ensures counts { IfOk result (λ b. (t : Trace) → IsTable self.old t
+            → refusal_of t event.now ≡ None → b ≡ counts_in t event.now) }
+        ensures table { OnOk result ((t : Trace) → IsTable self.old t → was_taken t ≡ true
+            → refusal_of t event.now ≡ None → IsTable self.new (t ++ event.now ∷ [])) }
+        ensures places { 4 ≤ vec_capacity self.new.opened }
+    {
+        self.reserve(1)?;
+        let counts = self.counts(event);
+        self.take(event);
+        Ok(counts)
+    }
+
     fn orders_after_up(&self) -> u64
         ensures { result ≡ (if is_link_cut self.now.link then self.now.orders else 0) }
     {
@@ -418,10 +451,9 @@ impl Table {
     }
 
     /// A session that was cut is resumed; else one begins.
-    #[cold]
-    #[inline(never)]
     fn take_up(&mut self)
-        ensures table { (t : Trace) → IsTable self.old t → refusal_of t Event.Up ≡ None → IsTable self.new (t ++ Event.Up ∷ []) }
+        ensures table { (t : Trace) → IsTable self.old t → refusal_of t Event.Up ≡ None
+            → IsTable self.new (t ++ Event.Up ∷ []) }
         ensures places { vec_capacity self.new.opened ≡ vec_capacity self.old.opened }
         ensures room { table_room self.old ≤ table_room self.new }
     {
@@ -430,10 +462,9 @@ impl Table {
     }
 
     /// The commands stay open, and the numbers known.
-    #[cold]
-    #[inline(never)]
     fn take_cut(&mut self)
-        ensures table { (t : Trace) → IsTable self.old t → refusal_of t Event.Cut ≡ None → IsTable self.new (t ++ Event.Cut ∷ []) }
+        ensures table { (t : Trace) → IsTable self.old t → refusal_of t Event.Cut ≡ None
+            → IsTable self.new (t ++ Event.Cut ∷ []) }
         ensures places { vec_capacity self.new.opened ≡ vec_capacity self.old.opened }
         ensures room { table_room self.old ≤ table_room self.new }
     {
@@ -441,8 +472,6 @@ impl Table {
     }
 
     /// Every open command ends, and the session's numbers are forgotten.
-    #[cold]
-    #[inline(never)]
     fn take_down(&mut self)
         ensures table { (t : Trace) → IsTable self.old t → IsTable self.new (t ++ Event.Down ∷ []) }
         ensures places { vec_capacity self.new.opened ≡ vec_capacity self.old.opened }
@@ -453,13 +482,12 @@ impl Table {
         self.seen.clear();
     }
 
-    #[cold]
-    #[inline(never)]
     fn take_go(&mut self)
         requires orders { self.old.orders < 2 ^ 63 }
         requires places { 4 ≤ vec_capacity self.old.opened }
         requires room { 0 < table_room self.old }
-        ensures table { (t : Trace) → IsTable self.old t → was_taken t ≡ true → refusal_of t Event.Go ≡ None → IsTable self.new (t ++ Event.Go ∷ []) }
+        ensures table { (t : Trace) → IsTable self.old t → was_taken t ≡ true
+            → refusal_of t Event.Go ≡ None → IsTable self.new (t ++ Event.Go ∷ []) }
         ensures places { 4 ≤ vec_capacity self.new.opened }
         ensures room { table_room self.old ≤ table_room self.new + 1 }
     {
@@ -474,11 +502,11 @@ impl Table {
         self.orders += 1;
     }
 
-    #[cold]
-    #[inline(never)]
     fn take_stop(&mut self, command: u64)
         requires { self.old.orders < 2 ^ 63 }
-        ensures table { (t : Trace) → IsTable self.old t → refusal_of t (Event.Stop command) ≡ None → IsTable self.new (t ++ Event.Stop command ∷ []) }
+        ensures table { (t : Trace) → IsTable self.old t
+            → refusal_of t (Event.Stop command) ≡ None
+            → IsTable self.new (t ++ Event.Stop command ∷ []) }
         ensures places { vec_capacity self.new.opened ≡ vec_capacity self.old.opened }
         ensures room { table_room self.old ≤ table_room self.new }
     {
@@ -491,7 +519,8 @@ impl Table {
     fn take_in(&mut self, number: u64, body: &Body)
         requires known { IsTableUp self.old }
         requires room { 0 < table_room self.old }
-        ensures table { (t : Trace) → IsTable self.old t → was_taken t ≡ true → up_of t ≡ true → IsTable self.new (t ++ Event.In number body.now ∷ []) }
+        ensures table { (t : Trace) → IsTable self.old t → was_taken t ≡ true → up_of t ≡ true
+            → IsTable self.new (t ++ Event.In number body.now ∷ []) }
         ensures places { vec_capacity self.new.opened ≡ vec_capacity self.old.opened }
         ensures room { table_room self.old ≤ table_room self.new + 1 }
     {
@@ -510,11 +539,10 @@ impl Table {
     }
 
     /// Takes the refusal of an order: the command that the order started ends, if it is open.
-    #[cold]
-    #[inline(never)]
     fn take_refusal(&mut self, number: u64)
         requires { IsTableUp self.old }
-        ensures table { (t : Trace) → IsTable self.old t → was_taken t ≡ true → up_of t ≡ true → IsTable self.new (t ++ Event.In number (Body.Answered true) ∷ []) }
+        ensures table { (t : Trace) → IsTable self.old t → was_taken t ≡ true → up_of t ≡ true
+            → IsTable self.new (t ++ Event.In number (Body.Answered true) ∷ []) }
         ensures places { vec_capacity self.new.opened ≡ vec_capacity self.old.opened }
         ensures room { table_room self.new ≡ table_room self.old }
     {
@@ -529,7 +557,8 @@ impl Table {
         requires room { 0 < table_room self.old }
         requires asks { asks body.now ≡ true }
         requires fresh { verdict_in self.old.seen.ranges number ≡ None }
-        ensures table { (t : Trace) → IsTable self.old t → up_of t ≡ true → IsTable self.new (t ++ Event.In number body.now ∷ []) }
+        ensures table { (t : Trace) → IsTable self.old t → up_of t ≡ true
+            → IsTable self.new (t ++ Event.In number body.now ∷ []) }
         ensures places { vec_capacity self.new.opened ≡ vec_capacity self.old.opened }
         ensures room { table_room self.old ≤ table_room self.new + 1 }
     {
@@ -551,12 +580,12 @@ impl Table {
     }
 
     /// Ends the open command.
-    #[cold]
-    #[inline(never)]
     fn end(&mut self, entry: Open, fault: bool)
         requires { entry.command < length self.old.outcomes.items }
-        ensures listed { self.new.opened.items ≡ filter (λ (o : Open). not (entry.command == o.command)) self.old.opened.items }
-        ensures ended { self.new.outcomes.items ≡ slice_set self.old.outcomes.items entry.command (Some (ends_as_lem entry fault)) }
+        ensures listed { self.new.opened.items ≡ filter
+            (λ (o : Open). not (entry.command == o.command)) self.old.opened.items }
+        ensures ended { self.new.outcomes.items
+            ≡ slice_set self.old.outcomes.items entry.command (Some (ends_as_lem entry fault)) }
         ensures link { self.new.link ≡ self.old.link }
         ensures orders { self.new.orders ≡ self.old.orders }
         ensures seen { self.new.seen ≡ self.old.seen }
