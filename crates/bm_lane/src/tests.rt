@@ -1,9 +1,10 @@
-//! Worked scripts on a lane: in one thread, in many, and under a pool.
+//! Worked scripts on a lane: in one thread, in many, and under a pool; and many lanes at once.
 
 mod hand;
 mod many;
 mod named;
 mod one;
+mod placed;
 mod pooled;
 mod says;
 mod script;

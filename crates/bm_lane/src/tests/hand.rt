@@ -3,8 +3,8 @@ ghost use Rattle.std.specs.Prelude.{◌≡◌, ◌<◌, ◌≤◌};
 
 use crate::*;
 use bm_lines::{Letter, LogName, Parcel};
-use bm_session::{Body, Event, Refusal, Reply};
-use bm_store::{Book, Chunk, ViewRefusal};
+use bm_session::{Body, Event, Refusal, Reply, Results};
+use bm_store::{Book, Chunk, LogState, ViewRefusal};
 use std::alloc::{AllocError, Global};
 use std::process::Abort;
 use std::sync::Wait;
@@ -130,22 +130,50 @@ pub fn chunk_of<Y: Yard>(
     }
 }
 
-/// Whether these lines were answered.
-pub fn is_text(answer: &Result<Chunk, ViewRefusal>, text: &str) -> bool {
+/// Whether these lines were answered: the place of the first, how many they are, and their content.
+pub fn are_lines(
+    answer: &Result<Chunk, ViewRefusal>,
+    first_line: u64,
+    lines: u64,
+    text: &str,
+) -> bool {
     match answer {
-        Ok(chunk) => chunk.content.as_str() == text,
+        Ok(chunk) => {
+            chunk.first_line == first_line && chunk.lines == lines && chunk.content.as_str() == text
+        }
         Err(_) => false,
     }
 }
 
-/// Whether a book has these lines of command 0.
-pub fn has_lines(book: &Book, text: &str) -> bool {
+/// Whether an open log with so many lines was told.
+pub fn is_open(answer: &Result<LogState, ViewRefusal>, lines: u64) -> bool {
+    match answer {
+        Ok(state) => state.lines == lines && state.ended.is_none(),
+        Err(_) => false,
+    }
+}
+
+/// Whether a book has these lines of command 0, so many.
+pub fn has_lines(book: &Book, lines: u64, text: &str) -> bool {
     let answer = book.slice(0, "stdio", 0, 9);
     if is_mem(&answer) {
-        is_text(&book.slice(0, "stdio", 0, 9), text)
+        are_lines(&book.slice(0, "stdio", 0, 9), 0, lines, text)
     } else {
-        is_text(&answer, text)
+        are_lines(&answer, 0, lines, text)
     }
+}
+
+/// Whether a book has a log of command 0 with so many lines, and the command ended so.
+pub fn has_log(book: &Book, name: &str, lines: u64, ended: Option<Results>) -> bool {
+    match book.state(0, name) {
+        Some(state) => state.lines == lines && state.ended == ended,
+        None => false,
+    }
+}
+
+/// Whether so many events were taken, and each viewer has seen so many items.
+pub fn is_left(settled: &Settled, events: u64, seen: &[u64]) -> bool {
+    settled.trace.len() as u64 == events && settled.seen.as_slice() == seen
 }
 
 /// The answer of a call of the reader's end, which is made again where it met want of memory.
@@ -268,13 +296,14 @@ pub fn settled<Y: Yard, W: Wait + Drop, R: Wait + Abort>(
     }
 }
 
-/// Whether the book that is left of a lane has these lines of command 0.
+/// Whether the book that is left of a lane has these lines of command 0, so many.
 pub fn leaves<Y: Yard, W: Wait + Drop, R: Wait + Abort>(
     rt: &R,
     alloc: Global,
     ends: Ends<Y, W>,
+    lines: u64,
     text: &str,
 ) -> Result<bool, Fail> {
     let settled = settled(rt, alloc, ends)?;
-    Ok(has_lines(&settled.book, text))
+    Ok(has_lines(&settled.book, lines, text))
 }

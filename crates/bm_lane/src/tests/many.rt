@@ -27,17 +27,19 @@ fn viewers_in_threads_of_their_own_see_the_same(rt: HostRuntime) -> Result<(), F
     viewers_apart::<Brand, _, _>(&rt, rt.alloc(), blank)
 }
 
-// A chunk of a viewer in a thread of its own.
+// Whether a viewer in a thread of its own has this chunk, and a state with as many lines.
 fn apart<Y: Yard + Send + Sync, R: Threads + Wait + Sync>(
     rt: &R,
     viewer: Viewer<Y>,
+    lines: u64,
     text: &str,
 ) -> (Viewer<Y>, bool) {
     let mut viewer = viewer;
     let (back, _) = join(
         rt,
         move || {
-            let is_there = is_text(&chunk(&mut viewer, 0, 9), text);
+            let is_there = are_lines(&chunk(&mut viewer, 0, 9), 0, lines, text)
+                && is_open(&viewer.state(0, "stdio"), lines);
             (viewer, is_there)
         },
         || (),
@@ -45,16 +47,17 @@ fn apart<Y: Yard + Send + Sync, R: Threads + Wait + Sync>(
     back
 }
 
-// Whether the last viewer has this chunk in a thread of its own. It comes first then.
+// Whether the last viewer has this chunk and its state in a thread of its own. It comes first then.
 fn last_is_apart<Y: Yard + Send + Sync, R: Threads + Wait + Sync>(
     rt: &R,
     viewers: &mut Vec<Viewer<Y>>,
+    lines: u64,
     text: &str,
 ) -> bool {
     let Some(viewer) = viewers.pop() else {
         return false;
     };
-    let (viewer, is_there) = apart(rt, viewer, text);
+    let (viewer, is_there) = apart(rt, viewer, lines, text);
     viewers.insert(0, viewer).is_ok() && is_there
 }
 
@@ -76,12 +79,12 @@ fn viewers_apart<Y: Yard + Send + Sync, W: Wait + Drop, R: Threads + Wait + Abor
     static THEN: [Row; 1] = [(Drain, Took)];
     let mut ends = ends_of::<Y, W>(alloc, blank, 7)?;
     play(rt, alloc, &mut ends, &FIRST);
-    assert!(rt; last_is_apart(rt, &mut ends.viewers, "oa\n"));
+    assert!(rt; last_is_apart(rt, &mut ends.viewers, 1, "oa\n"));
     play(rt, alloc, &mut ends, &THEN);
-    assert!(rt; last_is_apart(rt, &mut ends.viewers, "oa\nob\n"));
-    assert!(rt; last_is_apart(rt, &mut ends.viewers, "oa\nob\n"));
+    assert!(rt; last_is_apart(rt, &mut ends.viewers, 2, "oa\nob\n"));
+    assert!(rt; last_is_apart(rt, &mut ends.viewers, 2, "oa\nob\n"));
     let settled = settled(rt, alloc, ends)?;
-    assert_eq!(rt; settled.seen.as_slice(), [3, 3].as_slice());
+    assert!(rt; is_left(&settled, 4, &[3, 3]));
     Ok(())
 }
 
@@ -256,8 +259,7 @@ fn after_threads<Y: Yard + Send + Sync, W: Wait + Drop + Send + Sync, R: Threads
 
 // The whole log is there, each number in order.
 fn assert_whole(rt: &impl Abort, alloc: Global, settled: &Settled) -> Result<(), Fail> {
-    assert_eq!(rt; settled.trace.len() as u64, UPDATES + 2);
-    assert_eq!(rt; settled.seen.as_slice(), [UPDATES + 1].as_slice());
+    assert!(rt; is_left(settled, UPDATES + 2, &[UPDATES + 1]));
     let Ok(whole) = settled.book.slice(0, "stdio", 0, UPDATES) else {
         return Err(Fail::from(AllocError));
     };
@@ -274,7 +276,7 @@ fn many_updates<
 {
     static MIDDLE: [Row; 1] = [(
         Lookup(0, "stdio", 990, 5),
-        Lines("o990\no991\no992\no993\no994\n"),
+        Lines(990, 5, "o990\no991\no992\no993\no994\n"),
     )];
     let ends = ends_of::<Y, W>(alloc, blank, 0)?;
     let after = after_threads(rt, alloc, ends);

@@ -1,19 +1,11 @@
 //! Logs under other names than that of standard output.
 
+use super::hand::has_log;
 use super::says::Says::*;
 use super::script::Call::*;
 use super::script::{Order, Row, played};
 use bm_session::Results;
-use bm_store::Book;
 use std::test::Fail;
-
-// Whether a log has ended with so many lines.
-fn has_ended(book: &Book, name: &str, lines: u64) -> bool {
-    match book.state(0, name) {
-        Some(state) => state.lines == lines && state.ended == Some(Results::Retry),
-        None => false,
-    }
-}
 
 // Nothing is ever said to the log `m`.
 #[test]
@@ -27,31 +19,32 @@ fn logs_of_two_names_are_shown_apart(rt: HostRuntime) -> Result<(), Fail> {
             Done(1),
         ),
         (Drain, Took),
-        (Chunk(0, "stdio", 0, 9), Lines("")),
+        (Chunk(0, "stdio", 0, 9), Lines(0, 0, "")),
         (State(0, "stdio"), Open(0)),
         (Chunk(0, "l", 0, 9), NoLog),
         (State(0, "l"), NoLog),
         (Chunk(0, "m", 0, 9), NoLog),
         (State(0, "m"), NoLog),
         (Drain, Took),
-        (Chunk(0, "stdio", 0, 9), Lines("oa\n")),
+        (Chunk(0, "stdio", 0, 9), Lines(0, 1, "oa\n")),
         (State(0, "stdio"), Open(1)),
         (Chunk(0, "l", 0, 9), NoLog),
         (State(0, "l"), NoLog),
         (Chunk(0, "m", 0, 9), NoLog),
         (State(0, "m"), NoLog),
         (Drain, Took),
-        (Chunk(0, "stdio", 0, 9), Lines("oa\nod\n")),
+        (Chunk(0, "stdio", 0, 9), Lines(0, 2, "oa\nod\n")),
         (State(0, "stdio"), Open(2)),
-        (Chunk(0, "l", 0, 9), Lines("ob\noc\noe\n")),
+        (Chunk(0, "l", 0, 9), Lines(0, 3, "ob\noc\noe\n")),
         (State(0, "l"), Open(3)),
         (Chunk(0, "m", 0, 9), NoLog),
         (State(0, "m"), NoLog),
-        (Chunk(0, "l", 1, 1), Lines("oc\n")),
+        (Chunk(0, "l", 1, 1), Lines(1, 1, "oc\n")),
         (Give(Order::Down), Silent),
     ];
     let book = played(&rt, rt.alloc(), 8, 1, &ROWS)?.book;
-    assert!(rt; has_ended(&book, "stdio", 2) && has_ended(&book, "l", 3));
+    let retry = Some(Results::Retry);
+    assert!(rt; has_log(&book, "stdio", 2, retry) && has_log(&book, "l", 3, retry));
     assert!(rt; book.state(0, "m").is_none());
     Ok(())
 }

@@ -16,27 +16,23 @@ use std::test::Fail;
 #[test]
 fn viewers_see_what_was_drained(rt: HostRuntime) -> Result<(), Fail> {
     static ROWS: [Row; 12] = [
-        (Hear(Order::Up), Silent),
-        (Hear(Order::Go), Start(0, 0)),
+        (Give(Order::Up), Silent),
+        (Give(Order::Go), Start(0, 0)),
         (Update(0, &[("stdio", "a\n")]), Done(0)),
         (Update(1, &[("stdio", "b\n")]), Done(1)),
         (Drain, Took),
         (Drain, Took),
-        (Chunk(0, "stdio", 0, 9), Lines("oa\n")),
+        (Chunk(0, "stdio", 0, 9), Lines(0, 1, "oa\n")),
         (Drain, Took),
-        (Chunk(1, "stdio", 0, 9), Lines("oa\nob\n")),
-        (Chunk(0, "stdio", 0, 9), Lines("oa\nob\n")),
+        (Chunk(1, "stdio", 0, 9), Lines(0, 2, "oa\nob\n")),
+        (Chunk(0, "stdio", 0, 9), Lines(0, 2, "oa\nob\n")),
         (State(0, "stdio"), Open(2)),
         (Drain, Empty),
     ];
     let settled = played(&rt, rt.alloc(), 4, 2, &ROWS)?;
-    assert_eq!(rt; settled.trace.len(), 4);
-    assert_eq!(rt; settled.seen.as_slice(), [3, 3].as_slice());
-    assert_eq!(rt;
-        settled.book.state(0, "stdio").map(|state| state.lines),
-        Some(2)
-    );
-    assert!(rt; settled.book.state(1, "stdio").is_none());
+    let book = &settled.book;
+    assert!(rt; is_left(&settled, 4, &[3, 3]) && has_log(book, "stdio", 2, None));
+    assert!(rt; book.state(1, "stdio").is_none());
     Ok(())
 }
 
@@ -53,10 +49,10 @@ fn busy_lane_takes_after_drain(rt: HostRuntime) -> Result<(), Fail> {
         (Chunk(0, "stdio", 0, 9), NoLog),
         (Drain, Took),
         (Update(3, &[("stdio", "n\n")]), Done(3)),
-        (Chunk(0, "stdio", 0, 9), Lines("")),
+        (Chunk(0, "stdio", 0, 9), Lines(0, 0, "")),
     ];
     let settled = played(&rt, rt.alloc(), 4, 1, &ROWS)?;
-    assert!(rt; has_lines(&settled.book, "on\non\non\non\n"));
+    assert!(rt; has_lines(&settled.book, 4, "on\non\non\non\n"));
     Ok(())
 }
 
@@ -74,11 +70,8 @@ fn each_call_of_the_reader_is_taken(rt: HostRuntime) -> Result<(), Fail> {
         (Count, Events(6)),
     ];
     let settled = played(&rt, rt.alloc(), 8, 1, &ROWS)?;
-    assert_eq!(rt;
-        settled.book.state(0, "stdio").and_then(|state| state.ended),
-        Some(Results::Retry)
-    );
-    assert_eq!(rt; settled.seen.as_slice(), [0].as_slice());
+    let book = &settled.book;
+    assert!(rt; is_left(&settled, 6, &[0]) && has_log(book, "stdio", 0, Some(Results::Retry)));
     Ok(())
 }
 
@@ -110,7 +103,7 @@ fn two_lanes<Y: Yard, W: Wait + Drop, R: Wait + Abort>(
 {
     let (one, two) = both_heard::<Y, W, R>(rt, alloc, first, second, &["a\n"], &["b\n", "c\n"])?;
     assert!(rt; are_apart(&one, &two) && are_apart(&two, &one));
-    assert!(rt; leaves(rt, alloc, one, "oa\n")?);
-    assert!(rt; leaves(rt, alloc, two, "ob\noc\n")?);
+    assert!(rt; leaves(rt, alloc, one, 1, "oa\n")?);
+    assert!(rt; leaves(rt, alloc, two, 2, "ob\noc\n")?);
     Ok(())
 }

@@ -185,8 +185,7 @@ fn workers_of_a_pool_meet(rt: HostRuntime) -> Result<(), Fail> {
             met: AtomicU64::new(0),
         };
         if let Some(report) = pool_on_two(&rt, rt.alloc(), &[], &gate, 2, 5)? {
-            assert_eq!(rt; gate.met.load(Ordering::SeqCst), 2);
-            assert_eq!(rt; report.took, 2);
+            assert!(rt; gate.met.load(Ordering::SeqCst) == 2 && report.took == 2);
             return Ok(());
         }
     }
@@ -224,7 +223,11 @@ fn pool_drains_the_lanes_that_its_gate_lets_it(rt: HostRuntime) -> Result<(), Fa
     ];
     for (first, second, threads, took, asked, drains) in &ROWS {
         let (items, told) = taken(&rt, rt.alloc(), [*first, *second], *threads)?;
-        assert_eq!(rt; (items, told.asked, told.drains), (*took, *asked, *drains));
+        let is_told = told.asked == *asked && told.drains == *drains;
+        assert!(rt;
+            items == *took && is_told,
+            "{first:?} and {second:?}, {threads} threads"
+        );
     }
     Ok(())
 }
@@ -253,8 +256,8 @@ fn pool_loses_nothing_where_memory_is_wanting(rt: HostRuntime) -> Result<(), Fai
     let second = blank(&rt, rt.alloc(), 4, 1).ok().ok_or("no lane")?;
     let ran = under_pressure::<Brand, _, _>(&rt, rt.alloc(), first, second, &gate)?;
     let told = gate.told();
-    assert_eq!(rt; told.took, 4);
-    assert!(rt; ran.counts_up_to(told));
+    // One request at most is refused, so one drain at most met that.
+    assert!(rt; told.took == 4 && told.refused <= 1 && ran.counts_up_to(told));
     if told.refused > 0 {
         let _ = println!(rt; "met: want of memory in a drain of the pool");
     }
@@ -335,7 +338,7 @@ fn under_pressure<
 {
     let (one, two) = both_heard::<Y, W, R>(rt, alloc, first, second, &["a\n"], &["b\n"])?;
     let (one, two, ran) = after_pool(rt, alloc, one, two, gate).ok_or("no pool")?;
-    assert!(rt; leaves(rt, alloc, one, "oa\n")?);
-    assert!(rt; leaves(rt, alloc, two, "ob\n")?);
+    assert!(rt; leaves(rt, alloc, one, 1, "oa\n")?);
+    assert!(rt; leaves(rt, alloc, two, 1, "ob\n")?);
     Ok(ran)
 }

@@ -1,6 +1,6 @@
 //! What a row says that a lane answers.
 
-use super::hand::is_text;
+use super::hand::{are_lines, is_open};
 use crate::*;
 use bm_session::{Refusal, Reply, Verdict};
 use bm_store::{Chunk, LogState, ViewRefusal};
@@ -19,7 +19,8 @@ pub enum Says {
     Events(usize),
     Took,
     Empty,
-    Lines(&'static str),
+    /// The place of the first line, how many lines, and their content.
+    Lines(u64, u64, &'static str),
     /// An open log with so many lines.
     Open(u64),
     NoLog,
@@ -72,7 +73,7 @@ impl Says {
     /// Whether a viewer answered this.
     pub fn is_chunk(&self, answer: &Result<Chunk, ViewRefusal>) -> bool {
         match self {
-            Says::Lines(text) => is_text(answer, text),
+            Says::Lines(first_line, lines, text) => are_lines(answer, *first_line, *lines, text),
             Says::NoLog => matches!(answer, Err(ViewRefusal::NoLog)),
             _ => false,
         }
@@ -80,12 +81,10 @@ impl Says {
 
     /// Whether a viewer told this of a log.
     pub fn is_state(&self, answer: &Result<LogState, ViewRefusal>) -> bool {
-        match answer {
-            Ok(state) => {
-                state.ended.is_none() && matches!(self, Says::Open(lines) if *lines == state.lines)
-            }
-            Err(ViewRefusal::NoLog) => matches!(self, Says::NoLog),
-            Err(_) => false,
+        match self {
+            Says::Open(lines) => is_open(answer, *lines),
+            Says::NoLog => matches!(answer, Err(ViewRefusal::NoLog)),
+            _ => false,
         }
     }
 }
