@@ -12,7 +12,6 @@ use bm_lines::{Parcel, content};
 use script::{Ask, Gives, Script, event, given};
 use std::alloc::{AllocError, Global};
 use std::process::Abort;
-use std::test::Fail;
 
 /// An event, what the session says to it, and what that does to the logs.
 type Row = (Script, Result<Reply, Refusal>, Gives);
@@ -21,7 +20,7 @@ type Row = (Script, Result<Reply, Refusal>, Gives);
 type Log = (&'static str, Option<&'static str>);
 
 /// Makes the value, once more after want of memory.
-fn again<T: Drop, F: Fn() -> Result<T, AllocError>>(make: F) -> Result<T, AllocError>
+pub(crate) fn again<T: Drop, F: Fn() -> Result<T, AllocError>>(make: F) -> Result<T, AllocError>
     requires { F.IsAlwaysCallable make }
 {
     match make() {
@@ -32,7 +31,7 @@ fn again<T: Drop, F: Fn() -> Result<T, AllocError>>(make: F) -> Result<T, AllocE
 
 /// Plans to take the event. After want of memory the session is as before, and the event that came back is
 /// tried again.
-fn planned(session: &mut Session, event: Event) -> Result<Plan, Refusal>
+pub(crate) fn planned(session: &mut Session, event: Event) -> Result<Plan, Refusal>
     ensures { IfOk result (λ plan. IsPlanFor session.new plan) }
 {
     let before = session.trace().len();
@@ -67,8 +66,7 @@ fn made(alloc: Global, script: Script) -> Result<Event, AllocError> {
 /// What was said is what the row says; rows count from 0.
 fn assert_says(rt: &impl Abort, n: usize, row: &Row, said: (Result<Reply, Refusal>, Gives)) {
     let (_, reply, gives) = row;
-    assert!(rt; said.0 == *reply, "reply of row {n}");
-    assert!(rt; said.1 == *gives, "item of row {n}");
+    assert!(rt; said.0 == *reply && said.1 == *gives, "row {n}");
 }
 
 /// The session takes the events of the rows, each of which has its answer.
@@ -119,7 +117,7 @@ fn ran_as(ran: &Ran) -> (Result<Reply, Refusal>, Gives) {
 fn ran(rt: &(impl AllocGlobal + Abort), rows: &[Row]) -> Result<Session, AllocError> {
     let alloc = rt.alloc();
     let (session, said) = again(|| try_run(alloc, rows))?;
-    assert_eq!(rt; said.len(), rows.len());
+    assert!(rt; said.len() == rows.len());
     for (n, (said, row)) in said.iter().zip(rows).enumerate() {
         assert_says(rt, n, row, ran_as(said));
     }
@@ -149,32 +147,56 @@ fn assert_logs(
     Ok(())
 }
 
-#[test]
-fn item_is_given_once(rt: HostRuntime) -> Result<(), Fail> {
-    let mut session = up(&rt)?;
-    let Ok(mut plan) = planned(&mut session, Event::Go) else {
-        return Err(Fail::from("no plan"));
+/// The session takes the events of the rows, each of which has its answer. Then command 0 has these logs, and
+/// ended so.
+fn plays(
+    rt: &(impl AllocGlobal + Abort),
+    rows: &[Row],
+    logs: &[Log],
+    outcome: Option<Results>,
+) -> Result<(), AllocError> {
+    let session = played(rt, rows)?;
+    assert!(rt; session.outcome(0) == outcome);
+    assert_logs(rt, &session, logs)
+}
+
+/// Whether a start is planned and taken, and gives its item once, in a session after one event.
+fn gives_once(session: &mut Session) -> bool {
+    let Ok(mut plan) = planned(session, Event::Go) else {
+        return false;
     };
-    assert!(rt; given(&plan.take_item()) == Gives::Open(0));
-    assert!(rt; plan.take_item().is_none());
+    let first = given(&plan.take_item());
+    let second = given(&plan.take_item());
     let (reply, item) = session.commit(plan);
-    assert_eq!(rt; reply, Reply::Start(0, 0));
-    assert!(rt; item.is_none());
-    assert_eq!(rt; session.trace().len(), 2);
-    Ok(())
+    first == Gives::Open(0)
+        && second == Gives::Nothing
+        && reply == Reply::Start(0, 0)
+        && item.is_none()
+        && session.trace().len() == 2
 }
 
 #[test]
-fn withdrawn_event_comes_back(rt: HostRuntime) -> Result<(), Fail> {
-    static AGAIN: Row = (Script::Go, Ok(Reply::Start(0, 0)), Gives::Open(0));
+fn item_is_given_once(rt: HostRuntime) -> Result<(), AllocError> {
     let mut session = up(&rt)?;
-    let Ok(plan) = planned(&mut session, Event::Go) else {
-        return Err(Fail::from("no plan"));
+    assert!(rt; gives_once(&mut session));
+    Ok(())
+}
+
+/// Whether a start that is withdrawn comes back and is taken then, in a session after one event.
+fn gives_back(session: &mut Session) -> bool {
+    let Ok(plan) = planned(session, Event::Go) else {
+        return false;
     };
     let event = session.withdraw(plan);
-    assert!(rt; matches!(event, Event::Go));
-    assert_eq!(rt; session.trace().len(), 1);
-    assert_says(&rt, 0, &AGAIN, heard(&mut session, event));
+    let is_back = matches!(event, Event::Go) && session.trace().len() == 1;
+    let (reply, gives) = heard(session, event);
+    is_back && reply == Ok(Reply::Start(0, 0)) && gives == Gives::Open(0)
+}
+
+#[test]
+fn withdrawn_event_comes_back(rt: HostRuntime) -> Result<(), AllocError> {
+    let mut session = up(&rt)?;
+    assert!(rt; gives_back(&mut session));
     Ok(())
 }
 
@@ -222,11 +244,20 @@ fn copies(alloc: Global) -> Result<Option<Parcel>, AllocError> {
     }
 }
 
+/// Whether the parcel after the copies has the lines of the update.
+fn are_copied(alloc: Global) -> Result<bool, AllocError> {
+    let Some(parcel) = copies(alloc)? else {
+        return Ok(false);
+    };
+    match parcel.of("l") {
+        Some(block) => Ok(content(alloc, block.lines())?.as_str() == "ox\noy\n"),
+        None => Ok(false),
+    }
+}
+
 #[test]
-fn copies_are_equal(rt: HostRuntime) -> Result<(), Fail> {
+fn copies_are_equal(rt: HostRuntime) -> Result<(), AllocError> {
     let alloc = rt.alloc();
-    let parcel = again(|| copies(alloc))?.ok_or("another copy")?;
-    let block = parcel.of("l");
-    assert!(rt; block.is_some_and(|block| block.lines().len() == 2));
+    assert!(rt; again(|| are_copied(alloc))?);
     Ok(())
 }

@@ -2,11 +2,11 @@
 
 use self::Script::*;
 use crate::Verdict::{Done, NoCommand};
+use crate::tests::{again, planned};
 use crate::*;
 use bm_lines::Parcel;
-use std::alloc::Global;
+use std::alloc::{AllocError, Global};
 use std::process::Abort;
-use std::test::Fail;
 
 /// An update of the command without lines.
 fn update(alloc: Global, command: u64) -> Body {
@@ -18,23 +18,11 @@ fn update(alloc: Global, command: u64) -> Body {
     }
 }
 
-/// Takes the event, once more after want of memory.
-fn take(session: &mut Session, event: Event) -> Result<(Reply, Option<Item>), Refusal> {
-    match session.ready(event) {
-        Ok(plan) => Ok(session.commit(plan)),
-        Err((event, Refusal::Mem)) => match session.ready(event) {
-            Ok(plan) => Ok(session.commit(plan)),
-            Err((_, reason)) => Err(reason),
-        },
-        Err((_, reason)) => Err(reason),
-    }
-}
-
+/// What the session says to the event.
 fn reply_to(session: &mut Session, event: Event) -> Result<Reply, Refusal> {
-    match take(session, event) {
-        Ok((reply, _)) => Ok(reply),
-        Err(reason) => Err(reason),
-    }
+    let plan = planned(session, event)?;
+    let (reply, _) = session.commit(plan);
+    Ok(reply)
 }
 
 /// An event that can be made twice.
@@ -73,8 +61,13 @@ fn are_ranges(seen: &[Seen], wanted: &[Range]) -> bool {
     seen.len() == wanted.len()
 }
 
+/// Whether the session takes the event, and has these ranges then.
+fn leaves(session: &mut Session, event: Event, wanted: &[Range]) -> bool {
+    reply_to(session, event).is_ok() && are_ranges(session.seen(), wanted)
+}
+
 #[test]
-fn numbers_out_of_order_are_one_range(rt: HostRuntime) -> Result<(), Fail> {
+fn numbers_out_of_order_are_one_range(rt: HostRuntime) -> Result<(), AllocError> {
     static ROWS: [Row; 9] = [
         (Up, &[]),
         (Go, &[]),
@@ -88,36 +81,47 @@ fn numbers_out_of_order_are_one_range(rt: HostRuntime) -> Result<(), Fail> {
         (Down, &[]),
     ];
     let alloc = rt.alloc();
-    let mut session = Session::new(alloc)?;
+    let mut session = again(|| Session::new(alloc))?;
     for (n, (script, wanted)) in ROWS.iter().enumerate() {
-        reply_to(&mut session, event(alloc, *script))?;
-        assert!(rt; are_ranges(session.seen(), wanted), "row {n}");
+        let is_right = leaves(&mut session, event(alloc, *script), wanted);
+        assert!(rt; is_right, "row {n}");
     }
     Ok(())
 }
 
-fn no_such_op(session: &mut Session, number: u64) -> Result<Reply, Refusal> {
-    reply_to(session, Event::In(number, Body::NoSuchOp))
+/// Whether the session says this to the event.
+fn says(session: &mut Session, event: Event, wanted: Result<Reply, Refusal>) -> bool {
+    reply_to(session, event) == wanted
+}
+
+/// Whether the session says this to a request with the number, which no worker sends.
+fn says_to(session: &mut Session, number: u64, wanted: Result<Reply, Refusal>) -> bool {
+    says(session, Event::In(number, Body::NoSuchOp), wanted)
 }
 
 /// Asks for no operation so often, by the numbers from 0.
 fn ask(rt: &impl Abort, session: &mut Session, times: u64) {
     for number in 0..times {
         let reply = Reply::Answer(number, Verdict::NoSuchOp);
-        assert!(rt; no_such_op(session, number) == Ok(reply), "number {number}");
+        assert!(rt; says_to(session, number, Ok(reply)), "number {number}");
     }
 }
 
+/// Whether the session has room for its end, and for nothing else.
+fn is_full(session: &mut Session) -> bool {
+    says_to(session, 999_998, Err(Refusal::Full))
+        && says(session, Event::Down, Ok(Reply::Silent))
+        && says(session, Event::Up, Err(Refusal::Full))
+        && session.trace().len() == 1_000_000
+}
+
 #[test]
-fn lane_of_a_million_events_is_full(rt: HostRuntime) -> Result<(), Fail> {
+fn lane_of_a_million_events_is_full(rt: HostRuntime) -> Result<(), AllocError> {
     static ALL: [Range; 1] = [(0, 999_997, Verdict::NoSuchOp)];
-    let mut session = Session::new(rt.alloc())?;
-    assert!(rt; reply_to(&mut session, Event::Up).is_ok());
+    let alloc = rt.alloc();
+    let mut session = again(|| Session::new(alloc))?;
+    assert!(rt; says(&mut session, Event::Up, Ok(Reply::Silent)));
     ask(&rt, &mut session, 999_998);
-    assert!(rt; are_ranges(session.seen(), &ALL));
-    assert_eq!(rt; no_such_op(&mut session, 999_998), Err(Refusal::Full));
-    assert!(rt; reply_to(&mut session, Event::Down).is_ok());
-    assert_eq!(rt; reply_to(&mut session, Event::Up), Err(Refusal::Full));
-    assert_eq!(rt; session.trace().len(), 1_000_000);
+    assert!(rt; are_ranges(session.seen(), &ALL) && is_full(&mut session));
     Ok(())
 }

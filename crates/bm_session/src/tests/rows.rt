@@ -2,15 +2,36 @@
 
 use super::script::Ask::*;
 use super::script::Gives::{End, Gone, Lines, Nothing, Open};
+use super::script::Script;
 use super::script::Script::*;
-use super::{Log, Row, assert_logs, play, played, ran, up};
+use super::{Log, Row, again, assert_logs, heard, made, play, played, plays, ran, up};
 use crate::Reply::{Answer, Interrupt, Silent, Start};
 use crate::Verdict::{AuthAgain, BadArgs as WrongKeys, Done, NoCommand, NoSuchOp};
-use crate::{Event, Refusal, Results};
-use std::test::Fail;
+use crate::{Event, Refusal, Results, Session};
+use std::alloc::AllocError;
+
+/// Update 0 of command 0: a text of standard output.
+const OUTPUT_ZERO: &[u8] =
+    b"\x84\xaaseq_number\x00\xa2op\xa6update\xaacommand_id\xa10\xa4args\x91\x92\xa6stdout\xa2a\n";
+
+/// Update 1 of command 0: a text of standard output, and one of standard error.
+const BOTH_ONE: &[u8] =
+    b"\x84\xaaseq_number\x01\xa2op\xa6update\xaacommand_id\xa10\xa4args\x92\x92\xa6stdout\xa2b\n\x92\xa6stderr\xa2c\n";
+
+/// Update 2 of command 0: a text of standard error.
+const ERRORS_TWO: &[u8] =
+    b"\x84\xaaseq_number\x02\xa2op\xa6update\xaacommand_id\xa10\xa4args\x91\x92\xa6stderr\xa2c\n";
+
+/// Request 3: a login without a password.
+const NO_PASSWORD_THREE: &[u8] = b"\x83\xaaseq_number\x03\xa2op\xa4auth\xa8username\xa2w0";
+
+/// Whether there are four events, the third a stop of command 0.
+fn is_third_a_stop(events: &[Event]) -> bool {
+    events.len() == 4 && matches!(&events[2], Event::Stop(0))
+}
 
 #[test]
-fn run_passes_over_refused_events(rt: HostRuntime) -> Result<(), Fail> {
+fn run_passes_over_refused_events(rt: HostRuntime) -> Result<(), AllocError> {
     static ROWS: [Row; 6] = [
         (Up, Ok(Silent), Nothing),
         (Up, Err(Refusal::AlreadyUp), Nothing),
@@ -20,15 +41,13 @@ fn run_passes_over_refused_events(rt: HostRuntime) -> Result<(), Fail> {
         (Down, Ok(Silent), Gone),
     ];
     let session = ran(&rt, &ROWS)?;
-    assert_eq!(rt; session.outcome(0), Some(Results::Retry));
-    let trace = session.into_trace();
-    assert_eq!(rt; trace.len(), 4);
-    assert!(rt; matches!(&trace[2], Event::Stop(0)));
+    assert!(rt; session.outcome(0) == Some(Results::Retry));
+    assert!(rt; is_third_a_stop(session.into_trace().as_slice()));
     Ok(())
 }
 
 #[test]
-fn resumed_session_doubles_no_line(rt: HostRuntime) -> Result<(), Fail> {
+fn resumed_session_doubles_no_line(rt: HostRuntime) -> Result<(), AllocError> {
     static ROWS: [Row; 9] = [
         (Up, Ok(Silent), Nothing),
         (Go, Ok(Start(0, 0)), Open(0)),
@@ -38,20 +57,20 @@ fn resumed_session_doubles_no_line(rt: HostRuntime) -> Result<(), Fail> {
         (Go, Err(Refusal::NotUp), Nothing),
         (Up, Ok(Silent), Nothing),
         (In(1, Text("b\n")), Ok(Answer(1, Done)), Nothing),
-        (OneText(2, "c\n"), Ok(Answer(2, Done)), Lines(0, 1)),
+        (Spelt(ERRORS_TWO), Ok(Answer(2, Done)), Lines(0, 1)),
     ];
     static LOGS: [Log; 1] = [("stdio", Some("oa\nob\nec\n"))];
     static LOSS: [Row; 1] = [(Down, Ok(Silent), Gone)];
     let mut session = played(&rt, &ROWS)?;
     assert_logs(&rt, &session, &LOGS)?;
-    assert_eq!(rt; session.outcome(0), None);
+    assert!(rt; session.outcome(0).is_none());
     play(&rt, &mut session, &LOSS)?;
-    assert_eq!(rt; session.outcome(0), Some(Results::Retry));
+    assert!(rt; session.outcome(0) == Some(Results::Retry));
     Ok(())
 }
 
 #[test]
-fn named_log_is_there_from_its_first_block(rt: HostRuntime) -> Result<(), Fail> {
+fn named_log_is_there_from_its_first_block(rt: HostRuntime) -> Result<(), AllocError> {
     static NONE: [Log; 1] = [("stdio", None)];
     static ROWS: [Row; 2] = [
         (Go, Ok(Start(0, 0)), Open(0)),
@@ -61,12 +80,11 @@ fn named_log_is_there_from_its_first_block(rt: HostRuntime) -> Result<(), Fail> 
     let mut session = up(&rt)?;
     assert_logs(&rt, &session, &NONE)?;
     play(&rt, &mut session, &ROWS)?;
-    assert_logs(&rt, &session, &LOGS)?;
-    Ok(())
+    assert_logs(&rt, &session, &LOGS)
 }
 
 #[test]
-fn last_exit_code_counts(rt: HostRuntime) -> Result<(), Fail> {
+fn last_exit_code_counts(rt: HostRuntime) -> Result<(), AllocError> {
     static ROWS: [Row; 5] = [
         (Up, Ok(Silent), Nothing),
         (Go, Ok(Start(0, 0)), Open(0)),
@@ -78,13 +96,11 @@ fn last_exit_code_counts(rt: HostRuntime) -> Result<(), Fail> {
             End(0, Results::Success),
         ),
     ];
-    let session = played(&rt, &ROWS)?;
-    assert_eq!(rt; session.outcome(0), Some(Results::Success));
-    Ok(())
+    plays(&rt, &ROWS, &[], Some(Results::Success))
 }
 
 #[test]
-fn requests_have_their_verdicts(rt: HostRuntime) -> Result<(), Fail> {
+fn requests_have_their_verdicts(rt: HostRuntime) -> Result<(), AllocError> {
     static ROWS: [Row; 7] = [
         (Up, Ok(Silent), Nothing),
         (In(4, Auth), Ok(Answer(4, AuthAgain)), Nothing),
@@ -98,18 +114,63 @@ fn requests_have_their_verdicts(rt: HostRuntime) -> Result<(), Fail> {
             Nothing,
         ),
     ];
-    played(&rt, &ROWS)?;
-    Ok(())
+    plays(&rt, &ROWS, &[], None)
 }
 
 #[test]
-fn refused_start_ends_the_command(rt: HostRuntime) -> Result<(), Fail> {
+fn refused_start_ends_the_command(rt: HostRuntime) -> Result<(), AllocError> {
     static ROWS: [Row; 3] = [
         (Up, Ok(Silent), Nothing),
         (Go, Ok(Start(0, 0)), Open(0)),
         (Refuse(0), Ok(Silent), End(0, Results::Exception)),
     ];
-    let session = played(&rt, &ROWS)?;
-    assert_eq!(rt; session.outcome(0), Some(Results::Exception));
+    plays(&rt, &ROWS, &[], Some(Results::Exception))
+}
+
+#[test]
+fn values_are_heard_as_their_events(rt: HostRuntime) -> Result<(), AllocError> {
+    static ROWS: [Row; 5] = [
+        (Up, Ok(Silent), Nothing),
+        (Go, Ok(Start(0, 0)), Open(0)),
+        (Spelt(OUTPUT_ZERO), Ok(Answer(0, Done)), Lines(0, 1)),
+        (Spelt(BOTH_ONE), Ok(Answer(1, Done)), Lines(0, 1)),
+        (Spelt(NO_PASSWORD_THREE), Ok(Answer(3, WrongKeys)), Nothing),
+    ];
+    static LOGS: [Log; 1] = [("stdio", Some("oa\nob\nec\n"))];
+    plays(&rt, &ROWS, &LOGS, None)
+}
+
+/// Whether the session is up, whether it is cut, and the numbers of the next order and the next command.
+type State = (bool, bool, u64, u64);
+
+fn is_in(session: &Session, state: &State) -> bool {
+    let (up, cut, order, command) = *state;
+    session.is_up() == up
+        && session.is_cut() == cut
+        && session.next_order() == order
+        && session.next_command() == command
+}
+
+#[test]
+fn orders_and_commands_are_counted(rt: HostRuntime) -> Result<(), AllocError> {
+    static ROWS: [(Script, State); 9] = [
+        // It is refused, and the session is as it began.
+        (Go, (false, false, 0, 0)),
+        (Up, (true, false, 0, 0)),
+        (Go, (true, false, 1, 1)),
+        (Stop(0), (true, false, 2, 1)),
+        (Go, (true, false, 3, 2)),
+        (Cut, (false, true, 3, 2)),
+        (Up, (true, false, 3, 2)),
+        (Down, (false, false, 3, 2)),
+        (Up, (true, false, 0, 2)),
+    ];
+    let alloc = rt.alloc();
+    let mut session = again(|| Session::new(alloc))?;
+    for (n, (script, state)) in ROWS.iter().enumerate() {
+        let event = made(alloc, *script)?;
+        let _ = heard(&mut session, event);
+        assert!(rt; is_in(&session, state), "row {n}");
+    }
     Ok(())
 }

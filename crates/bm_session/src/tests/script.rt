@@ -2,7 +2,7 @@
 
 use super::super::*;
 use bm_lines::{Letter, LogName, Text};
-use bm_msg::{Field, Fields, Message, Numbered, Request, Response, write_request};
+use bm_msg::{Field, Fields, Message, Numbered, Request, Response};
 use bm_value::{Num, Value, decode_whole};
 use std::alloc::{AllocError, Global};
 
@@ -16,8 +16,8 @@ pub enum Script {
     Down,
     /// A request, by its number.
     In(u8, Ask),
-    /// An update of command 0 with that number, whose only item is a text of standard error.
-    OneText(u8, &'static str),
+    /// The message that these bytes spell.
+    Spelt(&'static [u8]),
     /// A request with that number whose keys are missing or of another kind.
     BadArgs(u8),
     /// A refusal of the order with that number.
@@ -131,24 +131,15 @@ fn refused(alloc: Global, seq: u8) -> Result<Event, AllocError> {
     Event::of_message(alloc, Message::Response(response))
 }
 
-/// The event of a message, read back from its bytes.
-fn read_back(alloc: Global, message: &Numbered) -> Result<Event, AllocError> {
-    let Ok(bytes) = write_request(alloc, message) else {
+/// The event of the value that the bytes spell.
+fn spelt(alloc: Global, bytes: &[u8]) -> Result<Event, AllocError> {
+    let Ok(value) = decode_whole(alloc, bytes) else {
         return Err(AllocError);
     };
-    let Ok(value) = decode_whole(alloc, bytes.as_slice()) else {
-        return Err(AllocError);
-    };
-    Event::of_value(alloc, &value).map_err(|_| AllocError)
-}
-
-fn text_update(alloc: Global, seq: u8, text: &str) -> Result<Event, AllocError> {
-    let text = Text::from_str(alloc, text)?;
-    let message = Numbered {
-        seq: u64::from(seq),
-        request: update(alloc, Field::Text(Letter::E, text))?,
-    };
-    read_back(alloc, &message)
+    match Event::of_value(alloc, &value) {
+        Ok(event) => Ok(event),
+        Err(_) => Err(AllocError),
+    }
 }
 
 /// The event.
@@ -160,7 +151,7 @@ pub fn event(alloc: Global, script: Script) -> Result<Event, AllocError> {
         Script::Cut => Ok(Event::Cut),
         Script::Down => Ok(Event::Down),
         Script::In(seq, ask) => asked(alloc, seq, ask),
-        Script::OneText(seq, text) => text_update(alloc, seq, text),
+        Script::Spelt(bytes) => spelt(alloc, bytes),
         Script::BadArgs(seq) => Ok(Event::bad_args(u64::from(seq))),
         Script::Refuse(seq) => refused(alloc, seq),
     }

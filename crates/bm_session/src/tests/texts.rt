@@ -1,9 +1,8 @@
-//! What results, verdicts and refusals are called.
+//! What results, verdicts and refusals are called, and the bytes of answers.
 
 use super::again;
 use crate::*;
 use std::alloc::{AllocError, Global};
-use std::test::Fail;
 
 /// What has a text.
 #[derive(Clone, Copy)]
@@ -21,8 +20,16 @@ fn text(alloc: Global, word: Word) -> Result<String, AllocError> {
     }
 }
 
+/// Whether what the word stands for is called so.
+fn is_called(alloc: Global, word: Word, name: &str) -> bool {
+    match again(|| text(alloc, word)) {
+        Ok(text) => text.as_str() == name,
+        Err(_) => false,
+    }
+}
+
 #[test]
-fn results_and_reasons_have_their_texts(rt: HostRuntime) -> Result<(), Fail> {
+fn results_and_reasons_have_their_texts(rt: HostRuntime) {
     static ROWS: [(Word, &str); 18] = [
         (Word::Result(Results::Success), "SUCCESS"),
         (Word::Result(Results::Warnings), "WARNINGS"),
@@ -43,9 +50,37 @@ fn results_and_reasons_have_their_texts(rt: HostRuntime) -> Result<(), Fail> {
         (Word::Reason(Refusal::Full), "full"),
         (Word::Reason(Refusal::Mem), "out of memory"),
     ];
-    let alloc = rt.alloc();
     for (word, name) in &ROWS {
-        assert_eq!(rt; again(|| text(alloc, *word))?.as_str(), *name);
+        assert!(rt; is_called(rt.alloc(), *word, name), "{name}");
     }
-    Ok(())
+}
+
+/// Whether these are the bytes of the response to request `seq`.
+fn is_answered(alloc: Global, verdict: Verdict, seq: u8, bytes: &[u8]) -> bool {
+    match again(|| verdict.answer(alloc, u64::from(seq))) {
+        Ok(answer) => answer.as_slice() == bytes,
+        Err(_) => false,
+    }
+}
+
+#[test]
+fn answers_have_their_bytes(rt: HostRuntime) {
+    static ROWS: [(Verdict, u8, &[u8]); 2] = [
+        (
+            Verdict::Done,
+            0,
+            b"\x83\xaaseq_number\x00\xa2op\xa8response\xa6result\xc0",
+        ),
+        (
+            Verdict::NoCommand,
+            1,
+            b"\x84\xaaseq_number\x01\xa2op\xa8response\xa6result\xafno such command\xacis_exception\xc3",
+        ),
+    ];
+    for (verdict, seq, bytes) in &ROWS {
+        assert!(rt;
+            is_answered(rt.alloc(), *verdict, *seq, bytes),
+            "response {seq}"
+        );
+    }
 }
