@@ -1,6 +1,5 @@
 //! What is said is what is logged: random schedules drive a worker and a lane by the bytes that they send, through losses, repeats,
-//! cuts, resendings and full queues, and compare each log with what was said. There are 320 schedules, 80 for each of four
-//! capacities.
+//! cuts, resendings and full queues, and compare each log with what was said.
 
 ghost use Rattle.std.specs.Prelude.{◌≤◌};
 
@@ -20,7 +19,7 @@ use std::process::Abort;
 use wrong::Wrong;
 
 /// How many schedules there are for each capacity.
-const SCHEDULES: u64 = 80;
+const SCHEDULES: u64 = 320;
 
 const MOVES: u64 = 200;
 
@@ -29,32 +28,32 @@ const BETWEEN: u64 = 5;
 
 /// What has to happen so often at least, over all schedules.
 const FLOORS: [(Kind, u64); 26] = [
-    (Kind::Taken, 5_000),
-    (Kind::Repeat, 1_000),
-    (Kind::RepeatedOrder, 750),
-    (Kind::Busy, 2_500),
-    (Kind::TakenLater, 2_000),
-    (Kind::Cut, 500),
-    (Kind::Dropped, 375),
-    (Kind::Resent, 3_750),
-    (Kind::OrderedAgain, 875),
-    (Kind::Down, 250),
-    (Kind::GivenUp, 20),
-    (Kind::RefusedStart, 125),
-    (Kind::Interrupt, 75),
-    (Kind::RefusedEvent, 1_250),
-    (Kind::FullWindow, 250),
-    (Kind::SaidInCut, 350),
-    (Kind::Compared, 22_500),
-    (Kind::Look, 400),
-    (Kind::Whole, 750),
-    (Kind::WholeWithLines, 375),
-    (Kind::Success, 125),
-    (Kind::Failure, 150),
-    (Kind::Exception, 200),
-    (Kind::Cancelled, 150),
-    (Kind::Retry, 225),
-    (Kind::StillOpen, 50),
+    (Kind::Taken, 20_000),
+    (Kind::Repeat, 4_000),
+    (Kind::RepeatedOrder, 3_000),
+    (Kind::Busy, 10_000),
+    (Kind::TakenLater, 8_000),
+    (Kind::Cut, 2_000),
+    (Kind::Dropped, 1_500),
+    (Kind::Resent, 15_000),
+    (Kind::OrderedAgain, 3_500),
+    (Kind::Down, 1_000),
+    (Kind::GivenUp, 80),
+    (Kind::RefusedStart, 500),
+    (Kind::Interrupt, 300),
+    (Kind::RefusedEvent, 5_000),
+    (Kind::FullWindow, 1_000),
+    (Kind::SaidInCut, 1_400),
+    (Kind::Compared, 90_000),
+    (Kind::Look, 1_600),
+    (Kind::Whole, 3_000),
+    (Kind::WholeWithLines, 1_500),
+    (Kind::Success, 500),
+    (Kind::Failure, 600),
+    (Kind::Exception, 800),
+    (Kind::Cancelled, 600),
+    (Kind::Retry, 900),
+    (Kind::StillOpen, 200),
 ];
 
 /// Plays the schedule of the seed to its end.
