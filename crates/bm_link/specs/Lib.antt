@@ -1,0 +1,12 @@
+pub mod Answers
+pub mod Asked
+pub mod Attaching
+pub mod Carries
+pub mod Faults
+pub mod Incoming
+pub mod Link
+pub mod Orders
+pub mod Parts
+pub mod Steps
+pub mod Users
+pub mod Working
