@@ -5,6 +5,7 @@ pub mod Carries
 pub mod Faults
 pub mod Incoming
 pub mod Link
+pub mod Logins
 pub mod Orders
 pub mod Parts
 pub mod Steps

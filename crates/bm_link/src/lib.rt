@@ -6,8 +6,10 @@
 mod asked;
 mod attaching;
 mod carry;
+mod credentials;
 mod fault;
 mod incoming;
+mod login;
 mod master;
 mod orders;
 mod parts;

@@ -1,11 +1,11 @@
 //! The first message of a connection: the worker's login.
 
-ghost use Rattle.std.specs.Prelude.{◌≡◌, ◌<◌, ◌^◌, IfOk, IfErr};
+ghost use Rattle.std.specs.Prelude.{IfOk};
 ghost use Rattle.bm_value.specs.View.{tree};
 ghost use Rattle.bm_link.specs.Logins.{IsLoginOf, AreLogin, ReadsLogin};
 
+use crate::credentials::Credentials;
 use crate::fault::{LinkFault, fault_of};
-use bm_lines::Text;
 use bm_msg::{Message, MsgError, Numbered, Request, read};
 use bm_value::{DecodeError, Value, decode_whole};
 use bumpalo::Bump;
@@ -13,20 +13,9 @@ use std::alloc::Global;
 use std::io::{Read, Write};
 use tungstenite::{Message as Frame, NoMask, WebSocket};
 
-/// What a worker says of itself: the number of its `auth`, its name and password, and the session that it names.
-#[derive(Drop)]
-pub(crate) struct Login {
-    pub seq: u64,
-    pub username: Text,
-    pub password: Text,
-    pub session: Option<Text>,
-    pub ghost in_range: { seq < 2 ^ 63 },
-}
-
 /// The login that a tree is. What stays is copied, so the tree may be dropped afterwards.
-fn login_in(alloc: Global, message: &Value<&Bump>) -> Result<Login, LinkFault>
+fn login_in(alloc: Global, message: &Value<&Bump>) -> Result<Credentials, LinkFault>
     ensures login { IfOk result (IsLoginOf (tree message.now)) }
-    ensures bad { IfErr result (λ f. f ≡ LinkFault.BadMessage → (l : Login) → ¬ IsLoginOf (tree message.now) l) }
 {
     match read(alloc, message) {
         Ok(Message::Request(Numbered {
@@ -37,7 +26,7 @@ fn login_in(alloc: Global, message: &Value<&Bump>) -> Result<Login, LinkFault>
                     password,
                     session,
                 },
-        })) => Ok(Login {
+        })) => Ok(Credentials {
             seq,
             username,
             password,
@@ -46,5 +35,50 @@ fn login_in(alloc: Global, message: &Value<&Bump>) -> Result<Login, LinkFault>
         Ok(_) => Err(LinkFault::BadMessage),
         Err(MsgError::Mem) => Err(LinkFault::Mem),
         Err(_) => Err(LinkFault::BadMessage),
+    }
+}
+
+/// The login that bytes are, by a tree in the arena that is gone when the call returns.
+fn login_from(alloc: Global, arena: &Bump, bytes: &[u8]) -> Result<Credentials, LinkFault>
+    ensures login { IfOk result (AreLogin bytes.now) }
+{
+    match decode_whole(arena, bytes) {
+        Ok(tree) => login_in(alloc, &tree),
+        Err(DecodeError::Mem) => Err(LinkFault::Mem),
+        Err(_) => Err(LinkFault::BadMessage),
+    }
+}
+
+/// The login that bytes are. The arena holds the tree during the call, and is reset at its end.
+fn login_of_bytes(alloc: Global, arena: &mut Bump, bytes: &[u8]) -> Result<Credentials, LinkFault>
+    ensures login { IfOk result (AreLogin bytes.now) }
+{
+    let login = login_from(alloc, arena, bytes);
+    match arena.reset() {
+        Ok(()) => login,
+        Err(_) => Err(LinkFault::Arena),
+    }
+}
+
+/// Reads the first message, which is to be a login.
+pub(crate) fn read_login<S: Read + Write + Drop>(
+    alloc: Global,
+    arena: &mut Bump,
+    socket: &mut WebSocket<S, NoMask>,
+) -> Result<Credentials, LinkFault>
+    ensures { IfOk result (ReadsLogin S.remaining socket.old socket.new) }
+{
+    match socket.read() {
+        Ok(Frame::Binary(bytes)) => match login_of_bytes(alloc, arena, bytes.as_slice()) {
+            Ok(login) => Ok(login),
+            Err(fault) => Err(fault),
+        },
+        Ok(Frame::Close(_)) => {
+            // The answer to the close may not leave, since the link ends all the same.
+            let _ = socket.flush();
+            Err(LinkFault::Closed)
+        }
+        Ok(_) => Err(LinkFault::BadMessage),
+        Err(error) => Err(fault_of(&error)),
     }
 }
