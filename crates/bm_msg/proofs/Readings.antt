@@ -1,6 +1,6 @@
 -- Reading key by key finds the message that a tree is, or the first reason why it is none.
 use Rattle.std.proofs.Common.{◌≡◌, ◌≢◌, refl, sym, ◌∙◌, ap, subst, ℕ, pos, false, cond, List, Option, Some, None, Result, Ok, Err}
-use Rattle.std.specs.Prelude.{codes, IfOk, IfErr, bytes_eq}
+use Rattle.std.specs.Prelude.{codes, IfOk, IfErr, IsErrOf, is_ok, bytes_eq}
 use Rattle.std.specs.Option.{option_map, option_and_then}
 use Rattle.std.proofs.lemmas.Slice.Eq.{bytes_eq-Decides}
 use Rattle.bm_value.specs.Tree.{Tree, nil, bool, int, bits32, bits64, str, bin, array, dict, ext}
@@ -306,6 +306,15 @@ fault_from_reads t (Err NoSeq) h = λ _. read_faulty t NoSeq h
 fault_from_reads t (Err NoOp) h = λ _. read_faulty t NoOp h
 fault_from_reads t (Err (BadArgs n)) h = λ _. read_faulty t (BadArgs n) h
 fault_from_reads t (Err Mem) h = λ never. absurd (never refl)
+
+-- a fault is answered whatever memory there is
+pub told_from : (t : Tree) (r : Result Message MsgError) (f : MsgError) → reading t ≡ Err f → Reads r (reading t) → IsErrOf r f
+told_from t (Ok m) f is h = absurd cc
+told_from t (Err NotMap) f is h = ap (λ e. Err e) (err_is NotMap f (sym h ∙ is))
+told_from t (Err NoSeq) f is h = ap (λ e. Err e) (err_is NoSeq f (sym h ∙ is))
+told_from t (Err NoOp) f is h = ap (λ e. Err e) (err_is NoOp f (sym h ∙ is))
+told_from t (Err (BadArgs n)) f is h = ap (λ e. Err e) (err_is (BadArgs n) f (sym h ∙ is))
+told_from t (Err Mem) f is h = absurd (let bad : is_ok (reading t) ≡ false = ap is_ok is in cc)
 
 pub reads_along : (r : Result Message MsgError) (a b : Result Meaning MsgError) → a ≡ b → Reads r a → Reads r b
 reads_along r a b e h = subst (λ x. Reads r x) e h

@@ -10,25 +10,22 @@ use Rattle.bm_msg.specs.declared.fault.MsgError.{MsgError}
 use Rattle.bm_msg.specs.declared.fault.MsgError.TheVariants.{NotMap, NoSeq, NoOp, BadArgs}
 use Rattle.bm_msg.specs.declared.kind.Kind.{Kind}
 use Rattle.bm_msg.specs.declared.kind.Kind.TheVariants as kind
-use Rattle.bm_msg.specs.declared.items.Told.{Told}
-use Rattle.bm_msg.specs.declared.items.Told.TheVariants.{Carries, Nothing, Wrong}
 use Rattle.bm_msg.specs.declared.items.Seen.{Seen}
 use Rattle.bm_msg.specs.declared.field.Field.TheVariants.{Text, Named, Rc}
 use Rattle.bm_msg.specs.Items.{text_of, is_log_name, carried_by, fields_of}
 use Rattle.bm_msg.specs.Messages.{session_of, is_exception, result_of}
 use Rattle.bm_msg.specs.Meaning.{Asked, auth, print, keepalive, get_worker_info, start_command, interrupt_command, shutdown, update, complete, unknown, Meaning, request, response}
 
--- what the code says of an item
-abbrev pub told : Told → Option (List Field)
-told (Carries f) = Some (f ∷ [])
-told Nothing = Some []
-told Wrong = None
+-- what an item carries, as fields
+abbrev pub carries : Option Field → Option (List Field)
+carries (Some f) = Some (f ∷ [])
+carries None = Some []
 
 -- an item of a log: none where the name is no log's
 abbrev pub named_field : List ℕ → List ℕ → Option (List Field)
 named_field name s = if is_log_name name then Some (Named name s ∷ []) else None
 
--- the same, where its texts lie in the message
+-- what an item tells, by texts that lie in the message
 abbrev pub seen : Seen → Option (List Field)
 seen (Seen.Text letter s) = Some (Text letter s.now ∷ [])
 seen (Seen.Named name s) = named_field name.now s.now

@@ -1,11 +1,11 @@
 //! The items of an update.
 
-ghost use Rattle.std.specs.Prelude.{◌≡◌, codes, map, IfOk, IfSome, IfNone, List};
-ghost use Rattle.std.specs.Option.{option_copied, option_map};
+ghost use Rattle.std.specs.Prelude.{◌≡◌, [], ◌∷◌, codes, map, Some, IfOk, OnErr, IfSome, IfNone, IsSome};
+ghost use Rattle.std.specs.Option.{option_copied, is_none};
 ghost use Rattle.bm_value.specs.Tree.{Tree, Trees, none, item};
 ghost use Rattle.bm_value.specs.View.{tree, trees_of, items_tree};
-ghost use Rattle.bm_msg.specs.Items.{text_of, lettered, named, carried_by, item_fields, fields_of};
-ghost use Rattle.bm_msg.specs.Reading.{told, seen, named_field, log_item, item_parts};
+ghost use Rattle.bm_msg.specs.Items.{text_of, is_log_name, lettered, named, carried_by, item_fields, fields_of};
+ghost use Rattle.bm_msg.specs.Reading.{carries, seen, named_field, log_item, item_parts};
 
 use crate::field::{Field, Fields};
 use crate::keys::str_of;
@@ -13,18 +13,7 @@ use bm_lines::{Letter, LogName, Text};
 use bm_value::{Items, Num, Value};
 use std::alloc::{AllocError, Allocator, Global};
 
-/// What an item tells, with texts of its own.
-#[derive(Drop)]
-pub enum Told {
-    /// What it carries.
-    Carries(Field),
-    /// Nothing that counts.
-    Nothing,
-    /// It is of another kind than its name asks for.
-    Wrong,
-}
-
-/// What an item tells, by texts that lie in the message: so nothing is copied, or moved far, before it is known.
+/// What an item tells, by texts that lie in the message.
 #[derive(Clone, Copy)]
 pub enum Seen<'a> {
     Text(Letter, &'a str),
@@ -37,8 +26,16 @@ pub enum Seen<'a> {
     Wrong,
 }
 
+/// The longest name of a log, in bytes.
+const LONGEST_NAME: usize = 255;
+
+fn is_log_name(name: &str) -> bool
+    ensures { result ≡ is_log_name name.now }
+{
+    !name.is_empty() && name.len() <= LONGEST_NAME
+}
+
 /// The text of a str, or of an array's first item.
-#[inline(always)]
 fn text_of<A: Allocator>(value: &Value<A>) -> Option<&str>
     ensures { option_copied result ≡ text_of (tree value.now) }
 {
@@ -52,7 +49,6 @@ fn text_of<A: Allocator>(value: &Value<A>) -> Option<&str>
     }
 }
 
-#[inline(always)]
 fn lettered<A: Allocator>(letter: Letter, value: &Value<A>) -> Seen<'_>
     ensures { seen result ≡ lettered letter (tree value.now) }
 {
@@ -87,7 +83,6 @@ fn named<A: Allocator>(value: &Value<A>) -> Seen<'_>
     }
 }
 
-#[inline(always)]
 fn carried_by<'a, A: Allocator>(name: &str, value: &'a Value<A>) -> Seen<'a>
     ensures { seen result ≡ carried_by name.now (tree value.now) }
 {
@@ -105,7 +100,6 @@ fn carried_by<'a, A: Allocator>(name: &str, value: &'a Value<A>) -> Seen<'a>
 }
 
 /// An item of an update: its name and value.
-#[inline(always)]
 fn item_parts<'a, A: Allocator>(name: &Value<A>, value: &'a Value<A>) -> Seen<'a>
     ensures { seen result ≡ item_parts (tree name.now) (tree value.now) }
 {
@@ -115,7 +109,6 @@ fn item_parts<'a, A: Allocator>(name: &Value<A>, value: &'a Value<A>) -> Seen<'a
     }
 }
 
-#[inline(always)]
 fn seen_in<A: Allocator>(item: &Value<A>) -> Seen<'_>
     ensures { seen result ≡ item_fields (tree item.now) }
 {
@@ -129,66 +122,82 @@ fn seen_in<A: Allocator>(item: &Value<A>) -> Seen<'_>
     item_parts(&parts[0], &parts[1])
 }
 
+/// Whether an item is of another kind than its name asks for.
+fn is_wrong<A: Allocator>(item: &Value<A>) -> bool
+    ensures { result ≡ is_none (item_fields (tree item.now)) }
+{
+    match seen_in(item) {
+        Seen::Named(name, _) => !is_log_name(name),
+        Seen::Text(..) | Seen::Rc(_) | Seen::Nothing => false,
+        Seen::Wrong => true,
+    }
+}
+
+/// Whether one of the items is of another kind than its name asks for.
+fn has_wrong<A: Allocator>(parts: &[Value<A>]) -> bool
+    ensures { result ≡ is_none (fields_of (trees_of (map tree parts.now))) }
+{
+    for part in parts {
+        if is_wrong(part) {
+            return true;
+        }
+    }
+    false
+}
+
 /// The item of a named log, with texts of its own.
-fn own_named(alloc: Global, name: &str, text: &str) -> Result<Told, AllocError>
-    ensures { IfOk result (λ t. told t ≡ named_field name.now text.now) }
+fn own_named(alloc: Global, name: &str, text: &str) -> Result<Field, AllocError>
+    requires { IsSome (named_field name.now text.now) }
+    ensures { IfOk result (λ f. Some (f ∷ []) ≡ named_field name.now text.now) }
 {
     match LogName::new(alloc, name)? {
-        Some(name) => Ok(Told::Carries(Field::Named(name, Text::from_str(alloc, text)?))),
-        None => Ok(Told::Wrong),
+        Some(name) => Ok(Field::Named(name, Text::from_str(alloc, text)?)),
+        None => unreachable!("a name of a log"),
     }
 }
 
-/// What an item tells, with texts of its own.
-fn own(alloc: Global, item: Seen) -> Result<Told, AllocError>
-    ensures { IfOk result (λ t. told t ≡ seen item.entry) }
+/// What an item carries, with texts of its own.
+fn own(alloc: Global, item: Seen) -> Result<Option<Field>, AllocError>
+    requires { IsSome (seen item) }
+    ensures { IfOk result (λ f. carries f ≡ seen item.entry) }
 {
     match item {
-        Seen::Text(letter, text) => {
-            Ok(Told::Carries(Field::Text(letter, Text::from_str(alloc, text)?)))
+        Seen::Text(letter, text) => Ok(Some(Field::Text(letter, Text::from_str(alloc, text)?))),
+        Seen::Named(name, text) => Ok(Some(own_named(alloc, name, text)?)),
+        Seen::Rc(code) => Ok(Some(Field::Rc(code))),
+        Seen::Nothing => Ok(None),
+        Seen::Wrong => unreachable!("of the kind that its name asks for"),
+    }
+}
+
+/// What the items carry, with texts of its own.
+fn own_all<A: Allocator>(alloc: Global, parts: &[Value<A>]) -> Result<Fields, AllocError>
+    requires { IsSome (fields_of (trees_of (map tree parts.now))) }
+    ensures { IfOk result (λ f. Some f ≡ fields_of (trees_of (map tree parts.now))) }
+{
+    let mut fields = Vec::with_capacity(alloc, parts.len())?;
+    for part in parts {
+        if let Some(field) = own(alloc, seen_in(part))? {
+            fields.push(field)?;
         }
-        Seen::Named(name, text) => own_named(alloc, name, text),
-        Seen::Rc(code) => Ok(Told::Carries(Field::Rc(code))),
-        Seen::Nothing => Ok(Told::Nothing),
-        Seen::Wrong => Ok(Told::Wrong),
     }
+    Ok(Fields::from_vec(fields))
 }
 
-fn item<A: Allocator>(alloc: Global, item: &Value<A>) -> Result<Told, AllocError>
-    ensures { IfOk result (λ t. told t ≡ item_fields (tree item.now)) }
+/// What the items of an update carry, or None where one of them is of another kind. All are looked at
+/// before the first is copied, so None is told whatever memory there is.
+pub fn fields<A: Allocator>(alloc: Global, items: &Items<A>) -> Result<Option<Fields>, AllocError>
+    ensures found { IfOk result (λ f. f ≡ fields_of (items_tree items.now)) }
+    ensures told { OnErr result (IsSome (fields_of (items_tree items.now))) }
 {
-    own(alloc, seen_in(item))
-}
-
-/// What the only item of an update carries, whatever its kind.
-#[cold]
-#[inline(never)]
-fn of_any_kind<A: Allocator>(alloc: Global, part: &Value<A>) -> Result<Option<Fields>, AllocError>
-    ensures { IfOk result (λ f. f ≡ item_fields (tree part.now)) }
-{
-    match item(alloc, part)? {
-        Told::Carries(field) => Ok(Some(Fields::one(alloc, field))),
-        Told::Nothing => Ok(Some(Fields::new(alloc))),
-        Told::Wrong => Ok(None),
+    let parts = items.vec.as_slice();
+    if has_wrong(parts) {
+        return Ok(None);
     }
-}
-
-/// The same, fast where it is a text.
-#[inline(always)]
-fn only<A: Allocator>(alloc: Global, part: &Value<A>) -> Result<Option<Fields>, AllocError>
-    ensures { IfOk result (λ f. f ≡ item_fields (tree part.now)) }
-{
-    match seen_in(part) {
-        Seen::Text(letter, text) => {
-            let text = Text::from_str(alloc, text)?;
-            Ok(Some(Fields::one(alloc, Field::Text(letter, text))))
-        }
-        _ => of_any_kind(alloc, part),
-    }
+    Ok(Some(own_all(alloc, parts)?))
 }
 
 /// What the item of an update that has just one tells.
-#[inline(always)]
 pub fn only_item<A: Allocator>(items: &Items<A>) -> Option<Seen<'_>>
     ensures some { IfSome result (λ s. seen s ≡ fields_of (items_tree items.now)) }
     ensures none { IfNone result ((only : Tree) → ¬ (items_tree items.now ≡ item only none)) }
@@ -198,31 +207,4 @@ pub fn only_item<A: Allocator>(items: &Items<A>) -> Option<Seen<'_>>
         return None;
     }
     Some(seen_in(&parts[0]))
-}
-
-/// What any number of items carry, by one request for memory.
-#[cold]
-#[inline(never)]
-fn many<A: Allocator>(alloc: Global, parts: &[Value<A>]) -> Result<Option<Fields>, AllocError>
-    ensures { IfOk result (λ f. f ≡ fields_of (trees_of (map tree parts.now))) }
-{
-    let mut fields = Vec::with_capacity(alloc, parts.len())?;
-    for part in parts {
-        match item(alloc, part)? {
-            Told::Carries(field) => fields.push(field)?,
-            Told::Nothing => {}
-            Told::Wrong => return Ok(None),
-        }
-    }
-    Ok(Some(Fields::from_vec(fields)))
-}
-
-/// What the items of an update carry, or None where one of them is of another kind.
-pub fn fields<A: Allocator>(alloc: Global, items: &Items<A>) -> Result<Option<Fields>, AllocError>
-    ensures { IfOk result (λ f. f ≡ fields_of (items_tree items.now)) }
-{
-    match items.vec.as_slice() {
-        [part] => only(alloc, part),
-        parts => many(alloc, parts),
-    }
 }

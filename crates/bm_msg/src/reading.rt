@@ -1,6 +1,6 @@
 //! Which message a value is.
 
-ghost use Rattle.std.specs.Prelude.{◌≡◌, ◌≢◌, ◌<◌, ◌^◌, true, false, codes, IfOk, IfErr, Ok, Err};
+ghost use Rattle.std.specs.Prelude.{◌≡◌, ◌≢◌, ◌<◌, ◌^◌, true, false, codes, IfOk, IfErr, OnErr, IsErrOf, IsSome, Ok};
 ghost use Rattle.std.specs.Option.{option_copied, option_map, option_and_then};
 ghost use Rattle.bm_value.specs.Field.{field};
 ghost use Rattle.bm_value.specs.View.{tree};
@@ -22,7 +22,8 @@ use bm_value::Value;
 use std::alloc::{AllocError, Allocator, Global};
 
 fn auth<A: Allocator>(alloc: Global, message: &Value<A>) -> Result<Option<Request>, AllocError>
-    ensures { IfOk result (λ r. option_map asked r ≡ auth_at (tree message.now)) }
+    ensures found { IfOk result (λ r. option_map asked r ≡ auth_at (tree message.now)) }
+    ensures told { OnErr result (IsSome (auth_at (tree message.now))) }
 {
     let Some(username) = text_at(message, "username") else {
         return Ok(None);
@@ -39,7 +40,8 @@ fn auth<A: Allocator>(alloc: Global, message: &Value<A>) -> Result<Option<Reques
 
 /// The items of an update.
 fn items<A: Allocator>(alloc: Global, message: &Value<A>) -> Result<Option<Fields>, AllocError>
-    ensures { IfOk result (λ f. f ≡ items_at (tree message.now)) }
+    ensures found { IfOk result (λ f. f ≡ items_at (tree message.now)) }
+    ensures told { OnErr result (IsSome (items_at (tree message.now))) }
 {
     match message.get("args") {
         Some(Value::Array(items)) => fields(alloc, items),
@@ -48,7 +50,8 @@ fn items<A: Allocator>(alloc: Global, message: &Value<A>) -> Result<Option<Field
 }
 
 fn update<A: Allocator>(alloc: Global, message: &Value<A>) -> Result<Option<Request>, AllocError>
-    ensures { IfOk result (λ r. option_map asked r ≡ update_at (tree message.now)) }
+    ensures found { IfOk result (λ r. option_map asked r ≡ update_at (tree message.now)) }
+    ensures told { OnErr result (IsSome (update_at (tree message.now))) }
 {
     let Some(command) = command_at(message) else {
         return Ok(None);
@@ -64,7 +67,8 @@ fn fault<A: Allocator>(
     alloc: Global,
     message: &Value<A>,
 ) -> Result<Option<Option<Text>>, AllocError>
-    ensures { IfOk result (λ f. f ≡ fault_at (tree message.now)) }
+    ensures found { IfOk result (λ f. f ≡ fault_at (tree message.now)) }
+    ensures told { OnErr result (IsSome (fault_at (tree message.now))) }
 {
     match message.get("args") {
         Some(Value::Nil) => Ok(Some(None)),
@@ -74,7 +78,8 @@ fn fault<A: Allocator>(
 }
 
 fn complete<A: Allocator>(alloc: Global, message: &Value<A>) -> Result<Option<Request>, AllocError>
-    ensures { IfOk result (λ r. option_map asked r ≡ complete_at (tree message.now)) }
+    ensures found { IfOk result (λ r. option_map asked r ≡ complete_at (tree message.now)) }
+    ensures told { OnErr result (IsSome (complete_at (tree message.now))) }
 {
     let Some(command) = command_at(message) else {
         return Ok(None);
@@ -86,7 +91,8 @@ fn complete<A: Allocator>(alloc: Global, message: &Value<A>) -> Result<Option<Re
 }
 
 fn print<A: Allocator>(alloc: Global, message: &Value<A>) -> Result<Option<Request>, AllocError>
-    ensures { IfOk result (λ r. option_map asked r ≡ print_at (tree message.now)) }
+    ensures found { IfOk result (λ r. option_map asked r ≡ print_at (tree message.now)) }
+    ensures told { OnErr result (IsSome (print_at (tree message.now))) }
 {
     match text_at(message, "message") {
         Some(text) => Ok(Some(Request::Print {
@@ -100,7 +106,8 @@ fn start_command<A: Allocator>(
     alloc: Global,
     message: &Value<A>,
 ) -> Result<Option<Request>, AllocError>
-    ensures { IfOk result (λ r. option_map asked r ≡ start_at (tree message.now)) }
+    ensures found { IfOk result (λ r. option_map asked r ≡ start_at (tree message.now)) }
+    ensures told { OnErr result (IsSome (start_at (tree message.now))) }
 {
     let Some(command) = command_at(message) else {
         return Ok(None);
@@ -122,7 +129,8 @@ fn interrupt_command<A: Allocator>(
     alloc: Global,
     message: &Value<A>,
 ) -> Result<Option<Request>, AllocError>
-    ensures { IfOk result (λ r. option_map asked r ≡ interrupt_at (tree message.now)) }
+    ensures found { IfOk result (λ r. option_map asked r ≡ interrupt_at (tree message.now)) }
+    ensures told { OnErr result (IsSome (interrupt_at (tree message.now))) }
 {
     let Some(command) = command_at(message) else {
         return Ok(None);
@@ -144,7 +152,8 @@ fn request<A: Allocator>(
     op: &str,
     message: &Value<A>,
 ) -> Result<Option<Request>, AllocError>
-    ensures { IfOk result (λ r. option_map asked r ≡ asked_at kind op.now (tree message.now)) }
+    ensures found { IfOk result (λ r. option_map asked r ≡ asked_at kind op.now (tree message.now)) }
+    ensures told { OnErr result (IsSome (asked_at kind op.now (tree message.now))) }
 {
     match kind {
         Kind::Auth => auth(alloc, message),
@@ -246,7 +255,8 @@ fn by_keys<A: Allocator>(alloc: Global, message: &Value<A>) -> Result<Message, M
 ///
 /// # Errors
 ///
-/// The first reason why the value is no message, in the order of [`MsgError`]; `Mem` where memory ran out.
+/// The first reason why the value is no message, in the order of [`MsgError`], whatever memory there is; `Mem`
+/// where it is one and memory ran out.
 pub fn read<A: Allocator>(alloc: Global, message: &Value<A>) -> Result<Message, MsgError>
     // What is answered is the message that the value is.
     ensures found { IfOk result (λ m. IsMessage (tree message.now) (meaning m)) }
@@ -254,8 +264,8 @@ pub fn read<A: Allocator>(alloc: Global, message: &Value<A>) -> Result<Message, 
     ensures only { (m : Meaning) → IsMessage (tree message.now) m → Reads result (Ok m) }
     // A fault that is told is the first reason.
     ensures fault { IfErr result (λ e. e ≢ MsgError.Mem → IsFaulty (tree message.now) e) }
-    // The first reason is told, unless memory runs out.
-    ensures refused { (f : MsgError) → IsFaulty (tree message.now) f → Reads result (Err f) }
+    // The first reason is told, whatever memory there is.
+    ensures refused { (f : MsgError) → IsFaulty (tree message.now) f → IsErrOf result f }
 {
     by_keys(alloc, message)
 }

@@ -6,8 +6,10 @@ pub mod Words
 mod Rows
 mod Scanned
 mod Lanes
+mod Orders
 mod Runs
 mod Fields
+mod Events
 mod Merged
 mod Inserted
 mod Listed

@@ -1,17 +1,19 @@
 -- Each word on a trace, where one event comes after the trace.
-use Rattle.std.proofs.Common.{◌≡◌, refl, ◌∙◌, ap, ℕ, ◌+◌, Bool, true, false, cond, not, ◌||◌, ◌&&◌, List, [], ◌∷◌, ◌++◌, Some, None, append_assoc}
-use Rattle.std.specs.Prelude.{◌==◌}
-use Rattle.std.specs.List.{list_any, after_last, find, filter, count_by, flat_map, cons_option}
+use Rattle.std.proofs.Common.{◌≡◌, refl, ◌∙◌, ap, ℕ, ◌+◌, Bool, true, false, cond, not, ◌||◌, ◌&&◌, List, [], ◌∷◌, ◌++◌, Option, Some, None, append_assoc}
+use Rattle.std.specs.Prelude.{◌==◌, ℤ}
+use Rattle.std.specs.List.{list_any, after_last, find, filter, filter_map, fold, count_by, flat_map, cons_option}
 use Rattle.std.specs.Option.{option_or}
 use Rattle.std.proofs.lemmas.List.{append-nil}
 use Rattle.std.proofs.lemmas.List.Concat.{flat_map-append}
+use Rattle.std.proofs.lemmas.List.Elements.{filter_map-append}
+use Rattle.std.proofs.lemmas.List.Sums.{fold-append}
 use Rattle.bm_session.proofs.Snoc.{after_last-push, list_any-push, count_by-push, find-push, filter-push, filter_map-push}
 use Rattle.bm_session.specs.declared.event.Event.{Event}
 use Rattle.bm_lines.specs.declared.line.Line.{Line}
-use Rattle.bm_session.specs.Events.{is_up_event, is_cut_event, is_interruption, is_border, is_go, is_order, is_request, parcel_of}
+use Rattle.bm_session.specs.Events.{is_up_event, is_cut_event, is_interruption, is_border, is_go, is_order, is_request, parcel_of, rc_of}
 use Rattle.bm_lines.specs.Names.{Name}
 use Rattle.bm_lines.specs.Parcels.{blocks_under}
-use Rattle.bm_session.specs.Trace.{joined, blocks, Trace, Moment, moments, moments_after, begins_session, session, is_up, is_cut, commands, orders, is_new, starts, was_order, ends_at, ending, updates, log, items, item, first_with}
+use Rattle.bm_session.specs.Trace.{joined, blocks, Trace, Moment, moments, moments_after, begins_session, session, is_up, is_cut, commands, orders, is_new, starts, was_order, ends_at, ending, updates, last_rc, log, items, item, first_with}
 
 -- the place at which e comes next
 abbrev pub next : Trace → Event → Moment
@@ -93,3 +95,14 @@ first_with-push t e n = rw (session-push t e) (go (begins_session (next t e)))
     go : (b : Bool) → find (λ m. is_request n m.event) (cond b [] (session t ++ next t e ∷ [])) ≡ cond b None (option_or (first_with t n) (cond (is_request n e) (Some (next t e)) None))
     go true = refl
     go false = find-push (λ (m : Moment). is_request n m.event) (session t) (next t e)
+
+-- the last code, with one more
+pub last_rc-push : (t : Trace) (e : Event) (k : ℕ) → last_rc (t ++ e ∷ []) k ≡ option_or (cond (updates k (next t e)) (rc_of e) None) (last_rc t k)
+last_rc-push t e k =
+    rw (moments-push t e, filter-push (updates k) (moments t) (next t e), filter_map-append (λ (m : Moment). rc_of m.event) (filter (updates k) (moments t)) (cond (updates k (next t e)) (next t e ∷ []) []), fold-append (λ (o : Option ℤ) z. Some z) None (filter_map (λ (m : Moment). rc_of m.event) (filter (updates k) (moments t))) (filter_map (λ (m : Moment). rc_of m.event) (cond (updates k (next t e)) (next t e ∷ []) [])))
+    (go (updates k (next t e)) (rc_of e) refl)
+  where
+    go : (b : Bool) (o : Option ℤ) → rc_of e ≡ o → fold (λ (o : Option ℤ) z. Some z) (last_rc t k) (filter_map (λ (m : Moment). rc_of m.event) (cond b (next t e ∷ []) [])) ≡ option_or (cond b o None) (last_rc t k)
+    go true None h = rw h
+    go true (Some z) h = rw h
+    go false o h = refl

@@ -5,8 +5,7 @@ use Rattle.std.specs.List.{list_any, find, filter}
 use Rattle.std.specs.Option.{option_or}
 use Rattle.std.proofs.lemmas.Bool.Decides.{nat_tests}
 use Rattle.bm_session.proofs.Snoc.{list_any-push, and-true, or-false}
-use Rattle.bm_session.proofs.Pushed.{next, commands-push, is_up-push, ending-push, first_with-push}
-use Rattle.bm_session.proofs.Scanned.{last_rc-push}
+use Rattle.bm_session.proofs.Pushed.{next, commands-push, is_up-push, ending-push, first_with-push, last_rc-push}
 use Rattle.bm_session.proofs.Taken.{and-left, and-right, is_open-push, open-is-started, none-from}
 use Rattle.bm_session.proofs.Listed.{find-map, filter-open, map-open, open_commands-keep, start_order-push, was_order-start}
 use Rattle.bm_session.specs.declared.event.Event.{Event}

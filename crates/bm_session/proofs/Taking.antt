@@ -6,7 +6,7 @@ use Rattle.std.specs.Option.{option_or}
 use Rattle.std.proofs.lemmas.Bool.{cases_lt}
 use Rattle.std.proofs.lemmas.Bool.Decides.{nat_tests}
 use Rattle.bm_session.proofs.Snoc.{snoc_induction, list_any-push, and-false, or-false, or-true}
-use Rattle.bm_session.proofs.Pushed.{next, commands-push, orders-push, is_up-push, is_cut-push, first_with-push}
+use Rattle.bm_session.proofs.Pushed.{next, commands-push, orders-push, is_up-push, is_cut-push, first_with-push, last_rc-push}
 use Rattle.bm_session.proofs.Taken.{and-left, and-right, not-started, IsNothing, is_open-push, open-is-started, was_taken-push, none-from, ends-no, not-up, already}
 use Rattle.bm_session.proofs.Listed.{map-open, map-append, open_commands-keep, open_commands-down, open_commands-go, is_open-go, start_order-go}
 use Rattle.bm_session.proofs.Stepped.{entry, entry-push, entry-keep, no-code, listed-keep, IsKept, kept, outcome-push, outcome-open, ended-keep, counted-keep, seen-up, seen-stay, stays_up}
@@ -18,7 +18,6 @@ use Rattle.bm_session.specs.declared.results.Results.{Results}
 use Rattle.bm_session.specs.declared.results.Results.TheVariants.{Exception, Retry}
 use Rattle.bm_session.specs.declared.refusal.Refusal.TheVariants.{NotUp, NoSuchCommand, TooManyOpen}
 use Rattle.bm_session.specs.Trace.{first_reason, reason_if, full}
-use Rattle.bm_session.proofs.Scanned.{last_rc-push}
 use Rattle.std.proofs.lemmas.List.{length-append}
 use Rattle.std.proofs.Math.ListN.{get_or-append}
 use Rattle.bm_session.specs.declared.table.Link.TheVariants as linked
@@ -153,7 +152,7 @@ table-Down tb tb' t is e-link e-orders e-open e-outcomes e-seen =
 
 -- Orders
 
-stop-open : (t : Trace) (j : ℕ) → refusal t (Stop j) ≡ None → is_open t j ≡ true
+pub stop-open : (t : Trace) (j : ℕ) → refusal t (Stop j) ≡ None → is_open t j ≡ true
 stop-open t j r = go (is_up t) (is_open t j) r
   where
     go : (u o : Bool) → first_reason (reason_if (not u) NotUp) (first_reason (reason_if (not o) NoSuchCommand) (full t (Stop j))) ≡ None → o ≡ true

@@ -7,3 +7,4 @@ pub mod Texts
 pub mod Ranges
 pub mod Counted
 pub mod Table
+pub mod Laws

@@ -6,9 +6,43 @@ ghost use Rattle.bm_session.specs.Trace.{blocks, log as log_of, joined, is_empty
 ghost use Rattle.bm_session.specs.Counted.{flags};
 
 use crate::event::{Body, Event};
-use crate::scan::logs::{append_part, has_part};
-use bm_lines::Line;
+use bm_lines::{Line, Parcel};
 use std::alloc::{AllocError, Global};
+
+/// Whether the parcel has a part with the name.
+fn has_part(parcel: &Parcel, name: &str) -> bool
+    ensures { result ≡ not (is_empty (blocks_under name.now parcel.now)) }
+{
+    let mut found = false;
+    for part in parcel.parts() {
+        if part.name.is(name) {
+            found = true;
+        }
+    }
+    found
+}
+
+/// Appends the lines of the parcel's part with the name, if it has one.
+fn append_part(lines: &mut Vec<Line>, parcel: &Parcel, name: &str) -> Result<(), AllocError>
+    ensures { IfOk result (λ u. lines.new.items ≡ lines.old.items ++ joined (blocks_under name.now parcel.now)) }
+{
+    for part in parcel.parts() {
+        if part.name.is(name) {
+            append_lines(lines, part.block.lines())?;
+        }
+    }
+    Ok(())
+}
+
+/// Appends copies of the lines.
+fn append_lines(out: &mut Vec<Line>, lines: &[Line]) -> Result<(), AllocError>
+    ensures { IfOk result (λ u. out.new.items ≡ out.old.items ++ lines.now) }
+{
+    for line in lines {
+        out.push(line.copy()?)?;
+    }
+    Ok(())
+}
 
 /// Whether the log had a block, or has one where the event, if it counts, adds one.
 fn found_after(found: bool, counts: bool, event: &Event, command: u64, name: &str) -> bool

@@ -1,13 +1,16 @@
-ghost use Rattle.std.specs.Prelude.{◌≡◌, IfOk};
+ghost use Rattle.std.specs.Prelude.{◌≡◌, ◌≢◌, ℕ, IfOk, IfErr, IsErrOf, Ok};
+ghost use Rattle.bm_value.specs.View.{tree};
+ghost use Rattle.bm_msg.specs.declared.fault.MsgError.{MsgError};
 ghost use Rattle.bm_msg.specs.Meaning.{asked, meaning};
+ghost use Rattle.bm_msg.specs.Messages.{IsFaulty};
 ghost use Rattle.bm_msg.specs.Updates.{says};
-ghost use Rattle.bm_session.specs.Heard.{body_of, event_of};
+ghost use Rattle.bm_session.specs.Heard.{body_of, event_of, faulty_as, IsEvent, IsNoEvent};
 
 use crate::carried;
 use bm_lines::{LogName, Parcel};
-use bm_msg::{Message, Numbered, Request, Response, TextUpdate};
-use bm_value::Num;
-use std::alloc::{AllocError, Global};
+use bm_msg::{Message, MsgError, Numbered, Request, Response, TextUpdate, read, read_text};
+use bm_value::{Num, Value};
+use std::alloc::{AllocError, Allocator, Global};
 
 /// What a lane's session takes, one at a time.
 #[derive(Drop)]
@@ -27,6 +30,44 @@ pub enum Event {
 }
 
 impl Event {
+    /// The event that a value is: that of its message, or a request with bad arguments.
+    ///
+    /// What stays is copied, so the value may be dropped afterwards.
+    ///
+    /// # Errors
+    ///
+    /// The first reason why the value is no message, but for bad arguments; `Mem` where memory ran out.
+    pub fn of_value<A: Allocator>(alloc: Global, value: &Value<A>) -> Result<Event, MsgError>
+        // What is answered is the event that the value is.
+        ensures event { IfOk result (IsEvent (tree value.now)) }
+        // A value that is an event is answered as that, unless memory runs out.
+        ensures only { (e : Event) → IsEvent (tree value.now) e → IfOk result (λ r. r ≡ e) }
+        ensures wants { (e : Event) → IsEvent (tree value.now) e → IfErr result (λ f. f ≡ MsgError.Mem) }
+        // A fault that is told is the first reason why it is none.
+        ensures fault { IfErr result (λ f. f ≢ MsgError.Mem → IsNoEvent (tree value.now) f) }
+        // The first reason is told, and bad arguments are an event, whatever memory there is.
+        ensures told { (f : MsgError) → IsNoEvent (tree value.now) f → IsErrOf result f }
+        ensures args { (n : ℕ) → IsFaulty (tree value.now) (MsgError.BadArgs n) → result ≡ Ok (Event.In n Body.BadArgs) }
+    {
+        if let Some(update) = read_text(value) {
+            return Ok(Event::of_text(alloc, update)?);
+        }
+        match read(alloc, value) {
+            Ok(message) => Ok(Event::of_message(alloc, message)?),
+            Err(fault) => Event::of_fault(fault),
+        }
+    }
+
+    /// Bad arguments are a request; with another fault it is no event.
+    fn of_fault(fault: MsgError) -> Result<Event, MsgError>
+        ensures { result ≡ faulty_as fault }
+    {
+        match fault {
+            MsgError::BadArgs(number) => Ok(Event::bad_args(number)),
+            MsgError::NotMap | MsgError::NoSeq | MsgError::NoOp | MsgError::Mem => Err(fault),
+        }
+    }
+
     /// What a message of the worker is to its session. Requests that only a master sends are no operation.
     pub fn of_message(alloc: Global, message: Message) -> Result<Event, AllocError>
         ensures { IfOk result (λ event. event ≡ event_of (meaning message)) }
@@ -41,9 +82,8 @@ impl Event {
         }
     }
 
-    /// The same for an update of one text, which stays: its lines are copied.
-    #[inline(always)]
-    pub fn of_text(alloc: Global, update: TextUpdate<'_>) -> Result<Event, AllocError>
+    /// What an update of one text is to its session. The text stays where it is: its lines are copied.
+    fn of_text(alloc: Global, update: TextUpdate<'_>) -> Result<Event, AllocError>
         ensures { IfOk result (λ event. event ≡ event_of (says update.entry)) }
     {
         let parcel = Parcel::of_str(alloc, LogName::stdio(), update.letter, update.text)?;

@@ -23,7 +23,6 @@ impl Model for Plan {
 
 impl Plan {
     /// A plan with these parts.
-    #[inline(always)]
     pub(crate) fn of(event: Event, reply: Reply, item: Option<Item>) -> Plan
         ensures { result ≡ record { event = event; sent = reply; given = item } }
     {
@@ -31,7 +30,6 @@ impl Plan {
     }
 
     /// The parts of the plan.
-    #[inline(always)]
     pub(crate) fn into_parts(self) -> (Event, Reply, Option<Item>)
         ensures event { result.0 ≡ self.event }
         ensures reply { result.1 ≡ self.sent }
@@ -42,7 +40,6 @@ impl Plan {
     }
 
     /// The event's item at the first call, and None from then on.
-    #[inline(always)]
     pub fn take_item(&mut self) -> Option<Item>
         ensures given { result ≡ self.old.given }
         ensures left { self.new ≡ record self.old { given = None } }

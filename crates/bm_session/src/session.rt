@@ -1,5 +1,5 @@
-ghost use Rattle.std.specs.Prelude.{◌≡◌, ◌⊎◌, ◌++◌, ◌∷◌, ◌||◌, ◌≤◌, [], Some, None, true, false, IfOk, IfErr, IsOk, OnOk, if◌then◌else◌};
-ghost use Rattle.bm_session.specs.Trace.{is_up as up_of, is_cut as cut_of, refusal as refusal_of, reply as reply_of, item as item_of, log as log_of, has_log as has_log_in, outcome as outcome_of, was_taken};
+ghost use Rattle.std.specs.Prelude.{◌≡◌, ◌⊎◌, ◌++◌, ◌∷◌, ◌||◌, ◌≤◌, ◌<◌, ◌^◌, [], Some, None, true, false, IfOk, IfErr, IsOk, OnOk, if◌then◌else◌};
+ghost use Rattle.bm_session.specs.Trace.{is_up as up_of, is_cut as cut_of, orders as orders_of, commands as commands_of, refusal as refusal_of, reply as reply_of, item as item_of, log as log_of, has_log as has_log_in, outcome as outcome_of, was_taken};
 ghost use Rattle.bm_session.specs.Seen.{HoldsSeen};
 ghost use Rattle.bm_session.specs.Session.{IsPlanFor, needed, ran_as, trace_as, ran_after, trace_after};
 
@@ -69,6 +69,36 @@ impl Session {
         events
     }
 
+    /// Whether the lane is up: a connection of the worker takes messages and orders. It takes constant time.
+    pub fn is_up(&self) -> bool
+        ensures { result ≡ up_of self.now.trace }
+    {
+        self.table.is_up()
+    }
+
+    /// Whether the lane is cut: the session may be resumed or given up. It takes constant time.
+    pub fn is_cut(&self) -> bool
+        ensures { result ≡ cut_of self.now.trace }
+    {
+        self.table.is_cut()
+    }
+
+    /// The number that the next order gets which is taken, in this session. It takes constant time.
+    pub fn next_order(&self) -> u64
+        ensures number { result ≡ orders_of self.now.trace }
+        ensures small { result < 2 ^ 63 }
+    {
+        self.table.orders
+    }
+
+    /// The number of the command that is started next. It takes constant time.
+    pub fn next_command(&self) -> u64
+        ensures number { result ≡ commands_of self.now.trace }
+        ensures small { result < 2 ^ 63 }
+    {
+        self.table.commands()
+    }
+
     /// The log of the command under the name, or None where that log isn't there.
     pub fn log(&self, alloc: Global, command: u64, name: &str) -> Result<Option<Block>, AllocError>
         ensures { IfOk result (λ log. log ≡ (if has_log_in self.now.trace command name.now then Some (log_of self.now.trace command name.now) else None)) }
@@ -130,10 +160,8 @@ impl Session {
         }
     }
 
-    /// The same for an event that stays where it is: answers what the master sends and the event's item, or why it isn't
-    /// taken. Then `record` takes it.
-    #[inline(never)]
-    pub fn prepare(&mut self, event: &Event) -> Result<(Reply, Option<Item>), Refusal>
+    /// What the master sends after the event, and its item, or why it isn't taken. Makes the room that it needs.
+    fn prepare(&mut self, event: &Event) -> Result<(Reply, Option<Item>), Refusal>
         ensures same { self.new.trace ≡ self.old.trace }
         ensures room { self.old.room ≤ self.new.room }
 
@@ -165,9 +193,8 @@ impl Session {
         Ok((reply, item))
     }
 
-    /// Takes an event that was prepared, where none was taken since. It is moved at once to where it stays.
-    #[inline(never)]
-    pub fn record(&mut self, event: Event)
+    /// Takes an event that was prepared, where none was taken since.
+    fn record(&mut self, event: Event)
         requires accepted { refusal_of self.old.trace event ≡ None }
         requires room { needed event ≤ self.old.room }
         ensures { self.new.trace ≡ self.old.trace ++ event ∷ [] }
@@ -182,7 +209,6 @@ impl Session {
 
     /// Takes the event of the plan: answers what the master sends, and the event's item unless it was taken from the
     /// plan before.
-    #[inline(always)]
     pub fn commit(&mut self, plan: Plan) -> (Reply, Option<Item>)
         requires { IsPlanFor self.old plan }
         ensures trace { self.new.trace ≡ self.old.trace ++ plan.event ∷ [] }
@@ -224,7 +250,6 @@ impl Session {
     }
 
     /// Gives the event of the plan back. Nothing was done.
-    #[inline(always)]
     pub fn withdraw(&mut self, plan: Plan) -> Event
         ensures event { result ≡ plan.event }
         ensures same { self.new ≡ self.old }

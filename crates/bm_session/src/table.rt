@@ -224,7 +224,8 @@ impl Table {
         }
     }
 
-    fn is_up(&self) -> bool
+    /// Whether the lane is up.
+    pub fn is_up(&self) -> bool
         ensures { (t : Trace) → IsTable self.now t → result ≡ up_of t }
     {
         match self.link {
@@ -233,7 +234,8 @@ impl Table {
         }
     }
 
-    fn is_cut(&self) -> bool
+    /// Whether the lane is cut.
+    pub fn is_cut(&self) -> bool
         ensures { (t : Trace) → IsTable self.now t → result ≡ cut_of t }
     {
         match self.link {
@@ -416,8 +418,6 @@ impl Table {
     }
 
     /// A session that was cut is resumed; else one begins.
-    #[cold]
-    #[inline(never)]
     fn take_up(&mut self)
         ensures table { (t : Trace) → IsTable self.old t → refusal_of t Event.Up ≡ None → IsTable self.new (t ++ Event.Up ∷ []) }
         ensures places { vec_capacity self.new.opened ≡ vec_capacity self.old.opened }
@@ -428,8 +428,6 @@ impl Table {
     }
 
     /// The commands stay open, and the numbers known.
-    #[cold]
-    #[inline(never)]
     fn take_cut(&mut self)
         ensures table { (t : Trace) → IsTable self.old t → refusal_of t Event.Cut ≡ None → IsTable self.new (t ++ Event.Cut ∷ []) }
         ensures places { vec_capacity self.new.opened ≡ vec_capacity self.old.opened }
@@ -439,8 +437,6 @@ impl Table {
     }
 
     /// Every open command ends, and the session's numbers are forgotten.
-    #[cold]
-    #[inline(never)]
     fn take_down(&mut self)
         ensures table { (t : Trace) → IsTable self.old t → IsTable self.new (t ++ Event.Down ∷ []) }
         ensures places { vec_capacity self.new.opened ≡ vec_capacity self.old.opened }
@@ -451,8 +447,6 @@ impl Table {
         self.seen.clear();
     }
 
-    #[cold]
-    #[inline(never)]
     fn take_go(&mut self)
         requires orders { self.old.orders < 2 ^ 63 }
         requires places { 4 ≤ vec_capacity self.old.opened }
@@ -472,8 +466,6 @@ impl Table {
         self.orders += 1;
     }
 
-    #[cold]
-    #[inline(never)]
     fn take_stop(&mut self, command: u64)
         requires { self.old.orders < 2 ^ 63 }
         ensures table { (t : Trace) → IsTable self.old t → refusal_of t (Event.Stop command) ≡ None → IsTable self.new (t ++ Event.Stop command ∷ []) }
@@ -508,8 +500,6 @@ impl Table {
     }
 
     /// Takes the refusal of an order: the command that the order started ends, if it is open.
-    #[cold]
-    #[inline(never)]
     fn take_refusal(&mut self, number: u64)
         requires { IsTableUp self.old }
         ensures table { (t : Trace) → IsTable self.old t → was_taken t ≡ true → up_of t ≡ true → IsTable self.new (t ++ Event.In number (Body.Answered true) ∷ []) }
@@ -549,8 +539,6 @@ impl Table {
     }
 
     /// Ends the open command.
-    #[cold]
-    #[inline(never)]
     fn end(&mut self, entry: Open, fault: bool)
         requires { entry.command < length self.old.outcomes.items }
         ensures listed { self.new.opened.items ≡ filter (λ (o : Open). not (entry.command == o.command)) self.old.opened.items }

@@ -2,8 +2,8 @@
 
 use super::super::*;
 use bm_lines::{Letter, LogName, Text};
-use bm_msg::{Field, Fields, Message, Numbered, Request, Response, TextUpdate};
-use bm_value::{Num, Value};
+use bm_msg::{Field, Fields, Message, Numbered, Request, Response, write_request};
+use bm_value::{Num, Value, decode_whole};
 use std::alloc::{AllocError, Global};
 
 /// An event that can be made twice.
@@ -131,14 +131,24 @@ fn refused(alloc: Global, seq: u8) -> Result<Event, AllocError> {
     Event::of_message(alloc, Message::Response(response))
 }
 
-fn text_update(alloc: Global, seq: u8, text: &str) -> Result<Event, AllocError> {
-    let update = TextUpdate {
-        seq: u64::from(seq),
-        command: 0,
-        letter: Letter::E,
-        text,
+/// The event of a message, read back from its bytes.
+fn read_back(alloc: Global, message: &Numbered) -> Result<Event, AllocError> {
+    let Ok(bytes) = write_request(alloc, message) else {
+        return Err(AllocError);
     };
-    Event::of_text(alloc, update)
+    let Ok(value) = decode_whole(alloc, bytes.as_slice()) else {
+        return Err(AllocError);
+    };
+    Event::of_value(alloc, &value).map_err(|_| AllocError)
+}
+
+fn text_update(alloc: Global, seq: u8, text: &str) -> Result<Event, AllocError> {
+    let text = Text::from_str(alloc, text)?;
+    let message = Numbered {
+        seq: u64::from(seq),
+        request: update(alloc, Field::Text(Letter::E, text))?,
+    };
+    read_back(alloc, &message)
 }
 
 /// The event.
