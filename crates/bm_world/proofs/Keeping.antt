@@ -1,5 +1,5 @@
 -- A lane after an event, a drain and a look.
-use Rattle.std.proofs.Common.{◌≡◌, refl, sym, ◌∙◌, ap, ℕ, zero, suc, ◌+◌, ◌-◌, ◌≤◌, ◌<◌, true, false, cond, ◌&&◌, List, [], ◌∷◌, ◌++◌, length, take, drop, Option, Some, None, arith, length-append, inl, inr}
+use Rattle.std.proofs.Common.{◌≡◌, refl, sym, ◌∙◌, ap, subst, ℕ, Bool, zero, suc, ◌+◌, ◌-◌, ◌≤◌, ◌<◌, true, false, cond, ◌&&◌, List, [], ◌∷◌, ◌++◌, length, take, drop, Option, Some, None, arith, length-append, inl, inr}
 use Rattle.std.specs.Prelude.{◌⊎◌, nat_le, is_none, is_some, MatchOption, Result, Ok, Err}
 use Rattle.std.specs.List.{cons_option}
 use Rattle.std.proofs.lemmas.List.{take-append-le, drop-append-le, append-nil}
@@ -9,7 +9,7 @@ use Rattle.bm_lines.specs.Names.{Name}
 use Rattle.bm_lines.specs.declared.line.Line.{Line}
 use Rattle.bm_session.specs.declared.event.Event.{Event}
 use Rattle.bm_session.specs.declared.item.Item.{Item}
-use Rattle.bm_session.specs.Trace.{Trace, was_taken, refusal, item, items, reply, productive, visible}
+use Rattle.bm_session.specs.Trace.{Trace, was_taken, refusal, item, items, reply, productive, visible, has_log, log, slice}
 use Rattle.bm_session.proofs.Pushed.{items-push}
 use Rattle.bm_session.proofs.Taken.{was_taken-push}
 use Rattle.bm_store.specs.Book.{after_item, book, chunk_in}
@@ -108,6 +108,21 @@ shows-chunk c t queue kept k name off lim r chunk old h e = looked-chunk r (chun
 pub shows-none : (c : ℕ) (t : Trace) (queue : List Item) (kept : List Kept) (k : ℕ) (name : Name) (off lim : ℕ) (r : Result Chunk ViewRefusal) → IsKept t queue kept
     → MatchOption (chunk_in (logs_in kept) k name off lim) (r ≡ Err NoLog) (λ ls. (r ≡ Ok (chunk_of off ls)) ⊎ (r ≡ Err Mem)) → r ≡ Err NoLog → AnswerNoLog ≡ seen (lane c t queue) k name off lim
 shows-none c t queue kept k name off lim r old h e = looked-none r (chunk_in (logs_in kept) k name off lim) off h e ∙ ap (chunk_answer off) (kept-looked t queue kept k name off lim old)
+
+looked-mem : (r : Result Chunk ViewRefusal) (t : Trace) (k : ℕ) (name : Name) (off lim : ℕ) (why : ViewRefusal) → MatchOption (look_at t k name off lim) (r ≡ Err NoLog) (λ ls. (r ≡ Ok (chunk_of off ls)) ⊎ (r ≡ Err Mem)) → r ≡ Err why → ¬ (why ≡ NoLog) → has_log t k name ≡ true
+looked-mem r t k name off lim why h e f = go (has_log t k name) h
+  where
+    go : (b : Bool) → MatchOption (cond b (Some (slice (log t k name) off lim)) None) (r ≡ Err NoLog) (λ ls. (r ≡ Ok (chunk_of off ls)) ⊎ (r ≡ Err Mem)) → b ≡ true
+    go true g = refl
+    go false g = absurd (f (let same : why ≡ NoLog = cc in same))
+
+-- a look that is answered neither lines nor that there is no log finds one
+pub wants-chunk : (c : ℕ) (t : Trace) (queue : List Item) (kept : List Kept) (w : World) (k : ℕ) (name : Name) (off lim : ℕ) (r : Result Chunk ViewRefusal) (why : ViewRefusal) → IsKept t queue kept → lane c t queue ≡ w
+    → MatchOption (chunk_in (logs_in kept) k name off lim) (r ≡ Err NoLog) (λ ls. (r ≡ Ok (chunk_of off ls)) ⊎ (r ≡ Err Mem)) → r ≡ Err why → ¬ (why ≡ NoLog) → has_log (visible w.trace w.shown) k name ≡ true
+wants-chunk c t queue kept w k name off lim r why old same h e f =
+    let asked : MatchOption (look_at (visible t (productive t - length queue)) k name off lim) (r ≡ Err NoLog) (λ ls. (r ≡ Ok (chunk_of off ls)) ⊎ (r ≡ Err Mem)) =
+    subst (λ o. MatchOption o (r ≡ Err NoLog) (λ ls. (r ≡ Ok (chunk_of off ls)) ⊎ (r ≡ Err Mem))) (kept-looked t queue kept k name off lim old) h in
+    ap (λ (v : World). has_log (visible v.trace v.shown) k name) (sym same) ∙ looked-mem r (visible t (productive t - length queue)) k name off lim why asked e f
 
 -- an event that gives no item
 pub heard-quietly : (c : ℕ) (t t' : Trace) (e : Event) (queue : List Item) (kept : List Kept) → IsKept t queue kept → refusal t e ≡ None → item t e ≡ None → t' ≡ t ++ e ∷ []

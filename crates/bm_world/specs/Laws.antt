@@ -1,7 +1,7 @@
 -- Laws of interleavings.
-use Rattle.std.specs.Prelude.{◌≡◌, ℕ, ◌≤◌, List}
+use Rattle.std.specs.Prelude.{◌≡◌, ℕ, ◌≤◌, true, List}
 use Rattle.bm_lines.specs.Names.{Name}
-use Rattle.bm_session.specs.Trace.{IsPrefix, Trace, log, visible, productive}
+use Rattle.bm_session.specs.Trace.{IsPrefix, Trace, has_log, log, visible, productive}
 use Rattle.bm_session.specs.declared.refusal.Refusal.TheVariants.{Mem}
 use Rattle.bm_world.specs.declared.answer.Answer.TheVariants.{Refused}
 use Rattle.bm_world.specs.declared.step.Step.{Step}
@@ -23,9 +23,10 @@ pub record IsLater (v w : World) (k : ℕ) (name : Name) : Type 0 where
   pub shown : v.shown ≤ w.shown
   pub few : w.shown ≤ productive w.trace
   pub seen : IsPrefix (log (visible v.trace v.shown) k name) (log (visible w.trace w.shown) k name)
+  pub has_log : has_log (visible v.trace v.shown) k name ≡ true → has_log (visible w.trace w.shown) k name ≡ true
   pub true_log : IsPrefix (log (visible w.trace w.shown) k name) (log w.trace k name)
 
--- whatever steps follow, a log that viewers see goes on, and is a prefix of the true one
+-- whatever steps follow, a log that viewers see stays there and goes on, and is a prefix of the true one
 abbrev pub LooksNeverShrink : Type 0
 LooksNeverShrink =
     (c : ℕ) (first more : List Step) (k : ℕ) (name : Name)

@@ -1,8 +1,8 @@
 -- A lane over interleavings: its trace, and how much of it viewers see. The trace is cut here; the code never cuts it.
-use Rattle.std.specs.Prelude.{ℕ, ◌+◌, nat_lt, nat_le, fold, Bool, ◌&&◌, if◌then◌else◌, List, [], ◌∷◌, ◌++◌, Option, Some, None, is_some}
+use Rattle.std.specs.Prelude.{◌≡◌, ℕ, ◌+◌, ◌<◌, nat_lt, nat_le, fold, Bool, true, ◌&&◌, if◌then◌else◌, List, [], ◌∷◌, ◌++◌, Option, Some, None, is_some}
 use Rattle.bm_lines.specs.Names.{Name}
 use Rattle.bm_lines.specs.declared.line.Line.{Line}
-use Rattle.bm_session.specs.Trace.{refusal, reply, item, productive, visible}
+use Rattle.bm_session.specs.Trace.{refusal, reply, item, productive, visible, has_log}
 use Rattle.bm_session.specs.declared.event.Event.{Event}
 use Rattle.bm_session.specs.declared.refusal.Refusal.{Refusal}
 use Rattle.bm_store.specs.Book.{chunk_of}
@@ -53,6 +53,12 @@ abbrev pub stepped : World → Step → Stepped
 stepped w (Hear e) = heard w e (refusal w.trace e)
 stepped w Drain = drained w
 stepped w (Look k name off lim) = (seen w k name off lim, w)
+
+-- a step may take memory: an event that is accepted, a drain that finds an item, a look at a log that is there
+abbrev pub TakesMemory : World → Step → Type 0
+TakesMemory w (Hear e) = refusal w.trace e ≡ None
+TakesMemory w Drain = w.shown < productive w.trace
+TakesMemory w (Look k name off lim) = has_log (visible w.trace w.shown) k name ≡ true
 
 abbrev pub start : ℕ → World
 start c = record { capacity = c; trace = []; shown = 0 }

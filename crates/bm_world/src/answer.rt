@@ -1,3 +1,4 @@
+//! What a lane answers.
 ghost use Rattle.std.specs.Prelude.{◌≡◌, IfOk};
 
 use bm_session::{Refusal, Reply};

@@ -1,3 +1,4 @@
+//! What a lane is asked.
 ghost use Rattle.std.specs.Prelude.{◌≡◌, IfOk};
 
 use bm_lines::Text;

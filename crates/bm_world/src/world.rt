@@ -1,14 +1,13 @@
-ghost use Rattle.std.specs.Prelude.{◌≡◌, ◌≤◌, ◌<◌, ◌∷◌, Some, None, IfOk, IfErr, OnOk, OnErr};
-ghost use Rattle.std.specs.VecDeque.{deque_len, deque_capacity};
-ghost use Rattle.bm_world.specs.World.{start, stepped, heard, drained, seen, answers_of};
-ghost use Rattle.bm_session.specs.Trace.{refusal as refusal_of};
-ghost use Rattle.bm_store.specs.Book.{after_item};
-ghost use Rattle.bm_store.specs.Kept.{logs_in};
+//! A lane as one value, and its steps.
+ghost use Rattle.std.specs.Prelude.{◌≡◌, ◌≤◌, ◌<◌, ◌++◌, ◌∷◌, [], None, true, IfOk, IfErr, OnOk, OnErr};
+ghost use Rattle.bm_session.specs.Session.{IsPlanFor};
+ghost use Rattle.bm_session.specs.Trace.{refusal as refusal_of, reply as reply_of, has_log, productive, visible};
+ghost use Rattle.bm_world.specs.World.{start, stepped, heard, drained, seen, answers_of, TakesMemory};
 
 use crate::answer::Answer;
 use crate::step::Step;
 use bm_lines::Text;
-use bm_session::{Event, Item, Refusal, Session};
+use bm_session::{Event, Item, Plan, Refusal, Reply, Session};
 use bm_store::{Book, ViewRefusal};
 use std::alloc::{AllocError, Global};
 use std::collections::VecDeque;
@@ -38,24 +37,14 @@ impl Model for World {
     ghost invariant = { λ w. IsKept w.session.trace w.queue.items w.book };
 }
 
-/// Takes a copy of the item, which was first in the queue, into the book. Out of memory, it is first in the queue again.
-#[cold]
-#[inline(never)]
-fn drain_copy(queue: &mut VecDeque<Item>, book: &mut Book, item: Item) -> Result<Answer, AllocError>
-    requires { deque_len queue.old < deque_capacity queue.old }
-    ensures answer { IfOk result (λ a. a ≡ Answer.Took) }
-    ensures drained { OnOk result (queue.new.items ≡ queue.old.items) }
-    ensures booked { OnOk result (logs_in book.new ≡ after_item (logs_in book.old) item) }
-    ensures back { OnErr result (queue.new.items ≡ item ∷ queue.old.items) }
-    ensures unchanged { OnErr result (book.new ≡ book.old) }
+/// Commits a plan whose item was taken, or gives none.
+fn commit(session: &mut Session, plan: Plan) -> Reply
+    requires { IsPlanFor session.old plan }
+    ensures trace { session.new.trace ≡ session.old.trace ++ plan.event ∷ [] }
+    ensures reply { result ≡ reply_of session.old.trace plan.event }
 {
-    match book.apply(&item) {
-        Ok(()) => Ok(Answer::Took),
-        Err(error) => {
-            queue.push_front_reserved(item);
-            Err(error)
-        }
-    }
+    let (reply, _) = session.commit(plan);
+    reply
 }
 
 impl World {
@@ -80,14 +69,15 @@ impl World {
         &self.session
     }
 
-    /// Does one step. Out of memory, the step comes back and nothing has changed; so it may be where the queue is full,
-    /// too, since a plan takes its memory first.
-    #[inline(always)]
+    /// Does one step. Out of memory, the step comes back and nothing has changed; that is never so for an event that is
+    /// refused, a drain that finds no item, or a look at a log that isn't there. It may be so where the queue is full, since
+    /// a plan takes its memory first.
     pub fn step(&mut self, step: Step) -> Result<Answer, (Step, AllocError)>
         ensures answer { IfOk result (λ a. a ≡ (stepped self.old step).0) }
         ensures after { OnOk result (self.new ≡ (stepped self.old step).1) }
         ensures back { IfErr result (λ e. e.0 ≡ step) }
         ensures unchanged { OnErr result (self.new ≡ self.old) }
+        ensures wanting { OnErr result (TakesMemory self.old step) }
     {
         match step {
             Step::Hear(event) => match self.hear(event) {
@@ -106,57 +96,60 @@ impl World {
     }
 
     /// Takes an event whose item has room. Out of memory, the event comes back.
-    #[inline(never)]
     fn hear(&mut self, event: Event) -> Result<Answer, Event>
         ensures answer { IfOk result (λ a. a ≡ (heard self.old event (refusal_of self.old.trace event)).0) }
         ensures after { OnOk result (self.new ≡ (heard self.old event (refusal_of self.old.trace event)).1) }
         ensures back { IfErr result (λ e. e ≡ event) }
         ensures unchanged { OnErr result (self.new ≡ self.old) }
+        ensures wanting { OnErr result (refusal_of self.old.trace event ≡ None) }
     {
-        let (reply, item) = match self.session.prepare(&event) {
-            Ok(prepared) => prepared,
-            Err(Refusal::Mem) => return Err(event),
-            Err(reason) => return Ok(Answer::Refused(reason)),
+        let mut plan = match self.session.ready(event) {
+            Ok(plan) => plan,
+            Err((event, Refusal::Mem)) => return Err(event),
+            Err((_, reason)) => return Ok(Answer::Refused(reason)),
         };
-        if let Some(item) = item {
-            if self.queue.len() >= self.capacity {
-                return Ok(Answer::Busy);
-            }
-            if self.queue.reserve(1).is_err() {
-                return Err(event);
-            }
-            self.queue.push_back_reserved(item);
+        let Some(item) = plan.take_item() else {
+            return Ok(Answer::Heard(commit(&mut self.session, plan)));
+        };
+        if self.queue.len() >= self.capacity {
+            return Ok(Answer::Busy);
         }
-        self.session.record(event);
-        Ok(Answer::Heard(reply))
+        if self.queue.reserve(1).is_err() {
+            return Err(self.session.withdraw(plan));
+        }
+        self.queue.push_back_reserved(item);
+        Ok(Answer::Heard(commit(&mut self.session, plan)))
     }
 
     /// Takes one item out of the queue into the book. Out of memory, it stays in the queue.
-    #[inline(never)]
     fn drain(&mut self) -> Result<Answer, AllocError>
         ensures answer { IfOk result (λ a. a ≡ (drained self.old).0) }
         ensures after { OnOk result (self.new ≡ (drained self.old).1) }
         ensures unchanged { OnErr result (self.new ≡ self.old) }
+        ensures wanting { OnErr result (self.old.shown < productive self.old.trace) }
     {
         let Some(item) = self.queue.pop_front() else {
             return Ok(Answer::Empty);
         };
-        match self.book.take(item) {
+        match self.book.apply(&item) {
             Ok(()) => Ok(Answer::Took),
-            Err(item) => drain_copy(&mut self.queue, &mut self.book, item),
+            Err(error) => {
+                self.queue.push_front_reserved(item);
+                Err(error)
+            }
         }
     }
 
     /// The asked lines of what viewers see.
-    #[cold]
-    #[inline(never)]
     fn look(&self, k: u64, name: &Text, offset: u64, limit: u64) -> Result<Answer, AllocError>
-        ensures { IfOk result (λ a. a ≡ seen self.now k name.now offset limit) }
+        ensures answer { IfOk result (λ a. a ≡ seen self.now k name.now offset limit) }
+        ensures wanting { OnErr result (has_log (visible self.now.trace self.now.shown) k name.now ≡ true) }
     {
         match self.book.slice(k, name.as_str(), offset, limit) {
             Ok(chunk) => Ok(Answer::Chunk(chunk)),
             Err(ViewRefusal::NoLog) => Ok(Answer::NoLog),
-            Err(_) => Err(AllocError),
+            Err(ViewRefusal::Mem) => Err(AllocError),
+            Err(ViewRefusal::Closed) => Err(AllocError),
         }
     }
 
