@@ -9,7 +9,7 @@ mod Lanes
 mod Orders
 mod Runs
 mod Fields
-mod Events
+pub mod Events
 mod Merged
 mod Inserted
 mod Listed
