@@ -5,6 +5,7 @@ pub mod Numerals
 pub mod KeyValues
 pub mod KindNames
 pub mod Readings
+pub mod Heard
 pub mod TreeLists
 pub mod Writable
 pub mod ReadsBack

@@ -3,6 +3,7 @@ pub mod Items
 pub mod Messages
 pub mod Carried
 pub mod Answers
+pub mod Incoming
 pub mod Updates
 pub mod Reading
 pub mod Trees

@@ -3,6 +3,7 @@ use Rattle.std.specs.Prelude.{ℕ, pos, Bool, true, false, List, [], ◌∷◌, 
 use Rattle.std.specs.Fmt.{decimal}
 use Rattle.bm_value.specs.Tree.{Tree, nil, bool, int, str, array, dict, none, item, TreePair}
 use Rattle.bm_value.specs.View.{trees_of, pairs_of}
+use Rattle.bm_value.specs.Writing.{written}
 use Rattle.bm_lines.specs.declared.line.Letter.{Letter}
 use Rattle.bm_lines.specs.declared.line.Letter.TheVariants.{O, E, H}
 use Rattle.bm_msg.specs.declared.field.Field.{Field}
@@ -77,3 +78,12 @@ abbrev pub tree_of : Meaning → Tree
 tree_of (request n asked) = message_tree n (op_of asked) (keys_of asked)
 tree_of (response n result exception) =
     message_tree n (codes "response") (at (codes "result") result ∷ exception_key exception)
+
+-- the response that is nil, or the exception with this text
+abbrev pub answer : ℕ → Option (List ℕ) → Meaning
+answer n None = response n nil false
+answer n (Some text) = response n (str text) true
+
+-- the bytes of that response
+unfoldable pub answer_bytes : ℕ → Option (List ℕ) → List ℕ
+answer_bytes n exception = written (tree_of (answer n exception))

@@ -1,9 +1,8 @@
 //! What an update carries.
 
 ghost use Rattle.std.specs.Prelude.{◌≡◌, [], ◌∷◌, ◌++◌, IfOk, OnOk, OnErr};
-ghost use Rattle.bm_lines.specs.OneOrMany.{items_of};
 
-use bm_lines::{Letter, LogName, OneOrMany, Text};
+use bm_lines::{Letter, LogName, Text};
 use bm_value::Num;
 use std::alloc::{AllocError, Global};
 use std::marker::Model;
@@ -32,21 +31,19 @@ impl Field {
     }
 }
 
-/// The items of an update, in order. One item, the common case, takes no memory of its own.
+/// The items of an update, in order.
 #[derive(Drop)]
 pub struct Fields {
-    alloc: Global,
-    items: OneOrMany<Field>,
+    vec: Vec<Field>,
 }
 
 impl Model for Fields {
     ghost use Rattle.std.specs.Prelude.{List};
-    ghost use Rattle.bm_lines.specs.OneOrMany.{items_of};
     ghost use Rattle.bm_msg.specs.declared.field.Field.{Field};
 
     ghost Value = { List Field };
 
-    ghost view = { λ f. items_of f.items };
+    ghost view = { λ f. f.vec.items };
 }
 
 impl Fields {
@@ -55,42 +52,28 @@ impl Fields {
         ensures { result ≡ [] }
     {
         Fields {
-            alloc,
-            items: OneOrMany::new(alloc),
-        }
-    }
-
-    /// One item.
-    pub fn one(alloc: Global, field: Field) -> Fields
-        ensures { result ≡ field ∷ [] }
-    {
-        Fields {
-            alloc,
-            items: OneOrMany::One(field),
+            vec: Vec::new(alloc),
         }
     }
 
     pub fn from_vec(vec: Vec<Field>) -> Fields
         ensures { result ≡ vec.items }
     {
-        Fields {
-            alloc: *vec.allocator(),
-            items: OneOrMany::Many(vec),
-        }
+        Fields { vec }
     }
 
     /// The items by value.
-    pub fn into_items(self) -> OneOrMany<Field>
-        ensures { items_of result ≡ self }
+    pub fn into_vec(self) -> Vec<Field>
+        ensures { result.items ≡ self }
     {
-        let Fields { items, .. } = self;
-        items
+        let Fields { vec } = self;
+        vec
     }
 
     pub fn as_slice(&self) -> &[Field]
         ensures { result.now ≡ self.now }
     {
-        self.items.as_slice()
+        self.vec.as_slice()
     }
 
     /// Appends an item. After want of memory the item is gone.
@@ -98,31 +81,19 @@ impl Fields {
         ensures ok { OnOk result (self.new ≡ self.old ++ field ∷ []) }
         ensures err { OnErr result (self.new ≡ self.old) }
     {
-        self.items.push(self.alloc, field)
+        self.vec.push(field)?;
+        Ok(())
     }
 
     /// Equal items.
     pub fn copy(&self) -> Result<Fields, AllocError>
         ensures { IfOk result (λ f. f ≡ self.now) }
     {
-        let items = match &self.items {
-            OneOrMany::One(field) => OneOrMany::One(field.copy()?),
-            OneOrMany::Many(fields) => OneOrMany::Many(copies(self.alloc, fields.as_slice())?),
-        };
-        Ok(Fields {
-            alloc: self.alloc,
-            items,
-        })
+        let fields = self.as_slice();
+        let mut vec = Vec::with_capacity(*self.vec.allocator(), fields.len())?;
+        for field in fields {
+            vec.push(field.copy()?)?;
+        }
+        Ok(Fields { vec })
     }
-}
-
-/// Equal items.
-fn copies(alloc: Global, fields: &[Field]) -> Result<Vec<Field>, AllocError>
-    ensures { IfOk result (λ v. v.items ≡ fields.now) }
-{
-    let mut out = Vec::with_capacity(alloc, fields.len())?;
-    for field in fields {
-        out.push(field.copy()?)?;
-    }
-    Ok(out)
 }

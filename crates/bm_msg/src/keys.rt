@@ -11,6 +11,12 @@ use bm_lines::Text;
 use bm_value::Value;
 use std::alloc::{AllocError, Allocator, Global};
 
+/// Numbers of messages and of commands are below this.
+pub const NUMBER_LIMIT: u64 = 1 << 63;
+
+/// The longest session, in bytes (this project's profile).
+pub const LONGEST_SESSION: usize = 64;
+
 /// What a str says.
 pub fn str_of<A: Allocator>(value: &Value<A>) -> Option<&str>
     ensures { option_copied result ≡ str_of (tree value.now) }
@@ -36,7 +42,7 @@ fn seq_of<A: Allocator>(value: &Value<A>) -> Option<u64>
 {
     match value {
         Value::Int(n) => match u64::try_from(n.value()) {
-            Ok(n) if n < 1 << 63 => Some(n),
+            Ok(n) if n < NUMBER_LIMIT => Some(n),
             _ => None,
         },
         _ => None,
@@ -54,7 +60,6 @@ pub fn number_at<A: Allocator>(message: &Value<A>) -> Option<u64>
 }
 
 /// The number below 2^63 whose decimal numeral this is: no sign, and no 0 in front of other digits.
-#[inline(always)]
 fn command_number(text: &str) -> Option<u64>
     ensures { result ≡ command_number text.now }
 {
@@ -67,11 +72,10 @@ fn command_number(text: &str) -> Option<u64>
     let Ok(n) = text.parse::<u64>() else {
         return None;
     };
-    if n < 1 << 63 { Some(n) } else { None }
+    if n < NUMBER_LIMIT { Some(n) } else { None }
 }
 
 /// The command that a message names.
-#[inline(always)]
 pub fn command_at<A: Allocator>(message: &Value<A>) -> Option<u64>
     ensures { result ≡ command_at (tree message.now) }
 {
@@ -86,7 +90,7 @@ pub fn session<A: Allocator>(alloc: Global, message: &Value<A>) -> Result<Option
     ensures { IfOk result (λ s. s ≡ session_of (field (tree message.now) (codes "session"))) }
 {
     match text_at(message, "session") {
-        Some(text) if !text.is_empty() && text.len() <= 64 => Ok(Some(Text::from_str(
+        Some(text) if !text.is_empty() && text.len() <= LONGEST_SESSION => Ok(Some(Text::from_str(
             alloc, text,
         )?)),
         _ => Ok(None),

@@ -6,6 +6,7 @@
 
 mod fault;
 mod field;
+mod incoming;
 mod items;
 mod keys;
 mod kind;
@@ -21,8 +22,10 @@ mod writing;
 
 pub use fault::MsgError;
 pub use field::{Field, Fields};
+pub use incoming::Incoming;
+pub use keys::{LONGEST_SESSION, NUMBER_LIMIT};
 pub use message::{Message, Numbered, Response};
 pub use reading::read;
 pub use request::Request;
 pub use text_update::{TextUpdate, read_text};
-pub use writing::{write_request, write_response};
+pub use writing::{write_answer, write_request, write_response};

@@ -24,7 +24,6 @@ pub struct TextUpdate<'a> {
 }
 
 /// The only item of an update.
-#[inline(always)]
 fn item_at<A: Allocator>(message: &Value<A>) -> Option<Seen<'_>>
     ensures some { IfSome result (λ s. seen s ≡ items_at (tree message.now)) }
     ensures none { IfNone result ((only : Tree) → ¬ (field (tree message.now) (codes "args") ≡ Some (array (item only none)))) }
@@ -36,7 +35,6 @@ fn item_at<A: Allocator>(message: &Value<A>) -> Option<Seen<'_>>
 }
 
 /// The message, where it is an update whose only item is a text. Nothing is copied.
-#[inline(always)]
 pub fn read_text<A: Allocator>(message: &Value<A>) -> Option<TextUpdate<'_>>
     // What is answered is the message that the value is.
     ensures some { IfSome result (λ u. IsMessage (tree message.now) (says u)) }

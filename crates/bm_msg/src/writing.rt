@@ -1,13 +1,14 @@
 //! Messages as bytes.
 
-ghost use Rattle.std.specs.Prelude.{◌≡◌, ◌<◌, ◌≤◌, ◌↔◌, ◌++◌, ◌∷◌, [], pos, map, codes, IfOk, OnOk, OnErr, IsErrOf};
+ghost use Rattle.std.specs.Prelude.{◌≡◌, ◌<◌, ◌≤◌, ◌^◌, ◌↔◌, length, ◌++◌, ◌∷◌, [], pos, map, codes, IfOk, OnOk, OnErr, IsErrOf, IfSome};
+ghost use Rattle.std.specs.Option.{option_copied};
 ghost use Rattle.bm_value.specs.Decoding.{IsReadBack};
 ghost use Rattle.bm_value.specs.Limits.{IsShort};
 ghost use Rattle.bm_value.specs.Tree.{depth, str, int, array, dict};
 ghost use Rattle.bm_value.specs.View.{tree, trees_of, pairs_of, pair_tree};
 ghost use Rattle.bm_value.specs.Writing.{written};
 ghost use Rattle.bm_msg.specs.Meaning.{asked, auth, start_command, request, response};
-ghost use Rattle.bm_msg.specs.Trees.{at, two, item_of, stream_of, op_of, session_key, fault_tree, command_key, keys_of, exception_key, tree_of};
+ghost use Rattle.bm_msg.specs.Trees.{at, two, item_of, stream_of, op_of, session_key, fault_tree, command_key, keys_of, exception_key, tree_of, answer, answer_bytes};
 ghost use Rattle.bm_msg.specs.Limits.{request_tree, response_tree};
 
 use crate::field::{Field, Fields};
@@ -253,16 +254,6 @@ fn request_keys(alloc: Global, message: &Numbered) -> Result<Vec<Pair<Global>>, 
     Ok(keys)
 }
 
-fn request_bytes(alloc: Global, message: &Numbered) -> Result<Vec<u8>, AllocError>
-    requires nests { depth (request_tree message.now) ≤ 32 }
-    requires short { IsShort (request_tree message.now) }
-    ensures ok { IfOk result (λ v. v.items ≡ written (request_tree message.now)) }
-    ensures back { IfOk result (λ v. IsReadBack (request_tree message.now)) }
-{
-    let keys = request_keys(alloc, message)?;
-    written_map(alloc, keys)
-}
-
 fn put_exception(
     alloc: Global,
     keys: &mut Vec<Pair<Global>>,
@@ -276,24 +267,27 @@ fn put_exception(
     Ok(())
 }
 
-fn response_keys(alloc: Global, message: &Response) -> Result<Vec<Pair<Global>>, AllocError>
-    ensures { IfOk result (λ v. dict (pairs_of (map pair_tree v.items)) ≡ response_tree message.now) }
+/// The keys of the response to request `seq`.
+fn result_keys(
+    alloc: Global,
+    seq: u64,
+    answered: Value<Global>,
+    exception: bool,
+) -> Result<Vec<Pair<Global>>, AllocError>
+    ensures { IfOk result (λ v. dict (pairs_of (map pair_tree v.items))
+        ≡ tree_of (response seq (tree answered) exception)) }
 {
-    let mut keys = first_keys(alloc, message.seq, "response")?;
-    let result = message.result.copy_into(alloc)?;
-    put(alloc, &mut keys, "result", result)?;
-    put_exception(alloc, &mut keys, message.exception)?;
+    let mut keys = first_keys(alloc, seq, "response")?;
+    put(alloc, &mut keys, "result", answered)?;
+    put_exception(alloc, &mut keys, exception)?;
     Ok(keys)
 }
 
-fn response_bytes(alloc: Global, message: &Response) -> Result<Vec<u8>, AllocError>
-    requires nests { depth (response_tree message.now) ≤ 32 }
-    requires short { IsShort (response_tree message.now) }
-    ensures ok { IfOk result (λ v. v.items ≡ written (response_tree message.now)) }
-    ensures back { IfOk result (λ v. IsReadBack (response_tree message.now)) }
+fn response_keys(alloc: Global, message: &Response) -> Result<Vec<Pair<Global>>, AllocError>
+    ensures { IfOk result (λ v. dict (pairs_of (map pair_tree v.items)) ≡ response_tree message.now) }
 {
-    let keys = response_keys(alloc, message)?;
-    written_map(alloc, keys)
+    let result = message.result.copy_into(alloc)?;
+    result_keys(alloc, message.seq, result, message.exception)
 }
 
 fn request_written(alloc: Global, message: &Numbered) -> Result<Vec<u8>, EncodeError>
@@ -308,7 +302,8 @@ fn request_written(alloc: Global, message: &Numbered) -> Result<Vec<u8>, EncodeE
     if !is_short_request(message) {
         return Err(EncodeError::TooLong);
     }
-    Ok(request_bytes(alloc, message)?)
+    let keys = request_keys(alloc, message)?;
+    Ok(written_map(alloc, keys)?)
 }
 
 fn response_written(alloc: Global, message: &Response) -> Result<Vec<u8>, EncodeError>
@@ -323,7 +318,8 @@ fn response_written(alloc: Global, message: &Response) -> Result<Vec<u8>, Encode
     if !is_short_response(message) {
         return Err(EncodeError::TooLong);
     }
-    Ok(response_bytes(alloc, message)?)
+    let keys = response_keys(alloc, message)?;
+    Ok(written_map(alloc, keys)?)
 }
 
 /// The written form of a request: the number, the operation and its keys in the order of the
@@ -361,4 +357,21 @@ pub fn write_response(alloc: Global, message: &Response) -> Result<Vec<u8>, Enco
         × ¬ IsShort (tree_of (response message.now.seq (tree message.now.result) message.now.exception))) }
 {
     response_written(alloc, message)
+}
+
+/// The written form of the response to request `seq` that is nil, or the exception with this text.
+/// It is read back, whatever follows it.
+#[tactic(auto, unfolding(crate::specs::Trees::answer_bytes))]
+pub fn write_answer(alloc: Global, seq: u64, exception: Option<&str>) -> Result<Vec<u8>, AllocError>
+    requires number { seq < 2 ^ 63 }
+    requires short { IfSome exception (λ text. length text.now < 2 ^ 32) }
+    ensures ok { IfOk result (λ v. v.items ≡ answer_bytes seq (option_copied exception.entry)) }
+    ensures back { IfOk result (λ v. IsReadBack (tree_of (answer seq (option_copied exception.entry)))) }
+{
+    let result = match exception {
+        Some(text) => Value::from_str(alloc, text)?,
+        None => Value::Nil,
+    };
+    let keys = result_keys(alloc, seq, result, exception.is_some())?;
+    written_map(alloc, keys)
 }
