@@ -4,6 +4,7 @@ mod Draining
 mod Grows
 mod Hearing
 mod Kept
+pub mod Picking
 mod Prefixes
 mod Relays
 mod Counting

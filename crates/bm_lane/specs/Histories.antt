@@ -11,8 +11,8 @@ abbrev pub head_of : Book → Named
 head_of b = record { tracked = true; key = 0; book = b }
 
 -- the history so far was seen, and its length found
-abbrev pub Looks : Step Item → View Item ℕ → ℕ → View Item ℕ → Type 0
-Looks s v found w = length w.0 ≡ found
+abbrev pub Finds : Step Item → View Item ℕ → ℕ → View Item ℕ → Type 0
+Finds s v found w = length w.0 ≡ found
 
 -- the item was added to all that had been seen; or the history was longer, and was seen
 abbrev pub Adds : Step Item → View Item ℕ → ℕ → View Item ℕ → Type 0

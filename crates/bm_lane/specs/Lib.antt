@@ -1,13 +1,19 @@
-pub mod Additions
-pub mod Answers
-pub mod Copies
-pub mod Drains
+-- A reader has to believe Ends, what contracts see of a lane; Hearing, what comes of an event; Drains; Answers and Looks, what a
+-- viewer is answered; Placed, many lanes at once; Tallies, what a pool counts; and Laws.
 pub mod Ends
-pub mod Fronts
 pub mod Hearing
-pub mod Histories
+pub mod Drains
+pub mod Answers
+pub mod Looks
+pub mod Placed
+pub mod Tallies
 pub mod Laws
+-- The others only help proofs: the rules of the queue, of the history and of the published copy, and what the parts of an end
+-- are to a contract.
+pub mod Additions
+pub mod Copies
+pub mod Fronts
+pub mod Histories
 pub mod Names
 pub mod Relay
-pub mod Tallies
 pub mod Windows

@@ -1,6 +1,8 @@
-ghost use Rattle.std.specs.Prelude.{◌≡◌, ◌<◌, ◌≤◌, [], length, IfOk, IfErr, vec_capacity};
+//! A lane before it has a number, and its ends.
+ghost use Rattle.std.specs.Prelude.{◌≡◌, ◌<◌, ◌≤◌, [], All, length, map, IfOk, IfErr, vec_capacity, vec_len};
 ghost use Rattle.std.specs.Arc.{arc_value};
 ghost use Rattle.bm_lane.specs.Ends.{AllNew};
+ghost use Rattle.bm_lane.specs.Placed.{ArePlaced, new_readers, new_writers, AreItsViewers};
 ghost use Rattle.bm_lane.specs.Windows.{AllFresh};
 
 use crate::copy::open_copy;
@@ -81,6 +83,30 @@ pub fn open<R: Wait + Drop>(
         publisher,
         windows,
     })
+}
+
+/// The ends of lane 0, lane 1 and so on, in order: those at a place are of the blank at that place. At want of memory
+/// there are none, and the blanks are let go.
+pub fn ends_of_all<Y: Yard, W: Wait + Drop>(
+    alloc: Global,
+    blanks: Vec<Blank<W>>,
+) -> Result<Vec<Ends<Y, W>>, AllocError>
+    requires { ArePlaced Y.queue Y.copy 0 blanks.items }
+    ensures readers { IfOk result (λ all. map (λ e. e.reader) all.items ≡ new_readers 0 blanks.items) }
+    ensures writers { IfOk result (λ all. map (λ e. e.writer) all.items ≡ new_writers 0 blanks.items) }
+    ensures viewers { IfOk result (λ all. All (λ e. AreItsViewers e.writer e.viewers.items) all.items) }
+    ensures count { IfOk result (λ all. vec_len all ≡ vec_len blanks) }
+{
+    let mut all = Vec::with_capacity(alloc, blanks.len())?;
+    let mut lane = 0;
+    for blank in blanks {
+        match blank.ends::<Y>(alloc, lane) {
+            Ok(ends) => all.push_reserved(ends),
+            Err((_, error)) => return Err(error),
+        }
+        lane += 1;
+    }
+    Ok(all)
 }
 
 // The viewers, under the lane's number.

@@ -41,9 +41,9 @@ impl Gain<Item, u64> for Nothing {
 pub struct Look;
 
 impl Play<Item, u64> for Look {
-    ghost use Rattle.bm_lane.specs.Histories.{Looks};
+    ghost use Rattle.bm_lane.specs.Histories.{Finds};
 
-    ghost then = { Looks };
+    ghost then = { Finds };
 }
 
 /// A step that adds an item.

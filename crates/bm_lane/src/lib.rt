@@ -25,7 +25,7 @@ mod window;
 mod writer_end;
 mod yard;
 
-pub use blank::{Blank, Ends, open};
+pub use blank::{Blank, Ends, ends_of_all, open};
 pub use pool::{Gate, Pass, PoolFault, PoolReport, writers};
 pub use reader_end::ReaderEnd;
 pub use refusals::{HearRefusal, OpenError};

@@ -1,8 +1,8 @@
-ghost use Rattle.std.specs.Prelude.{◌≡◌, ◌≢◌, ◌≤◌, ◌++◌, ◌∷◌, [], length, IfErr, MatchBool, MatchResult, true, false};
+ghost use Rattle.std.specs.Prelude.{◌≡◌, ◌≢◌, ◌≤◌, ◌<◌, ◌^◌, ◌++◌, ◌∷◌, [], length, IfErr, MatchBool, MatchResult, true, false};
 ghost use Rattle.std.specs.Arc.{arc_value};
 ghost use Rattle.crossbeam_queue.specs.Passes.{IsPassOf, IsSamePass, ruled_capacity};
 ghost use Rattle.bm_session.specs.Session.{IsPlanFor};
-ghost use Rattle.bm_session.specs.Trace.{items, reply, was_taken};
+ghost use Rattle.bm_session.specs.Trace.{is_up as up_of, is_cut as cut_of, items, commands, orders, reply, was_taken};
 ghost use Rattle.bm_lane.specs.Relay.{hand, known};
 ghost use Rattle.bm_lane.specs.Hearing.{Hears};
 
@@ -157,6 +157,36 @@ impl<Y: Yard> ReaderEnd<Y> {
         ensures put { self.now.put ≡ items self.now.trace }
     {
         self.session.trace()
+    }
+
+    /// Whether the lane is up: a connection of its worker takes messages and orders. It takes constant time.
+    pub fn is_up(&self) -> bool
+        ensures { result ≡ up_of self.now.trace }
+    {
+        self.session.is_up()
+    }
+
+    /// Whether the lane is cut: its session may be resumed or given up. It takes constant time.
+    pub fn is_cut(&self) -> bool
+        ensures { result ≡ cut_of self.now.trace }
+    {
+        self.session.is_cut()
+    }
+
+    /// The number that the next order gets which is taken, in this session. It takes constant time.
+    pub fn next_order(&self) -> u64
+        ensures number { result ≡ orders self.now.trace }
+        ensures small { result < 2 ^ 63 }
+    {
+        self.session.next_order()
+    }
+
+    /// The number of the command that is started next. It takes constant time.
+    pub fn next_command(&self) -> u64
+        ensures number { result ≡ commands self.now.trace }
+        ensures small { result < 2 ^ 63 }
+    {
+        self.session.next_command()
     }
 
     /// The number of its lane.

@@ -1,7 +1,7 @@
 //! The end of a lane: its ends come together, and what was drained and seen is what was heard.
-ghost use Rattle.std.specs.Prelude.{◌≡◌, ◌↔◌, ◌++◌, ◌≤◌, [], IsTrue, take, drop, length, IfOk, IfErr, vec_capacity};
+ghost use Rattle.std.specs.Prelude.{◌≡◌, ◌↔◌, ◌++◌, ◌≤◌, [], true, IsTrue, take, drop, length, IfOk, IfErr, vec_capacity};
 ghost use mathlib.Core.List.{IsPrefix};
-ghost use Rattle.bm_session.specs.Trace.{items};
+ghost use Rattle.bm_session.specs.Trace.{items, was_taken};
 ghost use Rattle.bm_store.specs.Book.{book, logs};
 ghost use Rattle.bm_store.specs.Kept.{logs_in};
 ghost use Rattle.bm_lane.specs.Copies.{kept_book};
@@ -74,6 +74,7 @@ pub fn settle<Y: Yard, W: Wait + Drop, R: Wait>(
 ) -> Result<Settled, (Ends<Y, W>, AllocError)>
     requires { (ends.reader.lane ≡ ends.writer.lane) × AllOf ends.writer.lane ends.viewers.items }
     ensures trace { IfOk result (λ s. s.trace.items ≡ ends.reader.trace) }
+    ensures taken { IfOk result (λ s. was_taken s.trace.items ≡ true) }
     ensures book { IfOk result (λ s. (logs_in s.book ≡ logs ends.reader.trace) × (logs_in s.book ≡ book (items ends.reader.trace))) }
     ensures seen { IfOk result (λ s. (s.seen.items ≡ seen_counts ends.viewers.items) × AllBegin (items ends.reader.trace) ends.viewers.items) }
     ensures back { IfErr result (λ e. (e.0.reader ≡ ends.reader) × IsBack ends.writer e.0.writer × (e.0.viewers.items ≡ ends.viewers.items)) }

@@ -1,6 +1,7 @@
-ghost use Rattle.std.specs.Prelude.{◌≡◌, ◌⊎◌, ◌≢◌, length, Err, Ok, [], MatchOption};
+//! What a viewer is to its thread.
+ghost use Rattle.std.specs.Prelude.{◌≡◌, length, []};
 ghost use mathlib.Core.List.{IsPrefix};
-ghost use Rattle.bm_lane.specs.Answers.{Answered, told, lines_of_book, state_of_book};
+ghost use Rattle.bm_lane.specs.Looks.{GivesChunk, GivesState};
 
 use crate::publisher::Publisher;
 use crate::window::{Asked, LogOf, Window};
@@ -54,9 +55,7 @@ impl<Y: Yard> Viewer<Y> {
         offset: u64,
         limit: u64,
     ) -> Result<Chunk, ViewRefusal>
-        ensures seen { (self.new.lane ≡ self.old.lane) × IsPrefix self.old.seen self.new.seen }
-        ensures answer { (result ≡ Err ViewRefusal.Closed) ⊎ Answered (lines_of_book self.new.seen command name.now offset limit) result }
-        ensures closed { result ≡ Err ViewRefusal.Closed → self.new ≡ self.old }
+        ensures { GivesChunk self.old self.new command name.now offset limit result }
     {
         let asked = Asked {
             command,
@@ -75,9 +74,7 @@ impl<Y: Yard> Viewer<Y> {
     ///
     /// `NoLog` where that log isn't there. After `Closed`, where the copy couldn't be entered, nothing changed.
     pub fn state(&mut self, command: u64, name: &str) -> Result<LogState, ViewRefusal>
-        ensures seen { (self.new.lane ≡ self.old.lane) × IsPrefix self.old.seen self.new.seen }
-        ensures answer { (result ≡ Err ViewRefusal.Closed) ⊎ (result ≡ told (state_of_book self.new.seen command name.now)) }
-        ensures closed { result ≡ Err ViewRefusal.Closed → self.new ≡ self.old }
+        ensures { GivesState self.old self.new command name.now result }
     {
         match self.window.state(&LogOf { command, name }) {
             Some(answer) => answer,

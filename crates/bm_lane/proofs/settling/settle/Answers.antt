@@ -12,6 +12,9 @@ use Rattle.bm_lane.proofs.settling.settle.Goals as goal
 pub returns-in-Ok-join-clause-trace : goal.returns-in-Ok-join-clause-trace
 returns-in-Ok-join-clause-trace g c = c.into_trace.ensures.events ∙ c.in-Ok-join.ensures.0 ∙ ap (λ (r : Heard). r.trace) c.loop.invariant.reader
 
+pub returns-in-Ok-join-clause-taken : goal.returns-in-Ok-join-clause-taken
+returns-in-Ok-join-clause-taken g c = ap was_taken c.into_trace.ensures.events ∙ c.into_trace.ensures.taken
+
 pub returns-in-Ok-join-clause-book : goal.returns-in-Ok-join-clause-book
 returns-in-Ok-join-clause-book g c =
     let t = c.args.ends.reader.trace in

@@ -1,0 +1,27 @@
+-- What a look of a viewer gives.
+use Rattle.std.specs.Prelude.{◌≡◌, ◌⊎◌, ℕ, List, Result, Err}
+use mathlib.Core.List.{IsPrefix}
+use Rattle.bm_lines.specs.Names.{Name}
+use Rattle.bm_session.specs.declared.item.Item.{Item}
+use Rattle.bm_store.specs.declared.chunk.Chunk.{Chunk}
+use Rattle.bm_store.specs.declared.chunk.LogState.{LogState}
+use Rattle.bm_store.specs.declared.chunk.ViewRefusal.{ViewRefusal}
+use Rattle.bm_store.specs.declared.chunk.ViewRefusal.TheVariants.{Closed}
+use Rattle.bm_lane.specs.Answers.{Answered, told, lines_of_book, state_of_book}
+use Rattle.bm_lane.specs.Ends.{Watched}
+
+-- a viewer went from one sight to the next, which is no less, and answered what is said of that; or else Closed, and nothing
+-- changed
+pub record Looks {A : Type 0} (old new : Watched) (r : Result A ViewRefusal) (said : List Item → Type 0) : Type 0 where
+  pub lane : new.lane ≡ old.lane
+  pub seen : IsPrefix old.seen new.seen
+  pub answer : (r ≡ Err Closed) ⊎ said new.seen
+  pub closed : r ≡ Err Closed → new ≡ old
+
+-- the asked lines of a log
+abbrev pub GivesChunk : Watched → Watched → ℕ → Name → ℕ → ℕ → Result Chunk ViewRefusal → Type 0
+GivesChunk old new k name off lim r = Looks old new r (λ seen. Answered (lines_of_book seen k name off lim) r)
+
+-- the state of a log
+abbrev pub GivesState : Watched → Watched → ℕ → Name → Result LogState ViewRefusal → Type 0
+GivesState old new k name r = Looks old new r (λ seen. r ≡ told (state_of_book seen k name))
