@@ -76,31 +76,6 @@ parts-nowhere (x ∷ xs) h = go (x == 10) refl (parts-nowhere xs (λ k low insid
     go true e ih = absurd (h 0 (omega arith) (omega arith) e)
     go false e ih = ap (onto_first x) ih
 
--- what stands before a line end
-pub stripped_front : (text : List ℕ) (r : Option (Bor (List ℕ))) (d line : Bor (List ℕ)) → d.now ≡ text → line ≡ unwrap_or r d
-    → MatchOption r ((front : List ℕ) → text ≢ front ++ 10 ∷ []) (λ x. text ≡ x.now ++ 10 ∷ [])
-    → (text ≡ line.now) ⊎ (text ≡ line.now ++ 10 ∷ [])
-stripped_front text None d line is e h = inl (sym is ∙ ap (λ (b : Bor (List ℕ)). b.now) (sym e))
-stripped_front text (Some x) d line is e h = inr (h ∙ ap (λ (b : Bor (List ℕ)). b.now ++ 10 ∷ []) (sym e))
-
-end_at : (xs : List ℕ) → get_or (xs ++ 10 ∷ []) (length xs) 0 ≡ 10
-end_at [] = refl
-end_at (x ∷ xs) = end_at xs
-
--- a line ends between two characters
-pub ends_between : (bytes text line : List ℕ) → bytes ≡ text → (text ≡ line) ⊎ (text ≡ line ++ 10 ∷ []) → IsSplitPoint bytes (length line)
-ends_between bytes text line same (inl is) = (omega (arith, ap length (same ∙ is)), λ some inside high. absurd (omega (arith, ap length (same ∙ is))))
-ends_between bytes text line same (inr is) = (
-  omega (arith, ap length (same ∙ is) ∙ length-append line (10 ∷ [])),
-  λ some inside high.
-      let ten : get_or bytes (length line) 0 ≡ 10 = ap (λ t. get_or t (length line) 0) (same ∙ is) ∙ end_at line in
-      absurd (omega arith),
-)
-
-pub front_taken : (bytes text line : List ℕ) → bytes ≡ text → (text ≡ line) ⊎ (text ≡ line ++ 10 ∷ []) → take (length line) bytes ≡ line
-front_taken bytes text line same (inl is) = ap (take (length line)) (same ∙ is) ∙ take_all (length line) line (omega arith)
-front_taken bytes text line same (inr is) = ap (take (length line)) (same ∙ is) ∙ take-append_seam line (10 ∷ [])
-
 abbrev pub lettered : Letter → List ℕ → Line
 lettered letter part = record { letter = letter; text = part }
 

@@ -1,4 +1,6 @@
-ghost use Rattle.std.specs.Prelude.{◌≡◌, ◌⊎◌, ◌∷◌, [], ◌++◌, ◌==◌, map, take, length, string_bytes, IfOk, IfErr, IfSome, OnOk, OnErr};
+//! A list of lines that its copies share.
+
+ghost use Rattle.std.specs.Prelude.{◌≡◌, ◌∷◌, [], ◌++◌, ◌==◌, map, take, length, string_bytes, IfOk, IfSome, OnOk, OnErr};
 ghost use Rattle.std.specs.List.{slice_split};
 ghost use Rattle.std.specs.Arc.{arc_value};
 ghost use Rattle.bm_lines.specs.Lines.{without_last_empty, lines_of, content_of};
@@ -94,38 +96,13 @@ impl Block {
         }
     }
 
-    /// The line of this text.
-    #[inline(always)]
-    fn of_line(alloc: Global, letter: Letter, text: Text) -> Result<Block, AllocError>
-        ensures { IfOk result (λ b. b ≡ record { letter = letter; text = text } ∷ []) }
-    {
-        let lines = Shared::One(Arc::new(alloc, Line { letter, text })?);
-        Ok(Block { alloc, lines })
-    }
-
-    /// The lines of a text. Where it is one line, the text becomes that line's and isn't copied.
-    #[inline(always)]
-    pub fn of_text(alloc: Global, letter: Letter, text: Text) -> Result<Block, AllocError>
-        ensures { IfOk result (λ b. b ≡ lines_of letter text) }
-    {
-        match one_line(text) {
-            Ok(text) => Block::of_line(alloc, letter, text),
-            Err(text) => cut(alloc, letter, text.as_str()),
-        }
-    }
-
-    /// The same for a text that stays: its lines are copied.
-    #[inline(always)]
+    /// The lines of a text: its parts between the characters `\n`, without a last empty part.
     pub fn of_str(alloc: Global, letter: Letter, text: &str) -> Result<Block, AllocError>
         ensures { IfOk result (λ b. b ≡ lines_of letter text.now) }
     {
-        match only_line(text) {
-            Some(line) => {
-                let text = Text::from_str(alloc, line)?;
-                Block::of_line(alloc, letter, text)
-            }
-            None => cut(alloc, letter, text),
-        }
+        let mut block = Block::new(alloc);
+        block.add(letter, text)?;
+        Ok(block)
     }
 
     /// The block of these lines, which aren't copied.
@@ -213,10 +190,8 @@ fn count_lines(text: &str) -> usize {
 }
 
 /// The line, without the line end, of a text that has one line.
-#[inline(always)]
 fn only_line(text: &str) -> Option<&str>
-    ensures line { IfSome result (λ line. without_last_empty (slice_split (λ c. c == 10) text.now) ≡ line.now ∷ []) }
-    ensures front { IfSome result (λ line. (text.now ≡ line.now) ⊎ (text.now ≡ line.now ++ 10 ∷ [])) }
+    ensures { IfSome result (λ line. without_last_empty (slice_split (λ c. c == 10) text.now) ≡ line.now ∷ []) }
 {
     if text.is_empty() {
         return None;
@@ -226,21 +201,6 @@ fn only_line(text: &str) -> Option<&str>
         Some(_) => None,
         None => Some(line),
     }
-}
-
-/// The line, without the line end, of a text that has one line. Another text comes back.
-#[inline(always)]
-fn one_line(text: Text) -> Result<Text, Text>
-    ensures line { IfOk result (λ line. without_last_empty (slice_split (λ c. c == 10) text) ≡ line ∷ []) }
-    ensures back { IfErr result (λ t. t ≡ text) }
-{
-    let Some(line) = only_line(text.as_str()) else {
-        return Err(text);
-    };
-    let length = line.len();
-    let mut line = text.into_string();
-    line.truncate(length);
-    Ok(Text::from_string(line))
 }
 
 /// Appends the lines of a text. After want of memory some of them may stand behind the old ones.
@@ -265,17 +225,6 @@ fn push_parts(out: &mut Vec<Line>, letter: Letter, text: &str) -> Result<(), All
         out.push(Line { letter, text })?;
     }
     Ok(())
-}
-
-/// The lines of a text: its parts between the characters `\n`, without a last empty part.
-#[cold]
-#[inline(never)]
-pub fn cut(alloc: Global, letter: Letter, text: &str) -> Result<Block, AllocError>
-    ensures { IfOk result (λ b. b ≡ lines_of letter text.now) }
-{
-    let mut block = Block::new(alloc);
-    block.add(letter, text)?;
-    Ok(block)
 }
 
 /// For each line its letter in lower case, its text and `\n`.

@@ -4,21 +4,21 @@
 #![tactic(auto)]
 
 mod block;
-mod builder;
 mod line;
 mod log_name;
 mod name_table;
 mod one_or_many;
 mod parcel;
+mod parcel_builder;
 #[cfg(test)]
 mod tests;
 mod text;
 
-pub use block::{Block, append_content, content, cut};
-pub use builder::ParcelBuilder;
+pub use block::{Block, append_content, content};
 pub use line::{Letter, Line};
-pub use log_name::LogName;
+pub use log_name::{LogName, MOST_NAME_BYTES, STDIO};
 pub use name_table::{FEW_NAMES, NameTable};
 pub use one_or_many::OneOrMany;
 pub use parcel::{Parcel, Part};
+pub use parcel_builder::ParcelBuilder;
 pub use text::Text;

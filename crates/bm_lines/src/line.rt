@@ -1,3 +1,5 @@
+//! A line of a log.
+
 ghost use Rattle.std.specs.Prelude.{◌≡◌, ◌∷◌, [], IfOk};
 ghost use Rattle.bm_lines.specs.Lines.{letter_code};
 

@@ -1,3 +1,5 @@
+//! The name of a log.
+
 ghost use Rattle.std.specs.Prelude.{◌≡◌, IfOk, IfSome, IfNone, bytes_eq};
 ghost use Rattle.bm_lines.specs.Names.{IsLogName, stdio};
 
@@ -7,7 +9,10 @@ use std::marker::Model;
 use std::sync::Arc;
 
 /// The log of standard output, standard error and headers (Buildbot manual).
-const STDIO: &str = "stdio";
+pub const STDIO: &str = "stdio";
+
+/// As many bytes of UTF-8 the name of a log has at most (this project's profile).
+pub const MOST_NAME_BYTES: usize = 255;
 
 /// The name of a log: 1 to 255 bytes of UTF-8 (this project's profile).
 ///
@@ -46,7 +51,7 @@ impl LogName {
         if name == STDIO {
             return Ok(Some(LogName::stdio()));
         }
-        if name.is_empty() || name.len() > 255 {
+        if name.is_empty() || name.len() > MOST_NAME_BYTES {
             return Ok(None);
         }
         let text = Arc::new(alloc, Text::from_str(alloc, name)?)?;
@@ -71,7 +76,6 @@ impl LogName {
     }
 
     /// Whether the names are the same. That two are `stdio` is seen without a look at their texts.
-    #[inline(always)]
     pub fn is_same(&self, other: &LogName) -> bool
         ensures { result ≡ bytes_eq self.now other.now }
     {

@@ -1,3 +1,5 @@
+//! The places of many names.
+
 ghost use Rattle.std.specs.Prelude.{◌≡◌, List, [], ◌∷◌, ◌++◌, length, IfOk, OnOk, OnErr};
 ghost use Rattle.bm_lines.specs.Names.{Name};
 ghost use Rattle.bm_lines.specs.Places.{HasPlaces, place_in};

@@ -1,4 +1,6 @@
-ghost use Rattle.std.specs.Prelude.{◌≡◌, [], ◌∷◌, ◌++◌, length, OnOk, OnErr, IfOk, IfErr};
+//! A list that has one item most of the time.
+
+ghost use Rattle.std.specs.Prelude.{◌≡◌, [], ◌∷◌, ◌++◌, OnOk, OnErr};
 ghost use Rattle.std.specs.Mem.{FitsInMemory};
 ghost use Rattle.bm_lines.specs.OneOrMany.{items_of};
 
@@ -36,7 +38,6 @@ impl<T> OneOrMany<T> {
 
 impl<T: Drop> OneOrMany<T> {
     /// Appends an item. After want of memory the item is gone.
-    #[inline(always)]
     pub fn push(&mut self, alloc: Global, item: T) -> Result<(), AllocError>
         ensures ok { OnOk result (items_of self.new ≡ items_of self.old ++ item ∷ []) }
         ensures err { OnErr result (items_of self.new ≡ items_of self.old) }
@@ -59,39 +60,5 @@ impl<T: Drop> OneOrMany<T> {
             }
         }
         Ok(())
-    }
-
-    /// The item of a list that has just one. Another list comes back.
-    #[inline(always)]
-    pub(crate) fn into_only(self) -> Result<T, OneOrMany<T>>
-        ensures item { IfOk result (λ item. items_of self ≡ item ∷ []) }
-        ensures back { IfErr result (λ list. items_of list ≡ items_of self) }
-        ensures other { OnErr result (¬ (length (items_of self) ≡ 1)) }
-    {
-        match self {
-            OneOrMany::One(item) => Ok(item),
-            OneOrMany::Many(items) => match only(items) {
-                Ok(item) => Ok(item),
-                Err(items) => Err(OneOrMany::Many(items)),
-            },
-        }
-    }
-}
-
-/// The item of a vector that has just one. Another vector comes back.
-#[cold]
-#[inline(never)]
-fn only<T: Drop>(items: Vec<T>) -> Result<T, Vec<T>>
-    ensures item { IfOk result (λ item. items.items ≡ item ∷ []) }
-    ensures back { IfErr result (λ list. list.items ≡ items.items) }
-    ensures other { OnErr result (¬ (length items.items ≡ 1)) }
-{
-    let mut items = items;
-    if items.len() != 1 {
-        return Err(items);
-    }
-    match items.pop() {
-        Some(item) => Ok(item),
-        None => Err(items),
     }
 }

@@ -1,4 +1,6 @@
-ghost use Rattle.std.specs.Prelude.{◌≡◌, ◌<◌, [], ◌∷◌, ◌++◌, true, OnOk, OnErr, bytes_eq, IfOk, IfErr, length};
+//! The lines that an update carries.
+
+ghost use Rattle.std.specs.Prelude.{◌≡◌, ◌<◌, [], ◌∷◌, ◌++◌, true, OnOk, OnErr, bytes_eq, IfOk, length};
 ghost use Rattle.std.specs.Option.{option_copied};
 ghost use Rattle.std.specs.List.{position_or_len};
 ghost use Rattle.bm_lines.specs.Lines.{lines_of};
@@ -66,8 +68,7 @@ impl Parcel {
         }
     }
 
-    /// The lines of a text under a name. Where it is one line, it isn't copied.
-    #[inline(always)]
+    /// The lines of a text under a name.
     pub fn of_text(
         alloc: Global,
         name: LogName,
@@ -76,12 +77,10 @@ impl Parcel {
     ) -> Result<Parcel, AllocError>
         ensures { IfOk result (λ p. p ≡ with_item name (lines_of letter text) []) }
     {
-        let block = Block::of_text(alloc, letter, text)?;
-        Ok(Parcel::from_part(alloc, Part { name, block }))
+        Parcel::of_str(alloc, name, letter, text.as_str())
     }
 
-    /// The same for a text that stays: its lines are copied.
-    #[inline(always)]
+    /// The lines of a text under a name.
     pub fn of_str(
         alloc: Global,
         name: LogName,
@@ -91,35 +90,13 @@ impl Parcel {
         ensures { IfOk result (λ p. p ≡ with_item name (lines_of letter text.now) []) }
     {
         let block = Block::of_str(alloc, letter, text)?;
-        let part = Part { name, block };
-        Ok(Parcel::from_part(alloc, part))
-    }
-
-    /// The parcel of one part.
-    #[inline(always)]
-    pub fn from_part(alloc: Global, part: Part) -> Parcel
-        ensures { result ≡ part ∷ [] }
-    {
-        Parcel {
+        Ok(Parcel {
             alloc,
-            parts: OneOrMany::One(part),
-        }
+            parts: OneOrMany::One(Part { name, block }),
+        })
     }
 
-    /// The part of a parcel that has just one. Another parcel comes back.
-    #[inline(always)]
-    pub fn into_only_part(self) -> Result<Part, Parcel>
-        ensures part { IfOk result (λ part. self ≡ part ∷ []) }
-        ensures back { IfErr result (λ parcel. parcel ≡ self) }
-        ensures other { OnErr result (¬ (length self ≡ 1)) }
-    {
-        let Parcel { alloc, parts } = self;
-        match parts.into_only() {
-            Ok(part) => Ok(part),
-            Err(parts) => Err(Parcel { alloc, parts }),
-        }
-    }
-
+    /// The parts, whose names are distinct.
     pub fn parts(&self) -> &[Part]
         ensures parts { result.now ≡ self.now }
         ensures distinct { are_distinct self.now ≡ true }
@@ -145,29 +122,21 @@ impl Parcel {
         ensures ok { OnOk result (self.new ≡ with_item name.now (lines_of letter text.now) self.old) }
         ensures err { OnErr result (self.new ≡ self.old) }
     {
-        let text = Text::from_str(self.alloc, text)?;
-        self.add_text(name, letter, text)
-    }
-
-    /// The same for a text that is given away. Where it is one line of a new part, it isn't copied.
-    pub fn add_text(&mut self, name: &LogName, letter: Letter, text: Text) -> Result<(), AllocError>
-        ensures ok { OnOk result (self.new ≡ with_item name.now (lines_of letter text) self.old) }
-        ensures err { OnErr result (self.new ≡ self.old) }
-    {
         put(self.alloc, &mut self.parts, name, letter, text)
     }
 
-    /// The same, where a table tells the places of the parts' names. The one that comes back tells those of the new parts.
+    /// Appends the lines of a text, where a table tells the places of the parts' names. The one that comes back tells those of
+    /// the new parts.
     pub(crate) fn add_by_table(
         &mut self,
         places: NameTable,
         name: &LogName,
         letter: Letter,
-        text: Text,
+        text: &str,
     ) -> Result<NameTable, AllocError>
         requires { HasPlaces places (names_of self.old) }
-        ensures ok { OnOk result (self.new ≡ with_item name.now (lines_of letter text) self.old) }
-        ensures places { IfOk result (λ t. HasPlaces t (names_of (with_item name.now (lines_of letter text) self.old))) }
+        ensures ok { OnOk result (self.new ≡ with_item name.now (lines_of letter text.now) self.old) }
+        ensures places { IfOk result (λ t. HasPlaces t (names_of (with_item name.now (lines_of letter text.now) self.old))) }
         ensures err { OnErr result (self.new ≡ self.old) }
     {
         put_by_table(self.alloc, &mut self.parts, places, name, letter, text)
@@ -194,32 +163,31 @@ fn put(
     parts: &mut OneOrMany<Part>,
     name: &LogName,
     letter: Letter,
-    text: Text,
+    text: &str,
 ) -> Result<(), AllocError>
-    ensures ok { OnOk result (items_of parts.new ≡ with_item name.now (lines_of letter text) (items_of parts.old)) }
+    ensures ok { OnOk result (items_of parts.new ≡ with_item name.now (lines_of letter text.now) (items_of parts.old)) }
     ensures err { OnErr result (items_of parts.new ≡ items_of parts.old) }
 {
     let slice = parts.as_slice();
     let i = place(slice, name.as_str());
     if i < slice.len() {
-        return add_at(parts, i, letter, text.as_str());
+        return add_at(parts, i, letter, text);
     }
     push(alloc, parts, name, letter, text)
 }
 
 /// Appends a new part with the lines of a text.
-#[inline(always)]
 fn push(
     alloc: Global,
     parts: &mut OneOrMany<Part>,
     name: &LogName,
     letter: Letter,
-    text: Text,
+    text: &str,
 ) -> Result<(), AllocError>
-    ensures ok { OnOk result (items_of parts.new ≡ items_of parts.old ++ record { name = name.now; block = lines_of letter text } ∷ []) }
+    ensures ok { OnOk result (items_of parts.new ≡ items_of parts.old ++ record { name = name.now; block = lines_of letter text.now } ∷ []) }
     ensures err { OnErr result (items_of parts.new ≡ items_of parts.old) }
 {
-    let block = Block::of_text(alloc, letter, text)?;
+    let block = Block::of_str(alloc, letter, text)?;
     let name = name.copy()?;
     parts.push(alloc, Part { name, block })
 }
@@ -232,15 +200,15 @@ fn put_by_table(
     places: NameTable,
     name: &LogName,
     letter: Letter,
-    text: Text,
+    text: &str,
 ) -> Result<NameTable, AllocError>
     requires { HasPlaces places (names_of (items_of parts.old)) }
-    ensures ok { OnOk result (items_of parts.new ≡ with_item name.now (lines_of letter text) (items_of parts.old)) }
-    ensures places { IfOk result (λ t. HasPlaces t (names_of (with_item name.now (lines_of letter text) (items_of parts.old)))) }
+    ensures ok { OnOk result (items_of parts.new ≡ with_item name.now (lines_of letter text.now) (items_of parts.old)) }
+    ensures places { IfOk result (λ t. HasPlaces t (names_of (with_item name.now (lines_of letter text.now) (items_of parts.old)))) }
     ensures err { OnErr result (items_of parts.new ≡ items_of parts.old) }
 {
     if let Some(i) = places.place(name.as_str()) {
-        add_at(parts, i, letter, text.as_str())?;
+        add_at(parts, i, letter, text)?;
         return Ok(places);
     }
     let mut places = places;
@@ -250,8 +218,6 @@ fn put_by_table(
 }
 
 /// Appends the lines of a text to the part at a place.
-#[cold]
-#[inline(never)]
 fn add_at(
     parts: &mut OneOrMany<Part>,
     i: usize,

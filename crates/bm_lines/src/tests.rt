@@ -3,7 +3,9 @@
 mod many_names;
 mod memory;
 
-use crate::{Block, Letter, Line, LogName, Parcel, Text, append_content, content, cut};
+use crate::{
+    Block, Letter, Line, LogName, Parcel, ParcelBuilder, STDIO, Text, append_content, content,
+};
 use std::alloc::{AllocError, Global};
 use std::process::Abort;
 use std::test::Fail;
@@ -18,19 +20,20 @@ fn named(rt: &impl Abort, alloc: Global, name: &str) -> Result<LogName, AllocErr
     Ok(LogName::new(alloc, name)?.expect(rt, "a name of a log"))
 }
 
-/// The content of the block under a name, which must be there.
-fn told_under(
-    rt: &impl Abort,
-    alloc: Global,
-    parcel: &Parcel,
-    name: &str,
-) -> Result<String, AllocError> {
-    told(alloc, parcel.of(name).expect(rt, "a part of that name"))
+/// Whether the block was made and has the content.
+fn holds(alloc: Global, block: Result<Block, AllocError>, want: &str) -> bool {
+    match block {
+        Ok(block) => is_told(alloc, &block, want),
+        Err(_) => false,
+    }
 }
 
 /// Whether the block has the content.
-fn holds(alloc: Global, block: Block, want: &str) -> Result<bool, AllocError> {
-    Ok(told(alloc, &block)?.as_str() == want)
+fn is_told(alloc: Global, block: &Block, want: &str) -> bool {
+    match told(alloc, block) {
+        Ok(content) => content.as_str() == want,
+        Err(_) => false,
+    }
 }
 
 fn added(alloc: Global, letter: Letter, text: &str) -> Result<Block, AllocError> {
@@ -39,8 +42,10 @@ fn added(alloc: Global, letter: Letter, text: &str) -> Result<Block, AllocError>
     Ok(block)
 }
 
-fn given(alloc: Global, letter: Letter, text: &str) -> Result<Block, AllocError> {
-    Block::of_text(alloc, letter, Text::from_str(alloc, text)?)
+fn built(alloc: Global, letter: Letter, text: &str) -> Result<Block, AllocError> {
+    let mut builder = ParcelBuilder::new(alloc);
+    builder.add_text(&LogName::stdio(), letter, Text::from_str(alloc, text)?)?;
+    builder.into_parcel().parts()[0].block.copy()
 }
 
 fn in_a_parcel(alloc: Global, letter: Letter, text: &str) -> Result<Block, AllocError> {
@@ -48,21 +53,24 @@ fn in_a_parcel(alloc: Global, letter: Letter, text: &str) -> Result<Block, Alloc
     parcel.parts()[0].block.copy()
 }
 
+fn of_a_text(alloc: Global, letter: Letter, text: &str) -> Result<Block, AllocError> {
+    let text = Text::from_str(alloc, text)?;
+    let parcel = Parcel::of_text(alloc, LogName::stdio(), letter, text)?;
+    parcel.parts()[0].block.copy()
+}
+
 /// Whether each way to cut the text gives the content.
-fn is_cut(alloc: Global, letter: Letter, text: &str, want: &str) -> Result<bool, AllocError> {
-    Ok(
-        holds(alloc, cut(alloc, letter, text)?, want)?
-            && holds(alloc, added(alloc, letter, text)?, want)?
-            && holds(alloc, given(alloc, letter, text)?, want)?
-            && holds(alloc, Block::of_str(alloc, letter, text)?, want)?
-            && holds(alloc, in_a_parcel(alloc, letter, text)?, want)?,
-    )
+fn is_cut(alloc: Global, letter: Letter, text: &str, want: &str) -> bool {
+    holds(alloc, Block::of_str(alloc, letter, text), want)
+        && holds(alloc, added(alloc, letter, text), want)
+        && holds(alloc, built(alloc, letter, text), want)
+        && holds(alloc, in_a_parcel(alloc, letter, text), want)
+        && holds(alloc, of_a_text(alloc, letter, text), want)
 }
 
 #[test]
 fn texts_are_cut_at_line_ends_alone(rt: HostRuntime) -> Result<(), Fail> {
-    let alloc = rt.alloc();
-    let rows = [
+    static ROWS: [(Letter, &str, &str); 7] = [
         (Letter::E, "x\n\ny", "ex\ne\ney\n"),
         (Letter::O, "", ""),
         (Letter::O, "\n", "o\n"),
@@ -71,8 +79,8 @@ fn texts_are_cut_at_line_ends_alone(rt: HostRuntime) -> Result<(), Fail> {
         (Letter::H, "one", "hone\n"),
         (Letter::E, "ä\n", "eä\n"),
     ];
-    for (letter, text, want) in rows {
-        assert!(rt; is_cut(alloc, letter, text, want)?);
+    for (letter, text, want) in &ROWS {
+        assert!(rt; is_cut(rt.alloc(), *letter, text, want), "{text}");
     }
     Ok(())
 }
@@ -80,13 +88,12 @@ fn texts_are_cut_at_line_ends_alone(rt: HostRuntime) -> Result<(), Fail> {
 #[test]
 fn a_copy_keeps_its_lines_when_the_block_grows(rt: HostRuntime) -> Result<(), Fail> {
     let alloc = rt.alloc();
-    let mut block = cut(alloc, Letter::O, "a\n")?;
+    let mut block = Block::of_str(alloc, Letter::O, "a\n")?;
     let copy = block.copy()?;
     block.add(Letter::E, "b")?;
-    assert_eq!(rt; told(alloc, &copy)?.as_str(), "oa\n");
-    assert_eq!(rt; told(alloc, &block)?.as_str(), "oa\neb\n");
+    assert!(rt; is_told(alloc, &copy, "oa\n") && is_told(alloc, &block, "oa\neb\n"));
     block.add(Letter::H, "c")?;
-    assert_eq!(rt; told(alloc, &block)?.as_str(), "oa\neb\nhc\n");
+    assert!(rt; is_told(alloc, &block, "oa\neb\nhc\n"));
     Ok(())
 }
 
@@ -105,7 +112,7 @@ fn lines_make_a_block_and_contents_join(rt: HostRuntime) -> Result<(), Fail> {
     let block = Block::from_lines(alloc, lines)?;
     let mut out = String::from_str(alloc, ">")?;
     append_content(&mut out, block.lines())?;
-    assert_eq!(rt; out.as_str(), ">oa\noa\n");
+    assert!(rt; out.as_str() == ">oa\noa\n");
     Ok(())
 }
 
@@ -124,15 +131,22 @@ fn names_have_1_to_255_bytes(rt: HostRuntime) -> Result<(), Fail> {
     Ok(())
 }
 
+/// Whether the name and its copy are the text, and no other.
+fn is_copied(name: &LogName, text: &str) -> bool {
+    match name.copy() {
+        Ok(copy) => copy.as_str() == text && copy.is_same(name) && !name.is("std"),
+        Err(_) => false,
+    }
+}
+
 #[test]
 fn copies_of_names_are_equal(rt: HostRuntime) -> Result<(), Fail> {
     let alloc = rt.alloc();
     for text in ["stdio", "other"] {
         let name = named(&rt, alloc, text)?;
-        assert_eq!(rt; name.copy()?.as_str(), text);
-        assert!(rt; !name.is("std"));
+        assert!(rt; is_copied(&name, text));
     }
-    assert_eq!(rt; LogName::stdio().as_str(), "stdio");
+    assert!(rt; LogName::stdio().as_str() == STDIO && STDIO == "stdio");
     Ok(())
 }
 
@@ -147,72 +161,87 @@ fn add(
     parcel.add(&name, letter, text)
 }
 
+/// Whether the parcel has the content under the name.
+fn has_part(alloc: Global, parcel: &Parcel, name: &str, want: &str) -> bool {
+    match parcel.of(name) {
+        Some(block) => is_told(alloc, block, want),
+        None => false,
+    }
+}
+
 /// Whether the parcel has the content under each name, and no other part.
-fn has(
-    rt: &impl Abort,
-    alloc: Global,
-    parcel: &Parcel,
-    wants: &[(&str, &str)],
-) -> Result<bool, AllocError> {
+fn has(alloc: Global, parcel: &Parcel, wants: &[(&str, &str)]) -> bool {
     for (name, want) in wants {
-        if told_under(rt, alloc, parcel, name)?.as_str() != *want {
-            return Ok(false);
+        if !has_part(alloc, parcel, name, want) {
+            return false;
         }
     }
-    Ok(parcel.parts().len() == wants.len())
+    parcel.parts().len() == wants.len()
+}
+
+/// The parcel of the items.
+fn parcel_of(
+    rt: &impl Abort,
+    alloc: Global,
+    items: &[(&str, Letter, &str)],
+) -> Result<Parcel, AllocError> {
+    let mut parcel = Parcel::new(alloc);
+    for item in items {
+        add(rt, alloc, &mut parcel, *item)?;
+    }
+    Ok(parcel)
 }
 
 #[test]
 fn items_join_under_their_names(rt: HostRuntime) -> Result<(), Fail> {
-    let alloc = rt.alloc();
-    let mut parcel = Parcel::new(alloc);
-    let items = [
+    static ITEMS: [(&str, Letter, &str); 3] = [
         ("stdio", Letter::O, "a\n"),
         ("l", Letter::O, ""),
         ("stdio", Letter::O, "s\n"),
     ];
-    for item in items {
-        add(&rt, alloc, &mut parcel, item)?;
-    }
+    let alloc = rt.alloc();
+    let mut parcel = parcel_of(&rt, alloc, &ITEMS)?;
     let copy = parcel.copy()?;
     add(&rt, alloc, &mut parcel, ("stdio", Letter::E, "b\n"))?;
-    assert!(rt; has(&rt, alloc, &parcel, &[("stdio", "oa\nos\neb\n"), ("l", "")])?);
+    assert!(rt; has(alloc, &parcel, &[("stdio", "oa\nos\neb\n"), ("l", "")]));
     assert!(rt; parcel.of("m").is_none());
-    assert!(rt; has(&rt, alloc, &copy, &[("stdio", "oa\nos\n"), ("l", "")])?);
+    assert!(rt; has(alloc, &copy, &[("stdio", "oa\nos\n"), ("l", "")]));
     Ok(())
 }
 
-/// Gives the text to the parcel.
-fn give(
+/// The parcel of the items, whose texts a builder is given.
+fn built_of(
     rt: &impl Abort,
     alloc: Global,
-    parcel: &mut Parcel,
-    (name, letter, text): (&str, Letter, &str),
-) -> Result<(), AllocError> {
-    let name = named(rt, alloc, name)?;
-    parcel.add_text(&name, letter, Text::from_str(alloc, text)?)
+    items: &[(&str, Letter, &str)],
+) -> Result<Parcel, AllocError> {
+    let mut builder = ParcelBuilder::new(alloc);
+    for (name, letter, text) in items {
+        let name = named(rt, alloc, name)?;
+        builder.add_text(&name, *letter, Text::from_str(alloc, text)?)?;
+    }
+    Ok(builder.into_parcel())
 }
 
 #[test]
 fn given_texts_join_under_their_names(rt: HostRuntime) -> Result<(), Fail> {
-    let alloc = rt.alloc();
-    let mut parcel = Parcel::new(alloc);
-    let items = [
+    static ITEMS: [(&str, Letter, &str); 5] = [
         ("stdio", Letter::E, "a\n"),
         ("l", Letter::O, "b\nc"),
         ("m", Letter::O, "b\nc"),
         ("l", Letter::O, "b\nc"),
         ("stdio", Letter::H, "d\n"),
     ];
-    for item in items {
-        give(&rt, alloc, &mut parcel, item)?;
-    }
-    let wants = [
+    static WANTS: [(&str, &str); 3] = [
         ("stdio", "ea\nhd\n"),
         ("l", "ob\noc\nob\noc\n"),
         ("m", "ob\noc\n"),
     ];
-    assert!(rt; has(&rt, alloc, &parcel, &wants)?);
+    let alloc = rt.alloc();
+    let built = built_of(&rt, alloc, &ITEMS)?;
+    assert!(rt; has(alloc, &built, &WANTS));
+    let added = parcel_of(&rt, alloc, &ITEMS)?;
+    assert!(rt; has(alloc, &added, &WANTS));
     Ok(())
 }
 
@@ -221,11 +250,10 @@ fn a_copied_parcel_keeps_its_parts(rt: HostRuntime) -> Result<(), Fail> {
     let alloc = rt.alloc();
     let mut parcel = Parcel::new(alloc);
     assert!(rt; parcel.copy()?.parts().is_empty());
-    give(&rt, alloc, &mut parcel, ("stdio", Letter::E, "a\n"))?;
+    add(&rt, alloc, &mut parcel, ("stdio", Letter::E, "a\n"))?;
     assert!(rt; parcel.of("l").is_none());
     let copy = parcel.copy()?;
-    give(&rt, alloc, &mut parcel, ("l", Letter::O, "b"))?;
-    assert_eq!(rt; copy.parts().len(), 1);
-    assert_eq!(rt; told_under(&rt, alloc, &copy, "stdio")?.as_str(), "ea\n");
+    add(&rt, alloc, &mut parcel, ("l", Letter::O, "b"))?;
+    assert!(rt; has(alloc, &copy, &[("stdio", "ea\n")]));
     Ok(())
 }

@@ -1,3 +1,5 @@
+//! A text that a value keeps.
+
 ghost use Rattle.std.specs.Prelude.{◌≡◌, string_bytes, IfOk, bytes_eq};
 
 use std::alloc::{AllocError, Global};

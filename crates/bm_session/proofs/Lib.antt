@@ -4,7 +4,6 @@ pub mod Taken
 pub mod Visible
 pub mod Words
 mod Rows
-mod Scanned
 mod Lanes
 mod Orders
 mod Runs
@@ -17,4 +16,4 @@ mod Lookups
 mod Stepped
 mod Taking
 mod Hearing
-mod Flagged
+mod Logged

@@ -5,6 +5,5 @@ pub mod Session
 pub mod Heard
 pub mod Texts
 pub mod Ranges
-pub mod Counted
 pub mod Table
 pub mod Laws

@@ -1,8 +1,10 @@
 -- What a session keeps of its trace.
-use Rattle.std.specs.Prelude.{◌≡◌, ℕ, ◌-◌, ◌<◌, ◌≤◌, List, min, vec_len, vec_capacity, Bool, true, false, ◌||◌, ◌==◌, if◌then◌else◌, length, map, Option, Some, None, option_map, unwrap_or, find, slice_index_or}
+use Rattle.std.specs.Prelude.{◌≡◌, ℕ, ◌-◌, ◌<◌, ◌≤◌, List, min, vec_len, vec_capacity, Bool, true, false, ◌&&◌, ◌||◌, ◌==◌, if◌then◌else◌, length, map, Option, Some, None, option_map, unwrap_or, find, slice_index_or}
 use Rattle.std.specs.List.{list_any}
 use Rattle.bm_session.specs.declared.event.Body.{Body}
-use Rattle.bm_session.specs.declared.event.Body.TheVariants.{Answered}
+use Rattle.bm_session.specs.declared.event.Body.TheVariants.{Update, Answered}
+use Rattle.bm_session.specs.declared.event.Event.{Event}
+use Rattle.bm_session.specs.declared.event.Event.TheVariants.{In}
 use Rattle.bm_session.specs.declared.results.Results.{Results}
 use Rattle.bm_session.specs.declared.results.Results.TheVariants.{Cancelled, Exception, Retry}
 use Rattle.bm_session.specs.declared.table.Link.{Link}
@@ -11,9 +13,8 @@ use Rattle.bm_session.specs.declared.table.Open.{Open}
 use Rattle.bm_session.specs.declared.table.Table.{Table}
 use Rattle.bm_session.specs.Events.{is_stop_of}
 use Rattle.bm_session.specs.Session.{Lane, IsLane}
-use Rattle.bm_session.specs.Counted.{flags}
 use Rattle.bm_session.specs.Seen.{verdict_in}
-use Rattle.bm_session.specs.Trace.{Trace, moments, is_up, is_cut, commands, orders, starts, is_open, open_commands, last_rc, result_of_rc, outcome, seen}
+use Rattle.bm_session.specs.Trace.{Trace, moments, is_up, is_cut, commands, orders, starts, is_new, is_open, open_commands, last_rc, result_of_rc, outcome, seen}
 
 abbrev pub is_link_up : Link → Bool
 is_link_up Up = true
@@ -31,6 +32,11 @@ start_order t k = unwrap_or (option_map (λ m. orders m.past) (find (starts k) (
 abbrev pub asks : Body → Bool
 asks (Answered fault) = false
 asks _ = true
+
+-- a fresh update of a command that is open, where it comes next
+abbrev pub counts : Trace → Event → Bool
+counts t (In n (Update k parcel rc)) = is_new t n && is_open t k
+counts t e = false
 
 -- what is kept of an open command
 abbrev pub open_entry : Trace → ℕ → Open
@@ -73,10 +79,8 @@ IsTableUp tb = (t : Trace) × IsTable tb t × (is_up t ≡ true)
 abbrev pub table_room : Table → ℕ
 table_room tb = min (vec_capacity tb.outcomes - vec_len tb.outcomes) tb.seen.room
 
--- what a session keeps: its trace and room, which of its events counted, and the table of its trace, with places for
--- four open commands
-pub record IsSession (s : Lane) (counted : List Bool) (tb : Table) : Type 0 where
+-- what a session keeps: its trace and room, and the table of its trace, with places for four open commands
+pub record IsSession (s : Lane) (tb : Table) : Type 0 where
   pub lane : IsLane s
-  pub flagged : counted ≡ flags s.trace
   pub table : IsTable tb s.trace
   pub places : 4 ≤ vec_capacity tb.opened

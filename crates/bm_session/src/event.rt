@@ -1,3 +1,5 @@
+//! The events of a lane.
+
 ghost use Rattle.std.specs.Prelude.{◌≡◌, ◌≢◌, ℕ, IfOk, IfErr, IsErrOf, Ok};
 ghost use Rattle.bm_value.specs.View.{tree};
 ghost use Rattle.bm_msg.specs.declared.fault.MsgError.{MsgError};

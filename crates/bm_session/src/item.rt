@@ -1,3 +1,5 @@
+//! What an event does to the logs.
+
 ghost use Rattle.std.specs.Prelude.{◌≡◌, IfOk};
 
 use crate::results::Results;

@@ -5,10 +5,10 @@
 #![tactic(auto)]
 
 mod carried;
-mod counted;
 mod event;
 mod item;
 pub mod laws;
+mod log;
 mod plan;
 mod ranges;
 mod refusal;
@@ -28,6 +28,7 @@ pub use results::Results;
 pub use run::Ran;
 pub use seen::Seen;
 pub use session::Session;
+pub use table::{MOST_EVENTS, MOST_OPEN};
 
 #[cfg(test)]
 mod tests;

@@ -1,3 +1,5 @@
+//! A decision to take an event.
+
 ghost use Rattle.std.specs.Prelude.{◌≡◌, None};
 
 use crate::event::Event;

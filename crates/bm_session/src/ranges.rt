@@ -1,3 +1,5 @@
+//! The request numbers of a session, as ranges.
+
 ghost use Rattle.std.specs.Prelude.{◌≡◌, ◌+◌, ◌≤◌, ◌<◌, ◌↔◌, [], None, IsTrue, IsOk, OnOk};
 ghost use Rattle.bm_session.specs.Seen.{IsMerged, verdict_in};
 ghost use Rattle.bm_session.specs.Ranges.{HoldsAlso, IsPlace, JoinsBefore, JoinsAfter};

@@ -1,3 +1,5 @@
+//! Why an event is not taken.
+
 use thiserror::Error;
 
 /// Why an event isn't taken.

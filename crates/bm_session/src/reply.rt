@@ -1,7 +1,13 @@
-ghost use Rattle.std.specs.Prelude.{◌≡◌};
+//! What the master sends after an event.
+
+ghost use Rattle.std.specs.Prelude.{◌≡◌, ◌<◌, ◌^◌, IfOk};
 ghost use Rattle.std.specs.Option.{option_copied};
+ghost use Rattle.bm_value.specs.Decoding.{IsReadBack};
+ghost use Rattle.bm_msg.specs.Trees.{answer, answer_bytes, tree_of};
 ghost use Rattle.bm_session.specs.Texts.{exception_text};
 
+use bm_msg::write_answer;
+use std::alloc::{AllocError, Global};
 use std::fmt;
 
 /// What the master says to a request of the worker.
@@ -31,6 +37,15 @@ impl Verdict {
             Verdict::AuthAgain => Some("already authenticated"),
             Verdict::NoSuchOp => Some("no such operation"),
         }
+    }
+
+    /// The bytes of the response that tells the verdict on request `seq`. They are read back, whatever follows them.
+    pub fn answer(self, alloc: Global, seq: u64) -> Result<Vec<u8>, AllocError>
+        requires { seq < 2 ^ 63 }
+        ensures bytes { IfOk result (λ bytes. bytes.items ≡ answer_bytes seq (exception_text self)) }
+        ensures back { IfOk result (λ bytes. IsReadBack (tree_of (answer seq (exception_text self)))) }
+    {
+        write_answer(alloc, seq, self.exception())
     }
 }
 

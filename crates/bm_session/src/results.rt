@@ -1,3 +1,5 @@
+//! How commands, steps and builds end.
+
 ghost use Rattle.std.specs.Prelude.{◌≡◌};
 ghost use Rattle.bm_session.specs.Texts.{result_name};
 

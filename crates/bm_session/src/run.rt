@@ -1,3 +1,5 @@
+//! What came of the events of a run.
+
 ghost use Rattle.std.specs.Prelude.{◌≡◌, IfOk};
 
 use crate::item::Item;

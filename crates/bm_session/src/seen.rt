@@ -1,3 +1,5 @@
+//! A range of request numbers.
+
 use crate::reply::Verdict;
 
 /// The request numbers from `first` to `last`, and the verdict that each first got.

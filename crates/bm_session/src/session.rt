@@ -1,11 +1,13 @@
+//! A lane's session.
+
 ghost use Rattle.std.specs.Prelude.{◌≡◌, ◌⊎◌, ◌++◌, ◌∷◌, ◌||◌, ◌≤◌, ◌<◌, ◌^◌, [], Some, None, true, false, IfOk, IfErr, IsOk, OnOk, if◌then◌else◌};
 ghost use Rattle.bm_session.specs.Trace.{is_up as up_of, is_cut as cut_of, orders as orders_of, commands as commands_of, refusal as refusal_of, reply as reply_of, item as item_of, log as log_of, has_log as has_log_in, outcome as outcome_of, was_taken};
 ghost use Rattle.bm_session.specs.Seen.{HoldsSeen};
 ghost use Rattle.bm_session.specs.Session.{IsPlanFor, needed, ran_as, trace_as, ran_after, trace_after};
 
-use crate::counted;
 use crate::event::Event;
 use crate::item::Item;
+use crate::log;
 use crate::plan::Plan;
 use crate::refusal::Refusal;
 use crate::reply::Reply;
@@ -13,7 +15,7 @@ use crate::results::Results;
 use crate::run::Ran;
 use crate::seen::Seen;
 use crate::table::Table;
-use bm_lines::Block;
+use bm_lines::{Block, STDIO};
 use std::alloc::{AllocError, Global};
 use std::marker::Model;
 
@@ -23,8 +25,6 @@ use std::marker::Model;
 #[derive(Drop)]
 pub struct Session {
     events: Vec<Event>,
-    /// For each event whether it is an update that counts for a log.
-    counted: Vec<bool>,
     table: Table,
 }
 
@@ -35,9 +35,9 @@ impl Model for Session {
 
     ghost Value = { Lane };
 
-    ghost view = { λ s. record { trace = s.events.items; room = min (vec_capacity s.events - vec_len s.events) (min (vec_capacity s.counted - vec_len s.counted) (table_room s.table)) } };
+    ghost view = { λ s. record { trace = s.events.items; room = min (vec_capacity s.events - vec_len s.events) (table_room s.table) } };
 
-    ghost invariant = { λ s. IsSession (record { trace = s.events.items; room = min (vec_capacity s.events - vec_len s.events) (min (vec_capacity s.counted - vec_len s.counted) (table_room s.table)) }) s.counted.items s.table };
+    ghost invariant = { λ s. IsSession (record { trace = s.events.items; room = min (vec_capacity s.events - vec_len s.events) (table_room s.table) }) s.table };
 }
 
 impl Session {
@@ -47,7 +47,6 @@ impl Session {
     {
         Ok(Session {
             events: Vec::with_capacity(alloc, 2)?,
-            counted: Vec::new(alloc),
             table: Table::new(alloc)?,
         })
     }
@@ -99,27 +98,20 @@ impl Session {
         self.table.commands()
     }
 
-    /// The log of the command under the name, or None where that log isn't there.
+    /// The log of the command under the name, or None where that log isn't there. It reads the whole trace, and takes
+    /// memory for that unless the command was never started.
     pub fn log(&self, alloc: Global, command: u64, name: &str) -> Result<Option<Block>, AllocError>
-        ensures { IfOk result (λ log. log ≡ (if has_log_in self.now.trace command name.now then Some (log_of self.now.trace command name.now) else None)) }
+        ensures log { IfOk result (λ log. log ≡ (if has_log_in self.now.trace command name.now then Some (log_of self.now.trace command name.now) else None)) }
+        ensures unstarted { commands_of self.now.trace ≤ command → IsOk result }
     {
-        if !self.has_log(command, name) {
+        if command >= self.table.commands() {
             return Ok(None);
         }
-        let events = self.events.as_slice();
-        let flags = self.counted.as_slice();
-        let lines = counted::log(alloc, events, flags, command, name)?;
+        let (found, lines) = log::walk(alloc, self.events.as_slice(), command, name)?;
+        if name != STDIO && !found {
+            return Ok(None);
+        }
         Ok(Some(Block::from_lines(alloc, lines)?))
-    }
-
-    /// Whether the log is there.
-    fn has_log(&self, command: u64, name: &str) -> bool
-        ensures { result ≡ has_log_in self.now.trace command name.now }
-    {
-        let events = self.events.as_slice();
-        let flags = self.counted.as_slice();
-        command < self.table.commands()
-            && (name == "stdio" || counted::has_blocks(events, flags, command, name))
     }
 
     /// How the command ended, or None while it is open or isn't there.
@@ -184,10 +176,7 @@ impl Session {
             Event::Down => 1,
             _ => 2,
         };
-        if self.events.reserve(needed).is_err()
-            || self.counted.reserve(needed).is_err()
-            || self.table.reserve(needed).is_err()
-        {
+        if self.events.reserve(needed).is_err() || self.table.reserve(needed).is_err() {
             return Err(Refusal::Mem);
         }
         Ok((reply, item))
@@ -199,12 +188,8 @@ impl Session {
         requires room { needed event ≤ self.old.room }
         ensures { self.new.trace ≡ self.old.trace ++ event ∷ [] }
     {
-        let place = self.events.len();
+        self.table.take(&event);
         self.events.push_reserved(event);
-        let event = &self.events[place];
-        let counts = self.table.counts(event);
-        self.table.take(event);
-        self.counted.push_reserved(counts);
     }
 
     /// Takes the event of the plan: answers what the master sends, and the event's item unless it was taken from the

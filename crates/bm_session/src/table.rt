@@ -1,11 +1,12 @@
+//! What a session keeps of its trace.
+
 ghost use Rattle.std.specs.Prelude.{◌≡◌, ◌==◌, ◌||◌, ◌&&◌, ◌≤◌, ◌<◌, ◌+◌, ◌^◌, ◌∷◌, ◌++◌, [], slice_set, ℕ, true, false, not, List, length, map, filter, find, option_map, is_some, if◌then◌else◌, Some, None, IfOk, IsOk, OnOk, vec_len, vec_capacity};
 ghost use Rattle.std.specs.List.{list_any};
 ghost use Rattle.bm_session.specs.Events.{is_fault as is_fault_event};
 ghost use Rattle.bm_session.specs.Trace.{Trace, is_up as up_of, is_cut as cut_of, commands as commands_of, is_open as is_open_in, is_new as is_new_in, ended_by as ended_by_of, outcome as outcome_of, verdict as verdict_of, answer as answer_of, reply as reply_of, refusal as refusal_of, item as item_of, result_of_rc, was_taken};
 ghost use Rattle.bm_session.specs.declared.table.Open.{Open};
-ghost use Rattle.bm_session.specs.Counted.{counts as counts_in};
 ghost use Rattle.bm_session.specs.Seen.{verdict_in};
-ghost use Rattle.bm_session.specs.Table.{IsTable, IsTableUp, is_link_cut, table_room, asks, open_entry, with_stop, with_told, ends_as as ends_as_lem};
+ghost use Rattle.bm_session.specs.Table.{IsTable, IsTableUp, counts as counts_in, is_link_cut, table_room, asks, open_entry, with_stop, with_told, ends_as as ends_as_lem};
 
 use crate::event::{Body, Event};
 use crate::item::Item;
@@ -15,6 +16,12 @@ use crate::reply::{Reply, Verdict};
 use crate::results::Results;
 use bm_value::Num;
 use std::alloc::{AllocError, Global};
+
+/// So many commands of a lane may be open.
+pub const MOST_OPEN: usize = 4;
+
+/// So many events a lane may have, and one more that gives its session up.
+pub const MOST_EVENTS: usize = 999_999;
 
 /// Whether a lane's worker is there.
 #[derive(Clone, Copy, Debug, PartialEq, Eq)]
@@ -162,7 +169,7 @@ impl Table {
         Ok(Table {
             link: Link::Down,
             orders: 0,
-            opened: Vec::with_capacity(alloc, 4)?,
+            opened: Vec::with_capacity(alloc, MOST_OPEN)?,
             outcomes: Vec::new(alloc),
             seen: Ranges::new(alloc),
         })
@@ -183,7 +190,7 @@ impl Table {
     }
 
     /// Whether the event is a fresh update of a command that is open.
-    pub fn counts(&self, event: &Event) -> bool
+    fn counts(&self, event: &Event) -> bool
         ensures { (t : Trace) → IsTable self.now t → refusal_of t event.now ≡ None → result ≡ counts_in t event.now }
     {
         match event {
@@ -262,7 +269,7 @@ impl Table {
         match event {
             Event::Down => return None,
             Event::Go => {
-                if self.opened.len() >= 4 {
+                if self.opened.len() >= MOST_OPEN {
                     return Some(Refusal::TooManyOpen);
                 }
             }
@@ -273,7 +280,7 @@ impl Table {
             }
             _ => {}
         }
-        if taken >= 999_999 {
+        if taken >= MOST_EVENTS {
             Some(Refusal::Full)
         } else {
             None
@@ -406,6 +413,21 @@ impl Table {
             Event::Stop(command) => self.take_stop(*command),
             Event::In(number, body) => self.take_in(*number, body),
         }
+    }
+
+    /// Takes the next event of a trace that was taken, and tells whether it counts for a log.
+    pub fn follow(&mut self, event: &Event) -> Result<bool, AllocError>
+        requires known { (t : Trace) × IsTable self.old t × (refusal_of t event.now ≡ None) }
+        requires orders { self.old.orders < 2 ^ 63 }
+        requires places { 4 ≤ vec_capacity self.old.opened }
+        ensures counts { IfOk result (λ b. (t : Trace) → IsTable self.old t → refusal_of t event.now ≡ None → b ≡ counts_in t event.now) }
+        ensures table { OnOk result ((t : Trace) → IsTable self.old t → was_taken t ≡ true → refusal_of t event.now ≡ None → IsTable self.new (t ++ event.now ∷ [])) }
+        ensures places { 4 ≤ vec_capacity self.new.opened }
+    {
+        self.reserve(1)?;
+        let counts = self.counts(event);
+        self.take(event);
+        Ok(counts)
     }
 
     fn orders_after_up(&self) -> u64

@@ -6,3 +6,4 @@ pub mod Places
 mod Rows
 pub mod Shelves
 pub mod LogTables
+pub mod StdioLines

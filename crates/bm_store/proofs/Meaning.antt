@@ -1,6 +1,6 @@
 -- What a book in memory means.
 use Rattle.std.proofs.Common.{◌≡◌, refl, sym, ◌∙◌, ap, ℕ, zero, suc, ◌+◌, ◌≤◌, ◌<◌, Bool, true, false, cond, not, ◌||◌, List, [], ◌∷◌, ◌++◌, length, take, drop, get_or, set, Option, Some, None, arith}
-use Rattle.std.specs.Prelude.{◌==◌, map, is_none, bytes_eq, slice_get, option_and_then, find, Result, Ok, Err, OnOk}
+use Rattle.std.specs.Prelude.{◌==◌, map, is_none, bytes_eq, slice_get, option_and_then, find}
 use Rattle.std.proofs.lemmas.List.{length-map, map-append}
 use mathlib.Core.Path.{fun_ext}
 use Rattle.bm_lines.specs.Names.{Name, stdio}
@@ -61,10 +61,6 @@ pub change_set : {A : Type 0} (f : A → A) (xs : List A) (k : ℕ) (x y : A) �
 change_set f [] k x y l g = absurd (omega arith)
 change_set f (z ∷ zs) zero x y l g = ap (λ w. w ∷ zs) g
 change_set f (z ∷ zs) (suc k) x y l g = ap (λ w. z ∷ w) (change_set f zs k x y (omega arith) g)
-
-pub change_set_if_ok : {A T E : Type 0} (r : Result T E) (f : A → A) (xs : List A) (k : ℕ) (x y : A) → k < length xs → OnOk r (y ≡ f (get_or xs k x)) → OnOk r (set xs k y ≡ change_at k f xs)
-change_set_if_ok (Ok v) f xs k x y l g = change_set f xs k x y l g
-change_set_if_ok (Err e) f xs k x y l g = g
 
 pub change_past : {A : Type 0} (f : A → A) (xs : List A) (k : ℕ) → length xs ≤ k → change_at k f xs ≡ xs
 change_past f [] k l = refl

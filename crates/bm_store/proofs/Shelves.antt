@@ -42,14 +42,6 @@ position-none p xs h = go (nat_lt (position_or_len p xs) (length xs)) refl h
     go true e g = cc
     go false e g = grind (arith, nat_tests)
 
-pub position-first : {A : Type 0} (p : A → Bool) (xs : List A) (x : A) → slice_get xs 0 ≡ Some x → p x ≡ true → Some 0 ≡ position p xs
-position-first p [] x e h = cc
-position-first p (y ∷ ys) x e h =
-    let same : y ≡ x = cc in
-    let named : p y ≡ true = ap p same ∙ h in
-    let inside : nat_lt 0 (length (y ∷ ys)) ≡ true = grind (arith, nat_tests) in
-    sym (ap (λ b. cond (nat_lt (cond (not b) (1 + position_or_len p ys) 0) (length (y ∷ ys))) (Some (cond (not b) (1 + position_or_len p ys) 0)) None) named ∙ ap (λ b. cond b (Some 0) None) inside)
-
 -- a block more, written at its place
 pub with_block-set : (ls : List Named) (name : Name) (block : List Line) (i : ℕ) (new : Named) → i ≡ position_or_len (is_named name) ls → i < length ls
     → ((old : Named) → slice_get ls i ≡ Some old → new ≡ record { name = old.name; blocks = old.blocks ++ block ∷ [] }) → set ls i new ≡ with_block name block ls
@@ -179,11 +171,6 @@ part-back ps p d n left name base now after h e inside at named was is =
 pub have-either : {T E : Type 0} (r : Result T E) (ps : List Part) (old new : List Named) → OnOk r (new ≡ with_parts ps old) → OnErr r (have_blocks old ≡ true → new ≡ old) → have_blocks old ≡ true → have_blocks new ≡ true
 have-either (Ok x) ps old new ok err h = ap have_blocks ok ∙ have-parts ps old h
 have-either (Err e) ps old new ok err h = ap have_blocks (err h) ∙ h
-
--- so does one that moves a block in or changes nothing
-pub have-taken : {T E : Type 0} (r : Result T E) (p : Part) (old new : List Named) → OnOk r (new ≡ with_block p.name p.block old) → OnErr r (new ≡ old) → have_blocks old ≡ true → have_blocks new ≡ true
-have-taken (Ok x) p old new ok err h = ap have_blocks ok ∙ have-with old p.name p.block h
-have-taken (Err e) p old new ok err h = ap have_blocks err ∙ h
 
 -- the blocks of each name, after one block more
 pub blocks_of-with : (ls : List Named) (name : Name) (block : List Line) (other : Name) → blocks_of (with_block name block ls) other ≡ cond (bytes_eq name other) (blocks_of ls other ++ block ∷ []) (blocks_of ls other)

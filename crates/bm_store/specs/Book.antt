@@ -1,5 +1,6 @@
 -- What items make of a book of logs, and what a book answers.
 use Rattle.std.specs.Prelude.{ℕ, zero, suc, ◌==◌, ◌+◌, ◌-◌, ◌^◌, min, if◌then◌else◌, List, [], ◌∷◌, ◌++◌, length, map, Option, Some, None, is_none, fold, Bool, ◌||◌, not, bytes_eq, slice_get, option_and_then}
+use Rattle.std.specs.List.{sum_by}
 use Rattle.bm_lines.specs.Names.{Name, stdio}
 use Rattle.bm_lines.specs.Lines.{content_of}
 use Rattle.bm_lines.specs.Parcels.{blocks_under}
@@ -90,6 +91,10 @@ state_in ls k name = option_and_then (state_log name) (slice_get ls k)
 
 abbrev pub chunk_in : List Logs → ℕ → Name → ℕ → ℕ → Option (List Line)
 chunk_in ls k name off lim = option_and_then (chunk_log name off lim) (slice_get ls k)
+
+-- how many lines the logs `stdio` of all commands have together, as far as 64 bits count
+abbrev pub stdio_lines_in : List Logs → ℕ
+stdio_lines_in ls = min (sum_by (λ (l : Logs). length (joined (l.blocks stdio))) ls) (2 ^ 64 - 1)
 
 -- how the asked lines are answered: the place that was asked, how many they are, and their text
 abbrev pub chunk_of : ℕ → List Line → Chunk

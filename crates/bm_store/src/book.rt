@@ -1,11 +1,13 @@
-ghost use Rattle.std.specs.Prelude.{◌≡◌, ◌⊎◌, [], map, slice_get, Ok, Err, OnOk, OnErr, IfErr, MatchOption};
+//! The book of a lane.
+
+ghost use Rattle.std.specs.Prelude.{◌≡◌, ◌⊎◌, [], length, map, slice_get, Ok, Err, OnOk, OnErr, MatchOption};
 ghost use Rattle.std.specs.Option.{option_copied};
-ghost use Rattle.bm_store.specs.Book.{change_at, after_item, placed_in, chunk_in, chunk_of, state_in};
+ghost use Rattle.bm_store.specs.Book.{change_at, after_item, placed_in, chunk_in, chunk_of, state_in, stdio_lines_in};
 ghost use Rattle.bm_store.specs.Kept.{logs_in, kept_after, kept_with_parcel, kept_with_end};
 
 use crate::chunk::{Chunk, LogState, ViewRefusal};
+use crate::command_logs::CommandLogs;
 use crate::gather::chunk;
-use crate::kept::CommandLogs;
 use crate::placed::Placed;
 use bm_lines::Parcel;
 use bm_session::{Item, Results};
@@ -39,21 +41,6 @@ fn add_at(commands: &mut [CommandLogs], place: u64, parcel: &Parcel) -> Result<(
         commands[place].add(parcel)?;
     }
     Ok(())
-}
-
-/// Moves the only block of a parcel to a log of the command at a place, where that takes no memory. Else the parcel comes
-/// back.
-#[inline(always)]
-fn take_at(commands: &mut [CommandLogs], place: u64, parcel: Parcel) -> Result<(), Parcel>
-    ensures ok { OnOk result (commands.new ≡ change_at place (kept_with_parcel parcel) commands.old) }
-    ensures back { IfErr result (λ p. p ≡ parcel) }
-    ensures err { OnErr result (commands.new ≡ commands.old) }
-{
-    let place = place as usize;
-    if place >= commands.len() {
-        return Err(parcel);
-    }
-    commands[place].take(parcel)
 }
 
 /// Ends the command at a place, where there is one and it is open.
@@ -108,24 +95,25 @@ impl Book {
         Ok(())
     }
 
-    /// Takes an item that is given away, where its lines are a block that goes to a log with room for it: so it isn't
-    /// copied, and takes no memory. Else the item comes back, and nothing has changed.
-    #[inline(always)]
-    pub fn take(&mut self, item: Item) -> Result<(), Item>
-        ensures ok { OnOk result (self.new ≡ kept_after self.old item) }
-        ensures logs { OnOk result (logs_in self.new ≡ after_item (logs_in self.old) item) }
-        ensures back { IfErr result (λ i. i ≡ item) }
-        ensures err { OnErr result (self.new ≡ self.old) }
+    /// How many commands were started, those that have ended too.
+    pub fn commands(&self) -> u64
+        ensures { result ≡ length (logs_in self.now) }
     {
-        let Item::Lines(k, parcel) = item else {
-            return Err(item);
-        };
-        if let Err(parcel) = take_at(self.commands.as_mut_slice(), k, parcel) {
-            return Err(Item::Lines(k, parcel));
-        }
-        Ok(())
+        self.commands.len() as u64
     }
 
+    /// How many lines the logs `stdio` of all commands have together, those that have ended too; 2^64-1 where they have more.
+    pub fn stdio_lines(&self) -> u64
+        ensures { result ≡ stdio_lines_in (logs_in self.now) }
+    {
+        let mut lines: u64 = 0;
+        for command in self.commands.as_slice() {
+            lines = lines.saturating_add(command.stdio_lines());
+        }
+        lines
+    }
+
+    /// The logs of a command, where it was started.
     fn command(&self, k: u64) -> Option<&CommandLogs>
         ensures { option_copied result ≡ slice_get self.now k }
     {

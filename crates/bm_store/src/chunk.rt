@@ -1,3 +1,5 @@
+//! What a viewer is answered.
+
 ghost use Rattle.std.specs.Prelude.{◌≡◌, IfOk};
 
 use bm_lines::Text;

@@ -3,10 +3,10 @@
 
 mod book;
 mod chunk;
+mod command_logs;
 mod gather;
-mod kept;
 pub mod laws;
-mod named;
+mod named_log;
 mod placed;
 
 pub use book::Book;

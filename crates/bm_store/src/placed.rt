@@ -1,3 +1,5 @@
+//! A block of a log at its place.
+
 ghost use Rattle.std.specs.Prelude.{◌≡◌, IfOk};
 
 use bm_lines::Block;

@@ -1,12 +1,12 @@
 //! A parcel of many names, put together with a table of them.
 
-use super::{named, told, told_under};
+use super::{has_part, is_told, named};
 use crate::{Letter, LogName, Parcel, ParcelBuilder, Text};
 use std::alloc::{AllocError, Global};
 use std::process::Abort;
 use std::test::Fail;
 
-const NAMES: u32 = 3000;
+const NAMES: u32 = 1000;
 
 /// The number of the name at a place: each below `NAMES` once, in no order that a table could have.
 fn number_at(place: u32) -> u32 {
@@ -19,24 +19,16 @@ fn numbered(rt: &impl Abort, alloc: Global, number: u32) -> Result<LogName, Allo
     named(rt, alloc, digits.as_str())
 }
 
-/// Whether the part at the place has the place's name, and what was said under it.
-fn is_at(
-    rt: &impl Abort,
-    alloc: Global,
-    parcel: &Parcel,
-    place: u32,
-    said: &str,
-) -> Result<bool, AllocError> {
-    let name = numbered(rt, alloc, number_at(place))?;
-    let part = parcel
-        .parts()
-        .get(place as usize)
-        .expect(rt, "a part at that place");
-    Ok(
-        part.name.is_same(&name)
-            && told(alloc, &part.block)?.as_str() == said
-            && told_under(rt, alloc, parcel, name.as_str())?.as_str() == said,
-    )
+/// Whether the part at the place has the name, and what was said under it.
+fn is_at(alloc: Global, parcel: &Parcel, place: u32, name: &LogName, said: &str) -> bool {
+    match parcel.parts().get(place as usize) {
+        Some(part) => {
+            part.name.is_same(name)
+                && is_told(alloc, &part.block, said)
+                && has_part(alloc, parcel, name.as_str(), said)
+        }
+        None => false,
+    }
 }
 
 /// Whether the parts are those of all names, in their order, each with what was said.
@@ -47,7 +39,8 @@ fn is_whole(
     said: &str,
 ) -> Result<bool, AllocError> {
     for place in 0..NAMES {
-        if !is_at(rt, alloc, parcel, place, said)? {
+        let name = numbered(rt, alloc, number_at(place))?;
+        if !is_at(alloc, parcel, place, &name, said) {
             return Ok(false);
         }
     }

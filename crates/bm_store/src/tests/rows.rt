@@ -1,6 +1,6 @@
 //! Worked books: each row is what a book takes or is asked, and what it gives.
 
-use super::turn::Gives::{self, Back, Blocks, NoLog, Slice, State, Taken};
+use super::turn::Gives::{self, Blocks, Counts, NoLog, Slice, State, Taken};
 use super::turn::Turn::*;
 use super::turn::slice;
 use super::{Placed, Row, again, played};
@@ -27,25 +27,6 @@ fn slices_run_over_blocks(rt: HostRuntime) -> Result<(), Fail> {
 }
 
 #[test]
-fn given_block_goes_where_there_is_room(rt: HostRuntime) -> Result<(), Fail> {
-    static ROWS: [Row; 10] = [
-        (Open(0), Taken),
-        (Give(&[("stdio", "a\n")]), Back),
-        // A log has room for more blocks than its first.
-        (Add(&[("stdio", "a\n")]), Taken),
-        (Give(&[("stdio", "b\n")]), Taken),
-        (Give(&[("l", "x\n")]), Back),
-        (Give(&[("stdio", "c\n"), ("l", "y")]), Back),
-        (StateOf(0, "stdio"), State(2, None)),
-        (SliceOf("stdio", 0, 9), Slice(0, 2, "oa\nob\n")),
-        (End(0, Results::Success), Taken),
-        (Give(&[("stdio", "d\n")]), Back),
-    ];
-    played(&rt, &ROWS)?;
-    Ok(())
-}
-
-#[test]
 fn offset_is_never_moved(rt: HostRuntime) -> Result<(), Fail> {
     static ROWS: [Row; 8] = [
         (Open(0), Taken),
@@ -63,7 +44,8 @@ fn offset_is_never_moved(rt: HostRuntime) -> Result<(), Fail> {
 
 #[test]
 fn named_log_is_there_from_its_first_block(rt: HostRuntime) -> Result<(), Fail> {
-    static ROWS: [Row; 12] = [
+    static ROWS: [Row; 14] = [
+        (Totals, Counts(0, 0)),
         (SliceOf("stdio", 0, 9), NoLog),
         (Open(0), Taken),
         (SliceOf("stdio", 0, 9), Slice(0, 0, "")),
@@ -74,6 +56,7 @@ fn named_log_is_there_from_its_first_block(rt: HostRuntime) -> Result<(), Fail> 
         (SliceOf("l", 0, 9), Slice(0, 1, "ox\n")),
         (SliceOf("m", 0, 9), Slice(0, 1, "oy\n")),
         (SliceOf("stdio", 0, 9), Slice(0, 2, "os\not\n")),
+        (Totals, Counts(1, 2)),
         (BlocksOf(0, "n"), NoLog),
         (BlocksOf(1, "stdio"), NoLog),
     ];
@@ -83,7 +66,7 @@ fn named_log_is_there_from_its_first_block(rt: HostRuntime) -> Result<(), Fail> 
 
 #[test]
 fn only_open_commands_change(rt: HostRuntime) -> Result<(), Fail> {
-    static ROWS: [Row; 14] = [
+    static ROWS: [Row; 15] = [
         (Add(&[("stdio", "a\n")]), Taken),
         (End(0, Results::Success), Taken),
         (Open(1), Taken),
@@ -95,6 +78,7 @@ fn only_open_commands_change(rt: HostRuntime) -> Result<(), Fail> {
         (Gone, Taken),
         (End(1, Results::Failure), Taken),
         (Add(&[("stdio", "a\n")]), Taken),
+        (Totals, Counts(3, 0)),
         (StateOf(0, "stdio"), State(0, Some(Results::Success))),
         (StateOf(1, "stdio"), State(0, Some(Results::Retry))),
         (StateOf(2, "stdio"), State(0, Some(Results::Retry))),

@@ -12,28 +12,27 @@ pub enum Turn {
     Open(u64),
     /// Lines of standard output for command 0: a text for each name.
     Add(&'static [(&'static str, &'static str)]),
-    /// The same, given away.
-    Give(&'static [(&'static str, &'static str)]),
     End(u64, Results),
     Gone,
     /// A log of command 0, and from where on how many lines.
     SliceOf(&'static str, u64, u64),
     StateOf(u64, &'static str),
     BlocksOf(u64, &'static str),
+    Totals,
 }
 
 /// What a turn is to give.
 #[derive(Clone, Copy)]
 pub enum Gives {
     Taken,
-    /// The item that was given away, and a book as before.
-    Back,
     /// The first line's place, how many lines, and their content.
     Slice(u64, u64, &'static str),
     /// How many lines there are, and how the command ended.
     State(u64, Option<Results>),
     /// The place of each block, and how many lines it has.
     Blocks(&'static [(u64, usize)]),
+    /// How many commands there are, and how many lines their logs `stdio` have.
+    Counts(u64, u64),
     NoLog,
 }
 
@@ -109,22 +108,9 @@ pub fn slice(book: &Book, name: &str, offset: u64, limit: u64) -> Result<Chunk, 
     Err(ViewRefusal::Mem)
 }
 
-/// Whether the item that is given away is taken, or comes back from a book that is as before.
-fn is_given(book: &mut Book, item: Item, gives: &Gives) -> bool {
-    let before = look(book);
-    match book.take(item) {
-        Ok(()) => matches!(gives, Gives::Taken),
-        Err(_) => matches!(gives, Gives::Back) && look(book) == before,
-    }
-}
-
 /// Whether the book gives that.
 pub fn plays(alloc: Global, book: &mut Book, row: &Row) -> Result<bool, AllocError> {
     let (turn, gives) = row;
-    if let Turn::Give(parts) = turn {
-        let item = again(|| lines(alloc, parts))?;
-        return Ok(is_given(book, item, gives));
-    }
     if let Some(item) = again(|| item(alloc, *turn))? {
         take(book, &item)?;
         return Ok(matches!(gives, Gives::Taken));
@@ -133,11 +119,21 @@ pub fn plays(alloc: Global, book: &mut Book, row: &Row) -> Result<bool, AllocErr
         Turn::SliceOf(name, offset, limit) => gives.is_slice(&slice(book, name, *offset, *limit)),
         Turn::StateOf(k, name) => gives.is_state(book.state(*k, name)),
         Turn::BlocksOf(k, name) => gives.are_blocks(book.blocks(*k, name)),
+        Turn::Totals => gives.are_counts(book),
         _ => false,
     })
 }
 
 impl Gives {
+    fn are_counts(&self, book: &Book) -> bool {
+        match self {
+            Gives::Counts(commands, lines) => {
+                book.commands() == *commands && book.stdio_lines() == *lines
+            }
+            _ => false,
+        }
+    }
+
     fn is_slice(&self, answer: &Result<Chunk, ViewRefusal>) -> bool {
         match answer {
             Ok(chunk) => self.is_chunk(chunk),

@@ -4,11 +4,11 @@ use Rattle.std.specs.Borrow.{Bor}
 use Rattle.std.specs.List.{slice_split}
 use Rattle.std.proofs.lemmas.Str.Pattern.{strip_suffix_char}
 use Rattle.std.proofs.lemmas.Bool.Decides.{nat_tests}
-use Rattle.bm_lines.proofs.Cuts.{parts_stripped, parts-nowhere, stripped_front}
+use Rattle.bm_lines.proofs.Cuts.{parts_stripped, parts-nowhere}
 use Rattle.bm_lines.proofs.block.only_line.Goals as goal
 
-pub returns-in-None-clause-line : goal.returns-in-None-clause-line
-returns-in-None-clause-line c =
+pub returns-in-None : goal.returns-in-None
+returns-in-None c =
     let some : 0 < length c.args.text.now = grind (arith, nat_tests) in
     let same = parts_stripped c.args.text.now c.strip_suffix.result c.args.text refl some (strip_suffix_char 10 c.args.text.now c.strip_suffix.result c.strip_suffix.ensures.cases (lit< tt)) in
     sym same
@@ -16,7 +16,3 @@ returns-in-None-clause-line c =
     ∙ ap (slice_split (λ b. b == 10)) (sym c.as_bytes.ensures.value)
     ∙ parts-nowhere c.as_bytes.result.now c.in-None.ensures
     ∙ ap (λ line. line ∷ []) c.as_bytes.ensures.value
-
-pub returns-in-None-clause-front : goal.returns-in-None-clause-front
-returns-in-None-clause-front c =
-    stripped_front c.args.text.now c.strip_suffix.result c.args.text c.unwrap_or-line.result refl c.unwrap_or-line.ensures (strip_suffix_char 10 c.args.text.now c.strip_suffix.result c.strip_suffix.ensures.cases (lit< tt))

@@ -14,8 +14,7 @@ returns-then-i-slice-clause-ok c =
     c.place-i.ensures
     ∙ ap (λ ps. position_or_len (λ (q : Part). bytes_eq q.name c.as_str.result.now) ps) c.as_slice-slice.ensures
     ∙ ap (λ n. position_or_len (λ (q : Part). bytes_eq q.name n) (items_of c.args.parts.now)) c.as_str.ensures.text in
-    IfOk-equal c.add_at.result _ _ _ (c.add_at.ensures.ok c.args.name.now at)
-    (ap (λ t. with_item c.args.name.now (lines_of c.args.letter t) (items_of c.args.parts.now)) c.as_str-then-i-slice.ensures)
+    c.add_at.ensures.ok c.args.name.now at
 
 pub returns-clause-ok : goal.returns-clause-ok
 returns-clause-ok c =
@@ -24,4 +23,4 @@ returns-clause-ok c =
     ∙ ap (λ ps. position_or_len (λ (q : Part). bytes_eq q.name c.as_str.result.now) ps) c.as_slice-slice.ensures
     ∙ ap (λ n. position_or_len (λ (q : Part). bytes_eq q.name n) (items_of c.args.parts.now)) c.as_str.ensures.text in
     let past : length (items_of c.args.parts.now) ≤ position_or_len (λ q. bytes_eq q.name c.args.name.now) (items_of c.args.parts.now) = omega (arith, at, ap length c.as_slice-slice.ensures) in
-    IfOk-equal c.push.result _ _ _ c.push.ensures.ok (with_item-past (items_of c.args.parts.now) c.args.name.now (lines_of c.args.letter c.args.text) past)
+    IfOk-equal c.push.result _ _ _ c.push.ensures.ok (with_item-past (items_of c.args.parts.now) c.args.name.now (lines_of c.args.letter c.args.text.now) past)

@@ -1,0 +1,94 @@
+//! A parcel that is put together.
+
+ghost use Rattle.std.specs.Prelude.{◌≡◌, [], OnOk, OnErr, IfOk};
+ghost use Rattle.bm_lines.specs.Lines.{lines_of};
+ghost use Rattle.bm_lines.specs.Parcels.{names_of, with_item};
+ghost use Rattle.bm_lines.specs.Places.{HasPlaces};
+
+use crate::line::Letter;
+use crate::log_name::LogName;
+use crate::name_table::{FEW_NAMES, NameTable};
+use crate::parcel::{Parcel, Part};
+use crate::text::Text;
+use std::alloc::{AllocError, Global};
+use std::marker::Model;
+
+/// A parcel that is put together, with a table of its names once there are more than a few. The parcel itself has none, so
+/// that it stays small where it is kept.
+#[derive(Drop)]
+pub struct ParcelBuilder {
+    alloc: Global,
+    parcel: Parcel,
+    places: Option<NameTable>,
+}
+
+impl Model for ParcelBuilder {
+    ghost use Rattle.std.specs.Prelude.{List};
+    ghost use Rattle.bm_lines.specs.declared.parcel.Part.{Part};
+    ghost use Rattle.bm_lines.specs.Parcels.{names_of};
+    ghost use Rattle.bm_lines.specs.Places.{HasPlacesIfAny};
+
+    ghost Value = { List Part };
+
+    ghost view = { λ b. b.parcel };
+
+    ghost invariant = { λ b. HasPlacesIfAny b.places (names_of b.parcel) };
+}
+
+impl ParcelBuilder {
+    /// No part.
+    pub fn new(alloc: Global) -> ParcelBuilder
+        ensures { result ≡ [] }
+    {
+        ParcelBuilder {
+            alloc,
+            parcel: Parcel::new(alloc),
+            places: None,
+        }
+    }
+
+    /// Appends the lines of a text to the part with this name, or to a new part at the end.
+    pub fn add_text(&mut self, name: &LogName, letter: Letter, text: Text) -> Result<(), AllocError>
+        ensures ok { OnOk result (self.new ≡ with_item name.now (lines_of letter text) self.old) }
+        ensures err { OnErr result (self.new ≡ self.old) }
+    {
+        if self.places.is_none() && self.parcel.parts().len() < FEW_NAMES {
+            return self.parcel.add(name, letter, text.as_str());
+        }
+        self.add_by_table(name, letter, text.as_str())
+    }
+
+    /// Appends the lines of a text, where a walk over the names would take long.
+    ///
+    /// After want of memory there is no table; the next call makes it.
+    fn add_by_table(&mut self, name: &LogName, letter: Letter, text: &str) -> Result<(), AllocError>
+        ensures ok { OnOk result (self.new ≡ with_item name.now (lines_of letter text.now) self.old) }
+        ensures err { OnErr result (self.new ≡ self.old) }
+    {
+        let places = match self.places.take() {
+            Some(places) => places,
+            None => table_of(self.alloc, self.parcel.parts())?,
+        };
+        let places = self.parcel.add_by_table(places, name, letter, text)?;
+        self.places = Some(places);
+        Ok(())
+    }
+
+    /// The parcel.
+    pub fn into_parcel(self) -> Parcel
+        ensures { result ≡ self }
+    {
+        self.parcel
+    }
+}
+
+/// The places of the parts' names.
+fn table_of(alloc: Global, parts: &[Part]) -> Result<NameTable, AllocError>
+    ensures { IfOk result (λ t. HasPlaces t (names_of parts.now)) }
+{
+    let mut places = NameTable::new(alloc)?;
+    for i in 0..parts.len() {
+        places.add(alloc, parts[i].name.as_str(), i)?;
+    }
+    Ok(places)
+}

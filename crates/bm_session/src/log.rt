@@ -1,0 +1,121 @@
+//! The logs of a trace, by one walk.
+ghost use Rattle.std.specs.Prelude.{◌≡◌, ◌++◌, ◌||◌, true, not, if◌then◌else◌, IfOk, []};
+ghost use Rattle.bm_lines.specs.Parcels.{blocks_under};
+ghost use Rattle.bm_session.specs.Events.{is_update_of, parcel_of};
+ghost use Rattle.bm_session.specs.Trace.{blocks, log as log_of, joined, is_empty, was_taken};
+
+use crate::event::{Body, Event};
+use crate::table::Table;
+use bm_lines::{Line, Parcel};
+use std::alloc::{AllocError, Global};
+
+/// Whether the parcel has a part with the name.
+fn has_part(parcel: &Parcel, name: &str) -> bool
+    ensures { result ≡ not (is_empty (blocks_under name.now parcel.now)) }
+{
+    let mut found = false;
+    for part in parcel.parts() {
+        if part.name.is(name) {
+            found = true;
+        }
+    }
+    found
+}
+
+/// Appends the lines of the parcel's part with the name, if it has one.
+fn append_part(lines: &mut Vec<Line>, parcel: &Parcel, name: &str) -> Result<(), AllocError>
+    ensures { IfOk result (λ u. lines.new.items ≡ lines.old.items ++ joined (blocks_under name.now parcel.now)) }
+{
+    for part in parcel.parts() {
+        if part.name.is(name) {
+            append_lines(lines, part.block.lines())?;
+        }
+    }
+    Ok(())
+}
+
+/// Appends copies of the lines.
+fn append_lines(out: &mut Vec<Line>, lines: &[Line]) -> Result<(), AllocError>
+    ensures { IfOk result (λ u. out.new.items ≡ out.old.items ++ lines.now) }
+{
+    for line in lines {
+        out.push(line.copy()?)?;
+    }
+    Ok(())
+}
+
+/// Whether the log had a block, or has one where the event, if it counts, adds one.
+fn found_after(found: bool, counts: bool, event: &Event, command: u64, name: &str) -> bool
+    ensures { result ≡ (found || not (is_empty (if counts then (if is_update_of command event.now then blocks_under name.now (parcel_of event.now) else []) else []))) }
+{
+    if found || !counts {
+        return found;
+    }
+    match event {
+        Event::In(
+            _,
+            Body::Update {
+                command: k,
+                parcel,
+                ..
+            },
+        ) => *k == command && has_part(parcel, name),
+        _ => false,
+    }
+}
+
+/// Appends the lines that the event, if it counts, adds to the log.
+fn append_added(
+    lines: &mut Vec<Line>,
+    counts: bool,
+    event: &Event,
+    command: u64,
+    name: &str,
+) -> Result<(), AllocError>
+    ensures { IfOk result (λ u. lines.new.items ≡ lines.old.items ++ joined (if counts then (if is_update_of command event.now then blocks_under name.now (parcel_of event.now) else []) else [])) }
+{
+    if !counts {
+        return Ok(());
+    }
+    match event {
+        Event::In(
+            _,
+            Body::Update {
+                command: k,
+                parcel,
+                ..
+            },
+        ) => {
+            if *k == command {
+                append_part(lines, parcel, name)
+            } else {
+                Ok(())
+            }
+        }
+        _ => Ok(()),
+    }
+}
+
+/// The log of the command under the name, and whether it has a block. A table runs over the trace, which was taken, and
+/// tells which updates count.
+pub fn walk(
+    alloc: Global,
+    t: &[Event],
+    command: u64,
+    name: &str,
+) -> Result<(bool, Vec<Line>), AllocError>
+    requires { was_taken t.now ≡ true }
+    ensures found { IfOk result (λ r. r.0 ≡ not (is_empty (blocks t.now command name.now))) }
+    ensures lines { IfOk result (λ r. r.1.items ≡ log_of t.now command name.now) }
+{
+    let mut table = Table::new(alloc)?;
+    let mut found = false;
+    let mut lines = Vec::new(alloc);
+    for i in 0..t.len() {
+        let event = &t[i];
+        let counts = table.follow(event)?;
+        found = found_after(found, counts, event, command, name);
+        append_added(&mut lines, counts, event, command, name)?;
+    }
+    Ok((found, lines))
+}
