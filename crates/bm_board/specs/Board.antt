@@ -23,7 +23,11 @@ pub record Standing : Type 0 where
 -- a new board: no worker is ready, and no build is there
 abbrev pub opening : List ℕ → List ℕ → Standing
 opening slots maxima =
-    record { workers = map (λ n. record { slots = n; ready = false }) slots; maxima = maxima; jobs = [] }
+    record {
+      workers = map (λ n. record { slots = n; ready = false }) slots;
+      maxima = maxima;
+      jobs = [];
+    }
 
 -- the build holds a slot of the worker
 abbrev pub occupies : ℕ → Course → Bool
@@ -44,16 +48,21 @@ holders mode lock jobs = count_by (holds_lock mode lock) jobs
 -- the builds within their limits: of each lock there is one exclusive holder, or at most its maximum of counting ones,
 -- and no worker has more builds that run or are not released than slots
 pub record IsWithinLimits (b : Standing) : Type 0 where
-  pub slots : (w : ℕ) → w < length b.workers → occupied w b.jobs ≤ slice_index (map (λ worker. worker.slots) b.workers) w
-  pub counting : (lock : ℕ) → lock < length b.maxima → holders Counting lock b.jobs ≤ slice_index b.maxima lock
+  pub slots : (w : ℕ) → w < length b.workers
+      → occupied w b.jobs ≤ slice_index (map (λ worker. worker.slots) b.workers) w
+  pub counting : (lock : ℕ) → lock < length b.maxima
+      → holders Counting lock b.jobs ≤ slice_index b.maxima lock
   pub exclusive : (lock : ℕ) → lock < length b.maxima → holders Exclusive lock b.jobs ≤ 1
-  pub alone : (lock : ℕ) → lock < length b.maxima → 0 < holders Exclusive lock b.jobs → holders Counting lock b.jobs ≡ 0
+  pub alone : (lock : ℕ) → lock < length b.maxima → 0 < holders Exclusive lock b.jobs
+      → holders Counting lock b.jobs ≡ 0
 
 -- the worker with its readiness
 abbrev pub with_ready : Standing → ℕ → Bool → Standing
 with_ready b w ready =
     record {
-      workers = option_map_or (λ worker. slice_set b.workers w (record { slots = worker.slots; ready = ready })) (slice_get b.workers w) b.workers;
+      workers =
+          option_map_or (λ worker. slice_set b.workers w (record { slots = worker.slots; ready = ready }))
+          (slice_get b.workers w) b.workers;
       maxima = b.maxima;
       jobs = b.jobs;
     }
@@ -73,17 +82,20 @@ add_refusal b build =
 
 -- the board with one more build, which waits
 abbrev pub with_build : Standing → Build → Standing
-with_build b build = record { workers = b.workers; maxima = b.maxima; jobs = b.jobs ++ waiting build ∷ [] }
+with_build b build =
+    record { workers = b.workers; maxima = b.maxima; jobs = b.jobs ++ waiting build ∷ [] }
 
 -- the worker is ready and has a free slot
 abbrev pub has_place : Standing → ℕ → Bool
 has_place b w =
-    option_map_or (λ worker. worker.ready && nat_lt (occupied w b.jobs) worker.slots) (slice_get b.workers w) false
+    option_map_or (λ worker. worker.ready && nat_lt (occupied w b.jobs) worker.slots)
+    (slice_get b.workers w) false
 
 -- the use may be had beside the lock's holders
 abbrev pub is_free : Standing → LockUse → Bool
 is_free b u =
-    may_have u.mode (slice_index b.maxima u.lock) (holders Counting u.lock b.jobs) (holders Exclusive u.lock b.jobs)
+    may_have u.mode (slice_index b.maxima u.lock) (holders Counting u.lock b.jobs)
+    (holders Exclusive u.lock b.jobs)
 
 -- a waiting build starts on its worker where that has a place and each lock may be had
 abbrev pub start : Standing → Course → Outcome Started
@@ -102,7 +114,8 @@ on_build call b id = option_map_or call (slice_get b.jobs id) (Err NoBuild)
 
 -- the board after a call on the build of this number; a refused call changes nothing
 abbrev pub board_after : {T : Type 0} → Standing → ℕ → Outcome T → Standing
-board_after b id (Ok p) = record { workers = b.workers; maxima = b.maxima; jobs = slice_set b.jobs id p.0 }
+board_after b id (Ok p) =
+    record { workers = b.workers; maxima = b.maxima; jobs = slice_set b.jobs id p.0 }
 board_after b id (Err refusal) = b
 
 -- the result of the build of this number, None before its end

@@ -44,7 +44,11 @@ first_of job = next_of job.build.steps []
 -- a build after its start
 abbrev pub started : Course → Course
 started job =
-    record { build = job.build; phase = phase_of (first_of job); outcomes = replicate (length job.build.steps) Skipped }
+    record {
+      build = job.build;
+      phase = phase_of (first_of job);
+      outcomes = replicate (length job.build.steps) Skipped;
+    }
 
 -- what a call does to a build: the build after it and the answer, or why it is refused
 abbrev pub Outcome : Type 0 → Type 0
@@ -56,7 +60,8 @@ in_phase job phase = record { build = job.build; phase = phase; outcomes = job.o
 
 -- the outcomes once the step is done: CANCELLED where the build was cancelled meanwhile
 abbrev pub done : List Results → ℕ → Bool → Results → List Results
-done outcomes step cancelled outcome = slice_set outcomes step (if cancelled then Cancelled else outcome)
+done outcomes step cancelled outcome =
+    slice_set outcomes step (if cancelled then Cancelled else outcome)
 
 -- the build goes on with these outcomes, of which so many count
 abbrev pub goes_on : Course → List Results → ℕ → Outcome Next
@@ -67,7 +72,8 @@ goes_on job outcomes count =
 -- the step that runs ends so: what follows
 abbrev pub finish_in : Phase → Results → Course → Outcome Next
 finish_in Waiting outcome job = Err NotRunning
-finish_in (Running step cancelled) outcome job = goes_on job (done job.outcomes step cancelled outcome) (step + 1)
+finish_in (Running step cancelled) outcome job =
+    goes_on job (done job.outcomes step cancelled outcome) (step + 1)
 finish_in (Over result holds) outcome job = Err NotRunning
 
 abbrev pub finish : Results → Course → Outcome Next

@@ -28,9 +28,12 @@ pub record IsTaken (t more : Tally) (build : Build) : Type 0 where
   pub workers : length more.taken ≡ length t.taken
   pub locks : length more.counting ≡ length t.counting
   pub locks_too : length more.exclusive ≡ length t.exclusive
-  pub slots : (w : ℕ) → w < length t.taken → slice_index more.taken w ≡ slice_index t.taken w + place_share w build
-  pub shared : (lock : ℕ) → lock < length t.counting → slice_index more.counting lock ≡ slice_index t.counting lock + lock_share Counting lock build
-  pub alone : (lock : ℕ) → lock < length t.exclusive → slice_index more.exclusive lock ≡ slice_index t.exclusive lock + lock_share Exclusive lock build
+  pub slots : (w : ℕ) → w < length t.taken → slice_index more.taken w
+      ≡ slice_index t.taken w + place_share w build
+  pub shared : (lock : ℕ) → lock < length t.counting → slice_index more.counting lock
+      ≡ slice_index t.counting lock + lock_share Counting lock build
+  pub alone : (lock : ℕ) → lock < length t.exclusive → slice_index more.exclusive lock
+      ≡ slice_index t.exclusive lock + lock_share Exclusive lock build
 
 -- the build's worker and locks are counted, and it names no lock twice
 pub record IsListed (t : Tally) (build : Build) : Type 0 where
@@ -41,19 +44,25 @@ pub record IsListed (t : Tally) (build : Build) : Type 0 where
 
 -- each use may be had beside the holders that are counted
 abbrev pub are_free : Tally → List ℕ → List LockUse → Bool
-are_free t maxima uses = list_all (λ u. may_have u.mode (slice_index maxima u.lock) (slice_index t.counting u.lock) (slice_index t.exclusive u.lock)) uses
+are_free t maxima uses =
+    list_all (λ u. may_have u.mode (slice_index maxima u.lock)
+    (slice_index t.counting u.lock) (slice_index t.exclusive u.lock)) uses
 
 -- the counts that a build adds to stay in their types
 pub record HasRoom (t : Tally) (build : Build) : Type 0 where
   pub worker : slice_index t.taken build.worker + 1 < 2 ^ 8
-  pub counting : All (λ u. is_mode u.mode Counting ≡ true → slice_index t.counting u.lock + 1 < 2 ^ 32) build.locks
-  pub exclusive : All (λ u. is_mode u.mode Exclusive ≡ true → slice_index t.exclusive u.lock + 1 < 2 ^ 32) build.locks
+  pub counting : All (λ u. is_mode u.mode Counting ≡ true
+      → slice_index t.counting u.lock + 1 < 2 ^ 32) build.locks
+  pub exclusive : All (λ u. is_mode u.mode Exclusive ≡ true
+      → slice_index t.exclusive u.lock + 1 < 2 ^ 32) build.locks
 
 -- the build's slot and locks are among the counts
 pub record IsHeld (t : Tally) (build : Build) : Type 0 where
   pub worker : 0 < slice_index t.taken build.worker
-  pub counting : All (λ u. is_mode u.mode Counting ≡ true → 0 < slice_index t.counting u.lock) build.locks
-  pub exclusive : All (λ u. is_mode u.mode Exclusive ≡ true → 0 < slice_index t.exclusive u.lock) build.locks
+  pub counting : All (λ u. is_mode u.mode Counting ≡ true
+      → 0 < slice_index t.counting u.lock) build.locks
+  pub exclusive : All (λ u. is_mode u.mode Exclusive ≡ true
+      → 0 < slice_index t.exclusive u.lock) build.locks
 
 -- the build's worker and locks are on the board
 abbrev pub is_known : ℕ → ℕ → Course → Bool
@@ -65,8 +74,10 @@ pub record AreCounts (b : Standing) (t : Tally) : Type 0 where
   pub locks : length t.counting ≡ length b.maxima
   pub locks_too : length t.exclusive ≡ length b.maxima
   pub slots : (w : ℕ) → w < length b.workers → slice_index t.taken w ≡ occupied w b.jobs
-  pub shared : (lock : ℕ) → lock < length b.maxima → slice_index t.counting lock ≡ holders Counting lock b.jobs
-  pub alone : (lock : ℕ) → lock < length b.maxima → slice_index t.exclusive lock ≡ holders Exclusive lock b.jobs
+  pub shared : (lock : ℕ) → lock < length b.maxima → slice_index t.counting lock
+      ≡ holders Counting lock b.jobs
+  pub alone : (lock : ℕ) → lock < length b.maxima → slice_index t.exclusive lock
+      ≡ holders Exclusive lock b.jobs
 
 -- what holds of a board at any time
 pub record IsKept (b : Standing) (t : Tally) : Type 0 where

@@ -29,7 +29,8 @@ contribution step outcome = outcome
 
 -- the worst of SUCCESS and what each step adds
 abbrev pub result_of : List StepPlan → List Results → Results
-result_of steps outcomes = fold (λ worst p. worse worst (contribution p.0 p.1)) Success (zip steps outcomes)
+result_of steps outcomes =
+    fold (λ worst p. worse worst (contribution p.0 p.1)) Success (zip steps outcomes)
 
 -- after this outcome of the step only steps that always run are run
 abbrev pub halts : StepPlan → Results → Bool
@@ -57,9 +58,11 @@ runs over halted step = not over && (not halted || step.always_run)
 
 -- how many steps after these outcomes are skipped before the next one runs, where one does
 abbrev pub skipped_after : List StepPlan → List Results → Option ℕ
-skipped_after steps outcomes = position (runs (is_over outcomes) (is_halted steps outcomes)) (drop (length outcomes) steps)
+skipped_after steps outcomes =
+    position (runs (is_over outcomes) (is_halted steps outcomes)) (drop (length outcomes) steps)
 
 -- what follows after these outcomes of the first steps, those of skipped steps too
 abbrev pub next_of : List StepPlan → List Results → Next
 next_of steps outcomes =
-    option_map_or (λ skipped. Step (length outcomes + skipped)) (skipped_after steps outcomes) (Ended (result_of steps outcomes))
+    option_map_or (λ skipped. Step (length outcomes + skipped)) (skipped_after steps outcomes)
+    (Ended (result_of steps outcomes))

@@ -1,3 +1,5 @@
+//! The board itself.
+
 ghost use Rattle.std.specs.Prelude.{◌≡◌, ℕ, ◌<◌, ◌≤◌, ◌&&◌, ◌+◌, ◌^◌, true, nat_lt, All, length, OnOk, OnErr, IfOk, IfErr, IsOk, ◌⊎◌, Some, None, Ok, Err};
 
 use crate::counts::Counts;
@@ -32,9 +34,14 @@ impl Model for Board {
 
     ghost Value = { Standing };
 
-    ghost view = { λ b. record { workers = b.workers.items; maxima = b.maxima.items; jobs = b.jobs.items } };
+    ghost view = { λ b. record {
+      workers = b.workers.items;
+      maxima = b.maxima.items;
+      jobs = b.jobs.items;
+    } };
 
-    ghost invariant = { λ b. IsKept (record { workers = b.workers.items; maxima = b.maxima.items; jobs = b.jobs.items })
+    ghost invariant = { λ b. IsKept
+        (record { workers = b.workers.items; maxima = b.maxima.items; jobs = b.jobs.items })
         b.counts };
 }
 
@@ -119,7 +126,8 @@ impl Board {
     /// unchanged.
     pub fn try_start(&mut self, id: u64) -> Result<Started, BoardRefusal>
         ensures started { OnOk result (result ≡ answer_of (on_build (start self.old) self.old id)) }
-        ensures board { OnOk result (self.new ≡ board_after self.old id (on_build (start self.old) self.old id)) }
+        ensures board { OnOk result (self.new
+            ≡ board_after self.old id (on_build (start self.old) self.old id)) }
         ensures refused { IfErr result (λ e. (on_build (start self.old) self.old id ≡ Err e)
             ⊎ (IsOk (on_build (start self.old) self.old id) × (e ≡ BoardRefusal.Mem))) }
         ensures unchanged { OnErr result (self.new ≡ self.old) }

@@ -1,3 +1,5 @@
+//! How many slots are taken and how often each lock is held.
+
 ghost use Rattle.std.specs.Prelude.{◌≡◌, ◌<◌, ◌≤◌, ◌^◌, All, length, replicate, slice_index, IfOk};
 ghost use Rattle.std.specs.List.{list_all};
 ghost use Rattle.bm_board.specs.Kept.{HasRoom, IsHeld, IsListed, IsTaken, are_free};
@@ -23,13 +25,21 @@ impl Model for Counts {
 
     ghost Value = { Tally };
 
-    ghost view = { λ c. record { taken = c.taken.items; counting = c.counting.items; exclusive = c.exclusive.items } };
+    ghost view = { λ c. record {
+      taken = c.taken.items;
+      counting = c.counting.items;
+      exclusive = c.exclusive.items;
+    } };
 }
 
 impl Counts {
     /// Nothing is held.
     pub fn new(alloc: Global, workers: usize, locks: usize) -> Result<Counts, AllocError>
-        ensures { IfOk result (λ c. c ≡ record { taken = replicate workers 0; counting = replicate locks 0; exclusive = replicate locks 0 }) }
+        ensures { IfOk result (λ c. c ≡ record {
+          taken = replicate workers 0;
+          counting = replicate locks 0;
+          exclusive = replicate locks 0;
+        }) }
     {
         Ok(Counts {
             taken: vec![in alloc; 0; workers]?,

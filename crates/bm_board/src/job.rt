@@ -1,3 +1,5 @@
+//! A build on the board: where it stands and what each call does to it.
+
 ghost use Rattle.std.specs.Prelude.{◌≡◌, ◌+◌, length, replicate, take, [], true, false, Ok};
 ghost use Rattle.bm_board.specs.Steps.{next_of};
 ghost use Rattle.bm_board.specs.Job.{IsSameHolder, answer_of, cancel, finish, first_of, give_up, is_holding, is_unreleased, is_waiting, job_after, phase_of, release, result_in, started, waiting};

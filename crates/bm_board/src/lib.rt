@@ -5,6 +5,7 @@
 mod board;
 mod counts;
 mod job;
+mod listed;
 mod locks;
 mod outcomes;
 mod plan;
@@ -14,6 +15,7 @@ mod worker;
 
 pub use board::Board;
 pub use job::{Phase, Started};
+pub use listed::{Copied, Listed};
 pub use outcomes::Outcomes;
 pub use plan::{Build, LockUse, LockUses, Mode, StepPlan, StepPlans, Words};
 pub use refusal::BoardRefusal;

@@ -50,7 +50,8 @@ pub fn may_have(mode: Mode, maximum: u32, counting: u32, exclusive: u32) -> bool
 pub fn take_locks(counts: &mut [u32], mode: Mode, uses: &[LockUse])
     requires distinct { are_distinct uses.now ≡ true }
     requires there { All (λ u. u.lock < length counts.old) uses.now }
-    requires room { All (λ u. is_mode u.mode mode ≡ true → slice_index counts.old u.lock + 1 < 2 ^ 32) uses.now }
+    requires room { All (λ u. is_mode u.mode mode ≡ true
+        → slice_index counts.old u.lock + 1 < 2 ^ 32) uses.now }
     ensures { (lock : ℕ) → lock < length counts.old → slice_index counts.new lock
         ≡ slice_index counts.old lock + (if list_any (is_use mode lock) uses.now then 1 else 0) }
 {
@@ -74,7 +75,8 @@ fn take_lock(counts: &mut [u32], mode: Mode, u: LockUse)
 pub fn give_locks(counts: &mut [u32], mode: Mode, uses: &[LockUse])
     requires distinct { are_distinct uses.now ≡ true }
     requires there { All (λ u. u.lock < length counts.old) uses.now }
-    requires held { All (λ u. is_mode u.mode mode ≡ true → 0 < slice_index counts.old u.lock) uses.now }
+    requires held { All (λ u. is_mode u.mode mode ≡ true
+        → 0 < slice_index counts.old u.lock) uses.now }
     ensures { (lock : ℕ) → lock < length counts.old → slice_index counts.old lock
         ≡ slice_index counts.new lock + (if list_any (is_use mode lock) uses.now then 1 else 0) }
 {

@@ -1,3 +1,5 @@
+//! Why the board refuses a call.
+
 use thiserror::Error;
 
 /// Why the board refuses a call.

@@ -1,3 +1,5 @@
+//! Which step of a build is next, and its result.
+
 ghost use Rattle.std.specs.Prelude.{◌≡◌, ℕ, ◌<◌, ◌≤◌, length, position, drop, fold};
 ghost use Rattle.std.specs.List.{list_any, zip};
 ghost use Rattle.bm_board.specs.Steps.{contribution, halts, is_halted, is_over, next_of, rank, result_of, runs, worse};

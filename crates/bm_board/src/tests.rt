@@ -1,24 +1,90 @@
+//! Worked runs of a board: each row is a call and what it gives.
+
 ghost use Rattle.std.specs.Prelude.{◌≤◌, All};
 
 use super::*;
 use bm_lines::Text;
 use bm_session::Results;
 use std::alloc::{AllocError, Global};
+use std::process::Abort;
 use std::test::Fail;
 
-// A step without words.
-fn make_step(
-    alloc: Global,
-    halt_on_failure: bool,
-    flunk_on_failure: bool,
-    always_run: bool,
-) -> StepPlan {
-    StepPlan {
-        name: Text::from_string(String::new(alloc)),
-        argv: Words::from_vec(Vec::new(alloc)),
+/// A call of a board.
+#[derive(Clone, Copy)]
+enum Call {
+    /// Adds a build of the worker, with these locks and so many steps.
+    Add(usize, &'static [LockUse], usize),
+    Ready(usize, bool),
+    Start(u64),
+    Done(u64, Results),
+    Cancel(u64),
+    Outcome(u64),
+    Release(u64),
+    GiveUp(u64),
+}
+
+/// What a call gives.
+#[derive(Clone, Copy, Debug, PartialEq, Eq)]
+enum Gives {
+    Added(u64),
+    Started(usize, Next),
+    Follows(Next),
+    Cancelled(bool),
+    Has(Option<Results>),
+    Nothing,
+    Refused(BoardRefusal),
+}
+
+use Call::*;
+use Gives::*;
+
+type Row = (Call, Gives);
+
+const COUNTING: LockUse = LockUse {
+    lock: 0,
+    mode: Mode::Counting,
+};
+
+const EXCLUSIVE: LockUse = LockUse {
+    lock: 0,
+    mode: Mode::Exclusive,
+};
+
+/// A step's name, its words, and whether it halts or fails its build by a failure and always runs.
+type Plan = (&'static str, &'static [&'static str], bool, bool, bool);
+
+fn try_words(alloc: Global, words: &[&str]) -> Result<Words, AllocError> {
+    let mut texts = Vec::with_capacity(alloc, words.len())?;
+    for word in words {
+        texts.push(Text::from_str(alloc, word)?)?;
+    }
+    Ok(Words::from_vec(texts))
+}
+
+fn try_step(alloc: Global, plan: &Plan) -> Result<StepPlan, AllocError> {
+    let (name, words, halt_on_failure, flunk_on_failure, always_run) = *plan;
+    Ok(StepPlan {
+        name: Text::from_str(alloc, name)?,
+        argv: try_words(alloc, words)?,
         halt_on_failure,
         flunk_on_failure,
         always_run,
+    })
+}
+
+fn try_steps(alloc: Global, plans: &[Plan]) -> Result<Vec<StepPlan>, AllocError> {
+    let mut steps = Vec::with_capacity(alloc, plans.len())?;
+    for plan in plans {
+        steps.push(try_step(alloc, plan)?)?;
+    }
+    Ok(steps)
+}
+
+/// The steps. Where one request for memory is refused, the second try succeeds; so it is below.
+fn make_steps(alloc: Global, plans: &[Plan]) -> Result<Vec<StepPlan>, AllocError> {
+    match try_steps(alloc, plans) {
+        Err(_) => try_steps(alloc, plans),
+        steps => steps,
     }
 }
 
@@ -28,9 +94,10 @@ fn try_build(
     locks: &[LockUse],
     steps: usize,
 ) -> Result<Build, AllocError> {
+    static PLAIN: Plan = ("", &[], false, true, false);
     let mut plans = Vec::with_capacity(alloc, steps)?;
     for _ in 0..steps {
-        plans.push(make_step(alloc, false, true, false))?;
+        plans.push(try_step(alloc, &PLAIN)?)?;
     }
     Ok(Build {
         worker,
@@ -39,16 +106,18 @@ fn try_build(
     })
 }
 
-// A build of so many steps. Where one request for memory is refused, the second try succeeds; so it is below.
 fn make_build(
     alloc: Global,
     worker: usize,
     locks: &[LockUse],
     steps: usize,
-) -> Result<Build, AllocError> {
+) -> Result<Build, BoardRefusal> {
     match try_build(alloc, worker, locks, steps) {
-        Err(_) => try_build(alloc, worker, locks, steps),
-        build => build,
+        Ok(build) => Ok(build),
+        Err(_) => match try_build(alloc, worker, locks, steps) {
+            Ok(build) => Ok(build),
+            Err(_) => Err(BoardRefusal::Mem),
+        },
     }
 }
 
@@ -70,206 +139,260 @@ fn add(board: &mut Board, build: Build) -> Result<u64, BoardRefusal> {
     }
 }
 
-fn start(board: &mut Board, id: u64) -> Result<Started, BoardRefusal> {
-    match board.try_start(id) {
-        Err(BoardRefusal::Mem) => board.try_start(id),
-        started => started,
+fn start(board: &mut Board, id: u64) -> Result<Gives, BoardRefusal> {
+    let started = match board.try_start(id) {
+        Err(BoardRefusal::Mem) => board.try_start(id)?,
+        started => started?,
+    };
+    Ok(Started(started.worker, started.next))
+}
+
+fn set_ready(board: &mut Board, worker: usize, ready: bool) -> Result<Gives, BoardRefusal> {
+    if worker >= board.workers() {
+        return Err(BoardRefusal::NoWorker);
     }
+    board.set_ready(worker, ready);
+    Ok(Nothing)
 }
 
-fn counting(lock: usize) -> LockUse {
-    LockUse {
-        lock,
-        mode: Mode::Counting,
-    }
+fn release(board: &mut Board, id: u64) -> Result<Gives, BoardRefusal> {
+    board.release(id)?;
+    Ok(Nothing)
 }
 
-fn exclusive(lock: usize) -> LockUse {
-    LockUse {
-        lock,
-        mode: Mode::Exclusive,
-    }
+fn give_up(board: &mut Board, id: u64) -> Result<Gives, BoardRefusal> {
+    board.give_up(id)?;
+    Ok(Nothing)
 }
 
-fn on_worker(worker: usize) -> Result<Started, BoardRefusal> {
-    Ok(Started {
-        worker,
-        next: Next::Step(0),
-    })
-}
-
-fn set_all_ready(board: &mut Board) {
-    for worker in 0..board.workers() {
-        if worker < board.workers() {
-            board.set_ready(worker, true);
+fn try_call(alloc: Global, board: &mut Board, call: Call) -> Result<Gives, BoardRefusal> {
+    match call {
+        Add(worker, locks, steps) => {
+            let build = make_build(alloc, worker, locks, steps)?;
+            Ok(Added(add(board, build)?))
         }
+        Ready(worker, ready) => set_ready(board, worker, ready),
+        Start(id) => start(board, id),
+        Done(id, outcome) => Ok(Follows(board.step_done(id, outcome)?)),
+        Cancel(id) => Ok(Cancelled(board.cancel(id)?)),
+        Outcome(id) => Ok(Has(board.result(id)?)),
+        Release(id) => release(board, id),
+        GiveUp(id) => give_up(board, id),
     }
+}
+
+fn called(alloc: Global, board: &mut Board, call: Call) -> Gives {
+    match try_call(alloc, board, call) {
+        Ok(gives) => gives,
+        Err(refusal) => Refused(refusal),
+    }
+}
+
+/// The board's calls give what their rows say; rows count from 0.
+fn goes_through(
+    rt: &(impl AllocGlobal + Abort),
+    board: &mut Board,
+    rows: &[Row],
+) -> Result<(), Fail> {
+    for (n, (call, gives)) in rows.iter().enumerate() {
+        let given = called(rt.alloc(), board, *call);
+        assert!(rt; given == *gives, "row {n}: {given:?}");
+    }
+    Ok(())
 }
 
 #[test]
 fn locks_and_slots_are_held_from_start_to_release(rt: HostRuntime) -> Result<(), Fail> {
-    let alloc = rt.alloc();
-    let mut board = make_board(alloc, &[1, 1, 1], &[2])?;
-    set_all_ready(&mut board);
-    for (worker, uses) in [
-        (0, counting(0)),
-        (1, counting(0)),
-        (2, exclusive(0)),
-        (0, counting(0)),
-    ] {
-        let build = make_build(alloc, worker, &[uses], 1)?;
-        assert!(rt; add(&mut board, build).is_ok());
-    }
-    assert_eq!(rt; start(&mut board, 0), on_worker(0));
-    assert_eq!(rt; start(&mut board, 1), on_worker(1));
-    assert_eq!(rt; start(&mut board, 2), Err(BoardRefusal::LockHeld));
-    assert_eq!(rt; start(&mut board, 3), Err(BoardRefusal::NoWorker));
-    assert_eq!(rt;
-        board.step_done(0, Results::Success),
-        Ok(Next::Ended(Results::Success))
-    );
-    assert_eq!(rt; board.release(0), Ok(()));
-    assert_eq!(rt; start(&mut board, 2), Err(BoardRefusal::LockHeld));
-    assert_eq!(rt;
-        board.step_done(1, Results::Failure),
-        Ok(Next::Ended(Results::Failure))
-    );
-    assert_eq!(rt; board.release(1), Ok(()));
-    assert_eq!(rt; start(&mut board, 2), on_worker(2));
-    assert_eq!(rt; start(&mut board, 9), Err(BoardRefusal::NoBuild));
-    assert_eq!(rt; board.release(2), Err(BoardRefusal::NotRunning));
-    Ok(())
+    static ROWS: [Row; 19] = [
+        (Ready(0, true), Nothing),
+        (Ready(1, true), Nothing),
+        (Ready(2, true), Nothing),
+        (Add(0, &[COUNTING], 1), Added(0)),
+        (Add(1, &[COUNTING], 1), Added(1)),
+        (Add(2, &[EXCLUSIVE], 1), Added(2)),
+        (Add(0, &[COUNTING], 1), Added(3)),
+        (Start(0), Started(0, Next::Step(0))),
+        (Start(1), Started(1, Next::Step(0))),
+        (Start(2), Refused(BoardRefusal::LockHeld)),
+        (Start(3), Refused(BoardRefusal::NoWorker)),
+        (
+            Done(0, Results::Success),
+            Follows(Next::Ended(Results::Success)),
+        ),
+        (Release(0), Nothing),
+        (Start(2), Refused(BoardRefusal::LockHeld)),
+        (
+            Done(1, Results::Failure),
+            Follows(Next::Ended(Results::Failure)),
+        ),
+        (Release(1), Nothing),
+        (Start(2), Started(2, Next::Step(0))),
+        (Start(9), Refused(BoardRefusal::NoBuild)),
+        (Release(2), Refused(BoardRefusal::NotRunning)),
+    ];
+    goes_through(&rt, &mut make_board(rt.alloc(), &[1, 1, 1], &[2])?, &ROWS)
 }
 
 #[test]
 fn builds_are_cancelled_and_given_up(rt: HostRuntime) -> Result<(), Fail> {
-    let alloc = rt.alloc();
-    let mut board = make_board(alloc, &[1], &[1])?;
-    set_all_ready(&mut board);
-    for _ in 0..3 {
-        let build = make_build(alloc, 0, &[], 1)?;
-        assert!(rt; add(&mut board, build).is_ok());
-    }
-    assert_eq!(rt; board.cancel(0), Ok(false));
-    assert_eq!(rt; board.result(0), Ok(Some(Results::Cancelled)));
-    assert_eq!(rt; board.cancel(0), Err(BoardRefusal::NotRunning));
-    assert_eq!(rt; start(&mut board, 1), on_worker(0));
-    assert_eq!(rt; board.result(1), Ok(None));
-    assert_eq!(rt; board.cancel(1), Ok(true));
-    assert_eq!(rt;
-        board.step_done(1, Results::Success),
-        Ok(Next::Ended(Results::Cancelled))
-    );
-    assert_eq!(rt; board.give_up(2), Ok(()));
-    assert_eq!(rt; board.result(2), Ok(Some(Results::Retry)));
-    assert_eq!(rt; start(&mut board, 2), Err(BoardRefusal::NotWaiting));
-    let twice = make_build(alloc, 0, &[counting(0), exclusive(0)], 1)?;
-    assert_eq!(rt; add(&mut board, twice), Err(BoardRefusal::BadLock));
-    assert_eq!(rt; board.release(1), Ok(()));
-    let empty = make_build(alloc, 0, &[], 0)?;
-    assert_eq!(rt; add(&mut board, empty), Ok(3));
-    assert_eq!(rt;
-        start(&mut board, 3),
-        Ok(Started {
-            worker: 0,
-            next: Next::Ended(Results::Success)
-        })
-    );
-    Ok(())
+    static ROWS: [Row; 18] = [
+        (Ready(0, true), Nothing),
+        (Add(0, &[], 1), Added(0)),
+        (Add(0, &[], 1), Added(1)),
+        (Add(0, &[], 1), Added(2)),
+        (Cancel(0), Cancelled(false)),
+        (Outcome(0), Has(Some(Results::Cancelled))),
+        (Cancel(0), Refused(BoardRefusal::NotRunning)),
+        (Start(1), Started(0, Next::Step(0))),
+        (Outcome(1), Has(None)),
+        (Cancel(1), Cancelled(true)),
+        (
+            Done(1, Results::Success),
+            Follows(Next::Ended(Results::Cancelled)),
+        ),
+        (GiveUp(2), Nothing),
+        (Outcome(2), Has(Some(Results::Retry))),
+        (Start(2), Refused(BoardRefusal::NotWaiting)),
+        (
+            Add(0, &[COUNTING, EXCLUSIVE], 1),
+            Refused(BoardRefusal::BadLock),
+        ),
+        (Release(1), Nothing),
+        (Add(0, &[], 0), Added(3)),
+        (Start(3), Started(0, Next::Ended(Results::Success))),
+    ];
+    goes_through(&rt, &mut make_board(rt.alloc(), &[1], &[1])?, &ROWS)
 }
 
 #[test]
 fn lost_worker_ends_its_build_between_two_steps(rt: HostRuntime) -> Result<(), Fail> {
-    let alloc = rt.alloc();
-    let mut board = make_board(alloc, &[1], &[])?;
-    set_all_ready(&mut board);
-    for steps in [3, 1] {
-        let build = make_build(alloc, 0, &[], steps)?;
-        assert!(rt; add(&mut board, build).is_ok());
-    }
-    assert_eq!(rt; start(&mut board, 0), on_worker(0));
-    assert_eq!(rt; board.step_done(0, Results::Success), Ok(Next::Step(1)));
-    if 0 < board.workers() {
-        board.set_ready(0, false);
-    }
-    assert_eq!(rt;
-        board.step_done(0, Results::Retry),
-        Ok(Next::Ended(Results::Retry))
-    );
-    assert_eq!(rt; board.release(0), Ok(()));
-    assert_eq!(rt; start(&mut board, 1), Err(BoardRefusal::NoWorker));
-    assert_eq!(rt; board.give_up(1), Ok(()));
-    Ok(())
+    static ROWS: [Row; 10] = [
+        (Ready(0, true), Nothing),
+        (Add(0, &[], 3), Added(0)),
+        (Add(0, &[], 1), Added(1)),
+        (Start(0), Started(0, Next::Step(0))),
+        (Done(0, Results::Success), Follows(Next::Step(1))),
+        (Ready(0, false), Nothing),
+        (
+            Done(0, Results::Retry),
+            Follows(Next::Ended(Results::Retry)),
+        ),
+        (Release(0), Nothing),
+        (Start(1), Refused(BoardRefusal::NoWorker)),
+        (GiveUp(1), Nothing),
+    ];
+    goes_through(&rt, &mut make_board(rt.alloc(), &[1], &[])?, &ROWS)
 }
 
 #[test]
 fn board_takes_ten_thousand_builds(rt: HostRuntime) -> Result<(), Fail> {
-    let alloc = rt.alloc();
-    let mut board = make_board(alloc, &[4], &[])?;
+    static MORE: [Row; 2] = [
+        (Add(0, &[], 0), Refused(BoardRefusal::Full)),
+        (Add(1, &[], 0), Refused(BoardRefusal::NoWorker)),
+    ];
+    let mut board = make_board(rt.alloc(), &[4], &[])?;
     for id in 0..10_000 {
-        let build = make_build(alloc, 0, &[], 0)?;
-        assert_eq!(rt; add(&mut board, build), Ok(id));
+        let given = called(rt.alloc(), &mut board, Add(0, &[], 0));
+        assert!(rt; given == Added(id), "build {id}: {given:?}");
     }
-    let more = make_build(alloc, 0, &[], 0)?;
-    assert_eq!(rt; add(&mut board, more), Err(BoardRefusal::Full));
-    let unknown = make_build(alloc, 1, &[], 0)?;
-    assert_eq!(rt; add(&mut board, unknown), Err(BoardRefusal::NoWorker));
-    Ok(())
+    goes_through(&rt, &mut board, &MORE)
+}
+
+/// What follows, where there are no more outcomes than steps.
+fn next_after(steps: &[StepPlan], outcomes: &[Results]) -> Option<Next> {
+    if outcomes.len() > steps.len() {
+        return None;
+    }
+    Some(next_step(steps, outcomes))
 }
 
 #[test]
 fn steps_follow_by_their_flags(rt: HostRuntime) -> Result<(), Fail> {
-    let alloc = rt.alloc();
-    let steps = [
-        make_step(alloc, true, true, false),
-        make_step(alloc, false, false, false),
-        make_step(alloc, false, true, true),
+    static PLANS: [Plan; 3] = [
+        ("", &[], true, true, false),
+        ("", &[], false, false, false),
+        ("", &[], false, true, true),
     ];
-    for (outcomes, next) in [
-        ([].as_slice(), Next::Step(0)),
-        ([Results::Failure].as_slice(), Next::Step(2)),
-        ([Results::Retry].as_slice(), Next::Ended(Results::Retry)),
+    static ROWS: [(&[Results], Next); 7] = [
+        (&[], Next::Step(0)),
+        (&[Results::Failure], Next::Step(2)),
+        (&[Results::Retry], Next::Ended(Results::Retry)),
+        (&[Results::Success, Results::Failure], Next::Step(2)),
+        (&[Results::Success, Results::Exception], Next::Step(2)),
         (
-            [Results::Success, Results::Failure].as_slice(),
-            Next::Step(2),
-        ),
-        (
-            [Results::Success, Results::Exception].as_slice(),
-            Next::Step(2),
-        ),
-        (
-            [Results::Success, Results::Failure, Results::Success].as_slice(),
+            &[Results::Success, Results::Failure, Results::Success],
             Next::Ended(Results::Success),
         ),
         (
-            [Results::Failure, Results::Skipped, Results::Warnings].as_slice(),
+            &[Results::Failure, Results::Skipped, Results::Warnings],
             Next::Ended(Results::Failure),
         ),
-    ] {
-        if outcomes.len() <= steps.len() {
-            assert_eq!(rt; next_step(&steps, outcomes), next);
-        }
+    ];
+    let steps = make_steps(rt.alloc(), &PLANS)?;
+    for (n, (outcomes, next)) in ROWS.iter().enumerate() {
+        assert!(rt;
+            next_after(steps.as_slice(), outcomes) == Some(*next),
+            "row {n}"
+        );
     }
     Ok(())
 }
 
+fn are_words(words: &[Text], wanted: &[&str]) -> bool {
+    words.len() == wanted.len() && words.iter().zip(wanted).all(|(a, b)| a.as_str() == *b)
+}
+
+fn is_step(step: &StepPlan, plan: &Plan) -> bool {
+    step.name.as_str() == plan.0
+        && are_words(step.argv.as_slice(), plan.1)
+        && step.halt_on_failure == plan.2
+        && step.flunk_on_failure == plan.3
+        && step.always_run == plan.4
+}
+
+fn are_steps(steps: &[StepPlan], plans: &[Plan]) -> bool {
+    steps.len() == plans.len()
+        && steps
+            .iter()
+            .zip(plans)
+            .all(|(step, plan)| is_step(step, plan))
+}
+
 #[test]
 fn build_is_copied_whole(rt: HostRuntime) -> Result<(), Fail> {
-    let alloc = rt.alloc();
-    let build = make_build(alloc, 1, &[exclusive(2)], 2)?;
+    static PLANS: [Plan; 2] = [
+        ("compile", &["make", "all"], true, false, true),
+        ("test", &["make"], false, true, false),
+    ];
+    let mut build = make_build(rt.alloc(), 1, &[EXCLUSIVE, COUNTING], 0)?;
+    build.steps = StepPlans::from_vec(make_steps(rt.alloc(), &PLANS)?);
     let copy = match build.copy() {
         Err(_) => build.copy()?,
         Ok(copy) => copy,
     };
-    assert_eq!(rt; copy.worker, 1);
-    assert_eq!(rt; copy.locks.as_slice(), [exclusive(2)].as_slice());
-    assert_eq!(rt; copy.steps.as_slice().len(), 2);
+    let are_its_own = copy.locks.as_slice() == [EXCLUSIVE, COUNTING].as_slice();
+    assert!(rt; copy.worker == 1 && are_its_own);
+    assert!(rt; are_steps(copy.steps.as_slice(), &PLANS));
     Ok(())
 }
 
+fn text_of(alloc: Global, refusal: BoardRefusal) -> Option<String> {
+    match format!(in alloc; "{refusal}") {
+        Ok(text) => Some(text),
+        Err(_) => format!(in alloc; "{refusal}").ok(),
+    }
+}
+
+fn has_text(alloc: Global, refusal: BoardRefusal, wanted: &str) -> bool {
+    match text_of(alloc, refusal) {
+        Some(text) => text.as_str() == wanted,
+        None => false,
+    }
+}
+
 #[test]
-fn refusals_have_their_texts(rt: HostRuntime) -> Result<(), Fail> {
-    for (refusal, text) in [
+fn refusals_have_their_texts(rt: HostRuntime) {
+    static ROWS: [(BoardRefusal, &str); 8] = [
         (BoardRefusal::NoBuild, "no such build"),
         (BoardRefusal::NotWaiting, "build not waiting"),
         (BoardRefusal::NotRunning, "build not running"),
@@ -278,12 +401,8 @@ fn refusals_have_their_texts(rt: HostRuntime) -> Result<(), Fail> {
         (BoardRefusal::BadLock, "bad lock"),
         (BoardRefusal::Full, "full"),
         (BoardRefusal::Mem, "out of memory"),
-    ] {
-        let told = match format!(in rt.alloc(); "{refusal}") {
-            Err(_) => format!(in rt.alloc(); "{refusal}")?,
-            Ok(told) => told,
-        };
-        assert_eq!(rt; told.as_str(), text);
+    ];
+    for (refusal, text) in &ROWS {
+        assert!(rt; has_text(rt.alloc(), *refusal, text), "{refusal:?}");
     }
-    Ok(())
 }

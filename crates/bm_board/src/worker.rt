@@ -1,3 +1,5 @@
+//! A worker as the board sees it.
+
 /// A worker as the board sees it.
 #[derive(Clone, Copy, Debug)]
 pub struct Worker {

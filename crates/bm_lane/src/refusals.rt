@@ -1,3 +1,4 @@
+//! Why a call of a lane is refused.
 use bm_session::Refusal;
 use thiserror::Error;
 

@@ -1,3 +1,4 @@
+//! The end of a lane that shows its items.
 ghost use Rattle.std.specs.Prelude.{◌≡◌, [], MatchBool, true, false};
 ghost use Rattle.std.specs.Arc.{arc_value};
 ghost use Rattle.crossbeam_queue.specs.Passes.{IsPassOf};

@@ -1,3 +1,4 @@
+//! Names for the queues and the copies of lanes.
 use std::marker::Brand;
 
 /// Names the queue and the copy of each lane, by the lane's number. It has no functions: it is picked once for all

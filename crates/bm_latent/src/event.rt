@@ -1,3 +1,5 @@
+//! What a latent worker is, what happens to it, and what is then to be done.
+
 /// Where a latent worker stands.
 #[derive(Clone, Copy, Debug, PartialEq, Eq)]
 pub enum LatentState {

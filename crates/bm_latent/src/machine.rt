@@ -1,3 +1,5 @@
+//! The machine of a latent worker: the table by which it moves on.
+
 ghost use Rattle.std.specs.Prelude.{◌≡◌, ℕ, ◌+◌, ◌≤◌, nat_le};
 ghost use Rattle.bm_latent.specs.Latent.{act_after, idle_after, row, standing_after};
 
@@ -38,6 +40,14 @@ impl Latent {
         }
     }
 
+    /// Where the worker stands. What follows from an event depends on it: a process that ends is started again where
+    /// the worker is `Waiting`, and its builds are lost where it is `Substantiated` or `Held`.
+    pub fn state(&self) -> LatentState
+        ensures { result ≡ self.now.state }
+    {
+        self.state
+    }
+
     /// One event: moves on as the table says, and answers what is to be done.
     pub fn step(&mut self, event: LatentEvent) -> Act
         ensures standing { self.new ≡ standing_after self.old event }
@@ -52,8 +62,11 @@ impl Latent {
             _ => self.idle,
         };
         let (state, act) = find_row(self.state, event, last);
-        self.state = state;
-        self.idle = idle;
+        *self = Latent {
+            state,
+            idle,
+            limit: self.limit,
+        };
         act
     }
 }

@@ -1,42 +1,68 @@
+//! Worked runs of a latent worker.
+
+ghost use Rattle.std.specs.Prelude.{◌≤◌};
+
 use super::*;
+use std::process::Abort;
 use std::test::Fail;
 
-#[test]
-fn idle_worker_is_stopped_at_its_limit(rt: HostRuntime) -> Result<(), Fail> {
-    let mut worker = Latent::new(3);
-    for (event, act) in [
-        (LatentEvent::Want, Act::Start),
-        (LatentEvent::Want, Act::None),
-        (LatentEvent::Started, Act::None),
-        (LatentEvent::Attached, Act::Give),
-        (LatentEvent::Lost, Act::Stop),
-        (LatentEvent::Want, Act::None),
-        (LatentEvent::Want, Act::None),
-        (LatentEvent::Stopped, Act::Start),
-        (LatentEvent::Attached, Act::Give),
-        (LatentEvent::IdleTick, Act::None),
-        (LatentEvent::IdleTick, Act::None),
-        (LatentEvent::IdleTick, Act::Stop),
-    ] {
-        assert_eq!(rt; worker.step(event), act, "at {event:?}");
+/// An event, what is to be done after it, and where the worker stands then.
+type Row = (LatentEvent, Act, LatentState);
+
+/// A worker with this limit goes through the rows.
+fn goes_through(rt: &impl Abort, limit: u32, rows: &[Row]) -> Result<(), Fail>
+    requires { 1 ≤ limit }
+{
+    let mut worker = Latent::new(limit);
+    assert!(rt; worker.state() == LatentState::Not);
+    for (event, act, state) in rows {
+        let given = worker.step(*event);
+        assert!(rt;
+            given == *act && worker.state() == *state,
+            "at {event:?}: {worker:?}"
+        );
     }
     Ok(())
 }
 
 #[test]
+fn idle_worker_is_stopped_at_its_limit(rt: HostRuntime) -> Result<(), Fail> {
+    static ROWS: [Row; 12] = [
+        (LatentEvent::Want, Act::Start, LatentState::Substantiating),
+        (LatentEvent::Want, Act::None, LatentState::Substantiating),
+        (LatentEvent::Started, Act::None, LatentState::Substantiating),
+        (LatentEvent::Attached, Act::Give, LatentState::Substantiated),
+        (LatentEvent::Lost, Act::Stop, LatentState::Insubstantiating),
+        (LatentEvent::Want, Act::None, LatentState::Waiting),
+        (LatentEvent::Want, Act::None, LatentState::Waiting),
+        (
+            LatentEvent::Stopped,
+            Act::Start,
+            LatentState::Substantiating,
+        ),
+        (LatentEvent::Attached, Act::Give, LatentState::Substantiated),
+        (LatentEvent::IdleTick, Act::None, LatentState::Substantiated),
+        (LatentEvent::IdleTick, Act::None, LatentState::Substantiated),
+        (
+            LatentEvent::IdleTick,
+            Act::Stop,
+            LatentState::Insubstantiating,
+        ),
+    ];
+    goes_through(&rt, 3, &ROWS)
+}
+
+#[test]
 fn cut_worker_is_held_until_resumed_or_lost(rt: HostRuntime) -> Result<(), Fail> {
-    let mut worker = Latent::new(1);
-    for (event, act) in [
-        (LatentEvent::Want, Act::Start),
-        (LatentEvent::Attached, Act::Give),
-        (LatentEvent::Cut, Act::Hold),
-        (LatentEvent::Want, Act::None),
-        (LatentEvent::Attached, Act::Give),
-        (LatentEvent::Cut, Act::Hold),
-        (LatentEvent::Lost, Act::Stop),
-        (LatentEvent::Stopped, Act::None),
-    ] {
-        assert_eq!(rt; worker.step(event), act, "at {event:?}");
-    }
-    Ok(())
+    static ROWS: [Row; 8] = [
+        (LatentEvent::Want, Act::Start, LatentState::Substantiating),
+        (LatentEvent::Attached, Act::Give, LatentState::Substantiated),
+        (LatentEvent::Cut, Act::Hold, LatentState::Held),
+        (LatentEvent::Want, Act::None, LatentState::Held),
+        (LatentEvent::Attached, Act::Give, LatentState::Substantiated),
+        (LatentEvent::Cut, Act::Hold, LatentState::Held),
+        (LatentEvent::Lost, Act::Stop, LatentState::Insubstantiating),
+        (LatentEvent::Stopped, Act::None, LatentState::Not),
+    ];
+    goes_through(&rt, 1, &ROWS)
 }

@@ -1,6 +1,9 @@
+-- To believe: the names of logs, the lines of texts, and what an update carries.
 pub mod Names
 pub mod Lines
 pub mod Parcels
+-- How lists lie in memory, and the places of many names. They help proofs; outside this crate they say what `OneOrMany` and
+-- `NameTable` hold, and no more.
 pub mod OneOrMany
 pub mod Shared
 pub mod Places

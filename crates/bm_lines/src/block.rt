@@ -50,6 +50,7 @@ impl Block {
         }
     }
 
+    /// The lines, in order.
     pub fn lines(&self) -> &[Line]
         ensures { result.now ≡ self.now }
     {

@@ -58,6 +58,7 @@ impl LogName {
         Ok(Some(LogName { text: Some(text) }))
     }
 
+    /// The text of the name.
     pub fn as_str(&self) -> &str
         ensures text { result.now ≡ self.now }
         ensures name { IsLogName self.now }

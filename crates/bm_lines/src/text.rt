@@ -20,18 +20,21 @@ impl Model for Text {
 }
 
 impl Text {
+    /// The text of a string, which isn't copied.
     pub fn from_string(string: String) -> Text
         ensures { result ≡ string_bytes string }
     {
         Text { string }
     }
 
+    /// The string of the text, which isn't copied.
     pub fn into_string(self) -> String
         ensures { string_bytes result ≡ self }
     {
         self.string
     }
 
+    /// The characters.
     pub fn as_str(&self) -> &str
         ensures { result.now ≡ self.now }
     {

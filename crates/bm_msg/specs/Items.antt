@@ -49,4 +49,5 @@ item_fields _ = None
 -- what the items carry, in order
 abbrev pub fields_of : Trees → Option (List Field)
 fields_of none = Some []
-fields_of (item t ts) = option_and_then (λ front. option_map (λ back. front ++ back) (fields_of ts)) (item_fields t)
+fields_of (item t ts) =
+    option_and_then (λ front. option_map (λ back. front ++ back) (fields_of ts)) (item_fields t)

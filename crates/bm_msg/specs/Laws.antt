@@ -52,4 +52,6 @@ ToldOnce = (t : Tree) (m n : Meaning) → IsMessage t m → IsMessage t n → m 
 
 -- Whatever tree the bytes of a message spell is that message.
 abbrev pub WrittenIsRead : Type 0
-WrittenIsRead = (m : Meaning) → IsPlainMessage m → IsReadBack (tree_of m) → (t : Tree) → Spells (written (tree_of m)) t → IsMessage t m
+WrittenIsRead =
+    (m : Meaning) → IsPlainMessage m → IsReadBack (tree_of m)
+    → (t : Tree) → Spells (written (tree_of m)) t → IsMessage t m

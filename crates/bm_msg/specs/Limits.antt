@@ -29,7 +29,8 @@ IsShortOption None = Unit {0}
 IsShortOption (Some s) = length s < 2 ^ 32
 
 abbrev pub IsShortRequest : Asked → Type 0
-IsShortRequest (auth username password session) = (length username < 2 ^ 32) × (length password < 2 ^ 32) × IsShortOption session
+IsShortRequest (auth username password session) =
+    (length username < 2 ^ 32) × (length password < 2 ^ 32) × IsShortOption session
 IsShortRequest (print message) = length message < 2 ^ 32
 IsShortRequest keepalive = Unit {0}
 IsShortRequest get_worker_info = Unit {0}

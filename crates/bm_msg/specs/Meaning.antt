@@ -21,7 +21,8 @@ pub data Asked : Type 0 where
   complete : ℕ → Option (List ℕ) → Asked
   unknown : List ℕ → Asked
 
--- a request with its number, or a response with the number, the result and whether it is an exception
+-- a request with its number, or a response with the number, the result and whether it is an
+-- exception
 pub data Meaning : Type 0 where
   request : ℕ → Asked → Meaning
   response : ℕ → Tree → Bool → Meaning

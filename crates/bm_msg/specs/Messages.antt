@@ -28,7 +28,8 @@ HasCommand t k = HasText t (codes "command_id") (decimal k) × (k < 2 ^ 63)
 
 -- the args of an update are its items
 abbrev pub HasItems : Tree → List Field → Type 0
-HasItems t fields = (items : Trees) × (field t (codes "args") ≡ Some (array items)) × (fields_of items ≡ Some fields)
+HasItems t fields =
+    (items : Trees) × (field t (codes "args") ≡ Some (array items)) × (fields_of items ≡ Some fields)
 
 -- the args of a complete are nil, or the text that names a fault
 abbrev pub HasFault : Tree → Option (List ℕ) → Type 0
@@ -45,7 +46,10 @@ session_of _ = None
 
 -- the operations of the protocol
 abbrev pub ops : List (List ℕ)
-ops = codes "auth" ∷ codes "update" ∷ codes "complete" ∷ codes "print" ∷ codes "keepalive" ∷ codes "get_worker_info" ∷ codes "shutdown" ∷ codes "start_command" ∷ codes "interrupt_command" ∷ codes "response" ∷ []
+ops =
+    codes "auth" ∷ codes "update" ∷ codes "complete" ∷ codes "print" ∷ codes "keepalive"
+    ∷ codes "get_worker_info" ∷ codes "shutdown" ∷ codes "start_command"
+    ∷ codes "interrupt_command" ∷ codes "response" ∷ []
 
 abbrev pub is_op : List ℕ → Bool
 is_op op = list_any (λ known. bytes_eq op known) ops
@@ -53,10 +57,13 @@ is_op op = list_any (λ known. bytes_eq op known) ops
 -- the tree asks this
 abbrev pub IsRequest : Tree → Asked → Type 0
 IsRequest t (auth username password session) =
-    HasOp t (codes "auth") × HasText t (codes "username") username × HasText t (codes "password") password
+    HasOp t (codes "auth")
+    × HasText t (codes "username") username × HasText t (codes "password") password
     × (session_of (field t (codes "session")) ≡ session)
-IsRequest t (update command fields) = HasOp t (codes "update") × HasCommand t command × HasItems t fields
-IsRequest t (complete command fault) = HasOp t (codes "complete") × HasCommand t command × HasFault t fault
+IsRequest t (update command fields) =
+    HasOp t (codes "update") × HasCommand t command × HasItems t fields
+IsRequest t (complete command fault) =
+    HasOp t (codes "complete") × HasCommand t command × HasFault t fault
 IsRequest t (print message) = HasOp t (codes "print") × HasText t (codes "message") message
 IsRequest t keepalive = HasOp t (codes "keepalive")
 IsRequest t get_worker_info = HasOp t (codes "get_worker_info")
@@ -85,12 +92,14 @@ abbrev pub IsMessage : Tree → Meaning → Type 0
 IsMessage t (request n asked) = HasNumber t n × IsRequest t asked
 IsMessage t (response n result exception) =
     HasNumber t n × HasOp t (codes "response")
-    × (is_exception (field t (codes "is_exception")) ≡ exception) × (result_of exception (field t (codes "result")) ≡ result)
+    × (is_exception (field t (codes "is_exception")) ≡ exception)
+    × (result_of exception (field t (codes "result")) ≡ result)
 
 -- The tree is no message, and this is the first reason.
 abbrev pub IsFaulty : Tree → MsgError → Type 0
 IsFaulty t NotMap = ¬ ((pairs : Pairs) × (t ≡ dict pairs))
 IsFaulty t NoSeq = ((pairs : Pairs) × (t ≡ dict pairs)) × ((n : ℕ) → ¬ HasNumber t n)
 IsFaulty t NoOp = ((n : ℕ) × HasNumber t n) × ((op : List ℕ) → ¬ HasOp t op)
-IsFaulty t (BadArgs n) = HasNumber t n × ((op : List ℕ) × HasOp t op) × ((m : Meaning) → ¬ IsMessage t m)
+IsFaulty t (BadArgs n) =
+    HasNumber t n × ((op : List ℕ) × HasOp t op) × ((m : Meaning) → ¬ IsMessage t m)
 IsFaulty t Mem = ⊥

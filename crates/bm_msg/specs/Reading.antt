@@ -56,7 +56,9 @@ text_at t key = option_and_then str_of (field t key)
 -- an item of a named log by its two parts
 abbrev pub log_item : Tree → Tree → Option (List Field)
 log_item n v =
-    option_and_then (λ name. if is_log_name name then option_map (λ s. Named name s ∷ []) (text_of v) else None) (str_of n)
+    option_and_then
+    (λ name. if is_log_name name then option_map (λ s. Named name s ∷ []) (text_of v) else None)
+    (str_of n)
 
 -- an item by its two parts
 abbrev pub item_parts : Tree → Tree → Option (List Field)
@@ -71,10 +73,12 @@ number_at t = option_and_then seq_of (field t (codes "seq_number"))
 
 -- digits, and no 0 in front of others
 abbrev pub is_numeral : List ℕ → Bool
-is_numeral s = nat_lt 0 (length s) && all_ascii_digits s && (not (slice_index s 0 == 48) || length s == 1)
+is_numeral s =
+    nat_lt 0 (length s) && all_ascii_digits s && (not (slice_index s 0 == 48) || length s == 1)
 
 unfoldable pub command_number : List ℕ → Option ℕ
-command_number s = if is_numeral s && nat_lt (digits_value 10 s) (2 ^ 63) then Some (digits_value 10 s) else None
+command_number s =
+    if is_numeral s && nat_lt (digits_value 10 s) (2 ^ 63) then Some (digits_value 10 s) else None
 
 abbrev pub command_at : Tree → Option ℕ
 command_at t = option_and_then command_number (text_at t (codes "command_id"))
@@ -96,25 +100,32 @@ fault_at t = option_and_then fault_of (field t (codes "args"))
 
 abbrev pub auth_at : Tree → Option Asked
 auth_at t =
-    option_and_then (λ username. option_map (λ password. auth username password (session_of (field t (codes "session"))))
+    option_and_then
+    (λ username.
+    option_map (λ password. auth username password (session_of (field t (codes "session"))))
     (text_at t (codes "password"))) (text_at t (codes "username"))
 
 abbrev pub update_at : Tree → Option Asked
 update_at t = option_and_then (λ command. option_map (update command) (items_at t)) (command_at t)
 
 abbrev pub complete_at : Tree → Option Asked
-complete_at t = option_and_then (λ command. option_map (complete command) (fault_at t)) (command_at t)
+complete_at t =
+    option_and_then (λ command. option_map (complete command) (fault_at t)) (command_at t)
 
 abbrev pub print_at : Tree → Option Asked
 print_at t = option_map print (text_at t (codes "message"))
 
 abbrev pub start_at : Tree → Option Asked
 start_at t =
-    option_and_then (λ command. option_and_then (λ name. option_map (start_command command name) (field t (codes "args")))
+    option_and_then
+    (λ command.
+    option_and_then (λ name. option_map (start_command command name) (field t (codes "args")))
     (text_at t (codes "command_name"))) (command_at t)
 
 abbrev pub interrupt_at : Tree → Option Asked
-interrupt_at t = option_and_then (λ command. option_map (interrupt_command command) (text_at t (codes "why"))) (command_at t)
+interrupt_at t =
+    option_and_then (λ command. option_map (interrupt_command command) (text_at t (codes "why")))
+    (command_at t)
 
 -- what a request of this kind asks, or None where a key is missing or of another kind
 unfoldable pub asked_at : Kind → List ℕ → Tree → Option Asked
@@ -139,7 +150,9 @@ asked_or n (Some a) = Ok (request n a)
 asked_or n None = Err (BadArgs n)
 
 abbrev pub op_read : ℕ → List ℕ → Tree → Result Meaning MsgError
-op_read n op t = if bytes_eq op (codes "response") then Ok (response_at n t) else asked_or n (asked_at (kind_of op) op t)
+op_read n op t =
+    if bytes_eq op (codes "response") then Ok (response_at n t)
+    else asked_or n (asked_at (kind_of op) op t)
 
 abbrev pub with_number : Tree → Option ℕ → Option (List ℕ) → Result Meaning MsgError
 with_number t None op = Err NoSeq

@@ -1,4 +1,5 @@
--- The trees that messages are written as: the number and the operation first, then the keys of the operation.
+-- The trees that messages are written as: the number and the operation first, then the keys of
+-- the operation.
 use Rattle.std.specs.Prelude.{ℕ, pos, Bool, true, false, List, [], ◌∷◌, map, codes, Option, Some, None}
 use Rattle.std.specs.Fmt.{decimal}
 use Rattle.bm_value.specs.Tree.{Tree, nil, bool, int, str, array, dict, none, item, TreePair}
@@ -54,14 +55,17 @@ command_key command = at (codes "command_id") (str (decimal command))
 
 -- the further keys of a request
 abbrev pub keys_of : Asked → List TreePair
-keys_of (auth username password session) = at (codes "username") (str username) ∷ at (codes "password") (str password) ∷ session_key session
-keys_of (update command fields) = command_key command ∷ at (codes "args") (array (trees_of (map item_of fields))) ∷ []
+keys_of (auth username password session) =
+    at (codes "username") (str username) ∷ at (codes "password") (str password) ∷ session_key session
+keys_of (update command fields) =
+    command_key command ∷ at (codes "args") (array (trees_of (map item_of fields))) ∷ []
 keys_of (complete command fault) = command_key command ∷ at (codes "args") (fault_tree fault) ∷ []
 keys_of (print message) = at (codes "message") (str message) ∷ []
 keys_of keepalive = []
 keys_of get_worker_info = []
 keys_of shutdown = []
-keys_of (start_command command name args) = command_key command ∷ at (codes "command_name") (str name) ∷ at (codes "args") args ∷ []
+keys_of (start_command command name args) =
+    command_key command ∷ at (codes "command_name") (str name) ∷ at (codes "args") args ∷ []
 keys_of (interrupt_command command why) = command_key command ∷ at (codes "why") (str why) ∷ []
 keys_of (unknown op) = []
 
@@ -71,7 +75,8 @@ exception_key true = at (codes "is_exception") (bool true) ∷ []
 exception_key false = []
 
 abbrev pub message_tree : ℕ → List ℕ → List TreePair → Tree
-message_tree n op keys = dict (pairs_of (at (codes "seq_number") (int (pos n)) ∷ at (codes "op") (str op) ∷ keys))
+message_tree n op keys =
+    dict (pairs_of (at (codes "seq_number") (int (pos n)) ∷ at (codes "op") (str op) ∷ keys))
 
 -- the tree of a message
 abbrev pub tree_of : Meaning → Tree

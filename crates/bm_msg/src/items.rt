@@ -184,8 +184,8 @@ fn own_all<A: Allocator>(alloc: Global, parts: &[Value<A>]) -> Result<Fields, Al
     Ok(Fields::from_vec(fields))
 }
 
-/// What the items of an update carry, or None where one of them is of another kind. All are looked at
-/// before the first is copied, so None is told whatever memory there is.
+/// What the items of an update carry, or None where one of them is of another kind. All are looked
+/// at before the first is copied, so None is told whatever memory there is.
 pub fn fields<A: Allocator>(alloc: Global, items: &Items<A>) -> Result<Option<Fields>, AllocError>
     ensures found { IfOk result (λ f. f ≡ fields_of (items_tree items.now)) }
     ensures told { OnErr result (IsSome (fields_of (items_tree items.now))) }

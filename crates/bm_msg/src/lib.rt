@@ -1,7 +1,9 @@
-//! The messages between a build master and a worker, read from MessagePack trees and written as bytes.
+//! The messages between a build master and a worker, read from MessagePack trees and written as
+//! bytes.
 //!
 //! The messages are those of the master-worker protocol of the Buildbot manual, MessagePack over
-//! WebSocket. The items of an update, the item `log` and the key `session` of `auth` are this project's profile.
+//! WebSocket. The items of an update, the item `log` and the key `session` of `auth` are this
+//! project's profile.
 #![tactic(auto)]
 
 mod fault;

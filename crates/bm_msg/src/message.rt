@@ -36,7 +36,8 @@ impl Numbered {
 
     /// An equal request with the same number.
     pub fn copy(&self, alloc: Global) -> Result<Numbered, AllocError>
-        ensures { IfOk result (λ m. (m.seq ≡ self.now.seq) × (asked m.request ≡ asked self.now.request)) }
+        ensures { IfOk result (λ m. (m.seq ≡ self.now.seq)
+            × (asked m.request ≡ asked self.now.request)) }
     {
         Ok(Numbered {
             seq: self.seq,
@@ -51,7 +52,8 @@ impl Response {
 
     /// An equal response.
     pub fn copy(&self, alloc: Global) -> Result<Response, AllocError>
-        ensures { IfOk result (λ m. (m.seq ≡ self.now.seq) × (tree m.result ≡ tree self.now.result) × (m.exception ≡ self.now.exception)) }
+        ensures { IfOk result (λ m. (m.seq ≡ self.now.seq)
+            × (tree m.result ≡ tree self.now.result) × (m.exception ≡ self.now.exception)) }
     {
         Ok(Response {
             seq: self.seq,

@@ -152,7 +152,8 @@ fn request<A: Allocator>(
     op: &str,
     message: &Value<A>,
 ) -> Result<Option<Request>, AllocError>
-    ensures found { IfOk result (λ r. option_map asked r ≡ asked_at kind op.now (tree message.now)) }
+    ensures found { IfOk result (λ r. option_map asked r
+        ≡ asked_at kind op.now (tree message.now)) }
     ensures told { OnErr result (IsSome (asked_at kind op.now (tree message.now))) }
 {
     match kind {
@@ -173,7 +174,8 @@ fn request<A: Allocator>(
 
 /// A response's result: nil where it is missing.
 fn result_at<A: Allocator>(alloc: Global, message: &Value<A>) -> Result<Value<Global>, AllocError>
-    ensures { IfOk result (λ v. tree v ≡ result_of false (field (tree message.now) (codes "result"))) }
+    ensures { IfOk result (λ v. tree v
+        ≡ result_of false (field (tree message.now) (codes "result"))) }
 {
     match message.get("result") {
         Some(value) => value.copy_into(alloc),
@@ -186,7 +188,8 @@ fn exception_at<A: Allocator>(
     alloc: Global,
     message: &Value<A>,
 ) -> Result<Value<Global>, AllocError>
-    ensures { IfOk result (λ v. tree v ≡ result_of true (field (tree message.now) (codes "result"))) }
+    ensures { IfOk result (λ v. tree v
+        ≡ result_of true (field (tree message.now) (codes "result"))) }
 {
     let text = text_at(message, "result").unwrap_or("unknown");
     Value::from_str(alloc, text)
@@ -255,8 +258,8 @@ fn by_keys<A: Allocator>(alloc: Global, message: &Value<A>) -> Result<Message, M
 ///
 /// # Errors
 ///
-/// The first reason why the value is no message, in the order of [`MsgError`], whatever memory there is; `Mem`
-/// where it is one and memory ran out.
+/// The first reason why the value is no message, in the order of [`MsgError`], whatever memory
+/// there is; `Mem` where it is one and memory ran out.
 pub fn read<A: Allocator>(alloc: Global, message: &Value<A>) -> Result<Message, MsgError>
     // What is answered is the message that the value is.
     ensures found { IfOk result (λ m. IsMessage (tree message.now) (meaning m)) }

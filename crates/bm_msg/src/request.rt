@@ -11,7 +11,8 @@ use std::alloc::{AllocError, Global};
 /// A request, by its `op`.
 #[derive(Drop)]
 pub enum Request {
-    /// A worker names itself, and the session that it would resume (the session is this project's profile).
+    /// A worker names itself, and the session that it would resume (the session is this
+    /// project's profile).
     Auth {
         username: Text,
         password: Text,

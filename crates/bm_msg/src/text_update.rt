@@ -26,7 +26,8 @@ pub struct TextUpdate<'a> {
 /// The only item of an update.
 fn item_at<A: Allocator>(message: &Value<A>) -> Option<Seen<'_>>
     ensures some { IfSome result (λ s. seen s ≡ items_at (tree message.now)) }
-    ensures none { IfNone result ((only : Tree) → ¬ (field (tree message.now) (codes "args") ≡ Some (array (item only none)))) }
+    ensures none { IfNone result ((only : Tree)
+        → ¬ (field (tree message.now) (codes "args") ≡ Some (array (item only none)))) }
 {
     match message.get("args") {
         Some(Value::Array(items)) => only_item(items),

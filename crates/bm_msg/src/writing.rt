@@ -26,7 +26,8 @@ fn put(
     key: &str,
     value: Value<Global>,
 ) -> Result<(), AllocError>
-    ensures { OnOk result (map pair_tree keys.new.items ≡ map pair_tree keys.old.items ++ at key.now (tree value) ∷ []) }
+    ensures { OnOk result (map pair_tree keys.new.items
+        ≡ map pair_tree keys.old.items ++ at key.now (tree value) ∷ []) }
 {
     keys.push(Pair {
         key: Value::from_str(alloc, key)?,
@@ -37,7 +38,8 @@ fn put(
 
 /// The keys that every message has.
 fn first_keys(alloc: Global, seq: u64, op: &str) -> Result<Vec<Pair<Global>>, AllocError>
-    ensures { IfOk result (λ v. map pair_tree v.items ≡ at (codes "seq_number") (int (pos seq)) ∷ at (codes "op") (str op.now) ∷ []) }
+    ensures { IfOk result (λ v. map pair_tree v.items
+        ≡ at (codes "seq_number") (int (pos seq)) ∷ at (codes "op") (str op.now) ∷ []) }
 {
     let mut keys = Vec::with_capacity(alloc, 5)?;
     put(alloc, &mut keys, "seq_number", Value::Int(Num::of_u64(seq)))?;
@@ -100,7 +102,8 @@ fn items(alloc: Global, fields: &Fields) -> Result<Value<Global>, AllocError>
 }
 
 fn command_key(alloc: Global, keys: &mut Vec<Pair<Global>>, command: u64) -> Result<(), AllocError>
-    ensures { OnOk result (map pair_tree keys.new.items ≡ map pair_tree keys.old.items ++ command_key command ∷ []) }
+    ensures { OnOk result (map pair_tree keys.new.items
+        ≡ map pair_tree keys.old.items ++ command_key command ∷ []) }
 {
     let number = command.to_string(alloc)?;
     put(
@@ -117,7 +120,8 @@ fn text_key(
     key: &str,
     said: &Text,
 ) -> Result<(), AllocError>
-    ensures { OnOk result (map pair_tree keys.new.items ≡ map pair_tree keys.old.items ++ at key.now (str said.now) ∷ []) }
+    ensures { OnOk result (map pair_tree keys.new.items
+        ≡ map pair_tree keys.old.items ++ at key.now (str said.now) ∷ []) }
 {
     put(alloc, keys, key, Value::from_str(alloc, said.as_str())?)
 }
@@ -154,7 +158,8 @@ fn session_key(
     keys: &mut Vec<Pair<Global>>,
     session: &Option<Text>,
 ) -> Result<(), AllocError>
-    ensures { OnOk result (map pair_tree keys.new.items ≡ map pair_tree keys.old.items ++ session_key session.now) }
+    ensures { OnOk result (map pair_tree keys.new.items
+        ≡ map pair_tree keys.old.items ++ session_key session.now) }
 {
     match session {
         Some(session) => text_key(alloc, keys, "session", session),
@@ -169,7 +174,8 @@ fn auth_keys(
     password: &Text,
     session: &Option<Text>,
 ) -> Result<(), AllocError>
-    ensures { OnOk result (map pair_tree keys.new.items ≡ map pair_tree keys.old.items ++ keys_of (auth username.now password.now session.now)) }
+    ensures { OnOk result (map pair_tree keys.new.items
+        ≡ map pair_tree keys.old.items ++ keys_of (auth username.now password.now session.now)) }
 {
     text_key(alloc, keys, "username", username)?;
     text_key(alloc, keys, "password", password)?;
@@ -183,7 +189,8 @@ fn start_keys(
     name: &Text,
     args: &Value<Global>,
 ) -> Result<(), AllocError>
-    ensures { OnOk result (map pair_tree keys.new.items ≡ map pair_tree keys.old.items ++ keys_of (start_command command name.now (tree args.now))) }
+    ensures { OnOk result (map pair_tree keys.new.items
+        ≡ map pair_tree keys.old.items ++ keys_of (start_command command name.now (tree args.now))) }
 {
     command_key(alloc, keys, command)?;
     text_key(alloc, keys, "command_name", name)?;
@@ -197,7 +204,8 @@ fn put_keys(
     keys: &mut Vec<Pair<Global>>,
     request: &Request,
 ) -> Result<(), AllocError>
-    ensures { OnOk result (map pair_tree keys.new.items ≡ map pair_tree keys.old.items ++ keys_of (asked request.now)) }
+    ensures { OnOk result (map pair_tree keys.new.items
+        ≡ map pair_tree keys.old.items ++ keys_of (asked request.now)) }
 {
     match request {
         Request::Auth {
@@ -247,7 +255,8 @@ fn written_map(alloc: Global, keys: Vec<Pair<Global>>) -> Result<Vec<u8>, AllocE
 }
 
 fn request_keys(alloc: Global, message: &Numbered) -> Result<Vec<Pair<Global>>, AllocError>
-    ensures { IfOk result (λ v. dict (pairs_of (map pair_tree v.items)) ≡ request_tree message.now) }
+    ensures { IfOk result (λ v. dict (pairs_of (map pair_tree v.items))
+        ≡ request_tree message.now) }
 {
     let mut keys = first_keys(alloc, message.seq, op_of(&message.request))?;
     put_keys(alloc, &mut keys, &message.request)?;
@@ -259,7 +268,8 @@ fn put_exception(
     keys: &mut Vec<Pair<Global>>,
     exception: bool,
 ) -> Result<(), AllocError>
-    ensures { OnOk result (map pair_tree keys.new.items ≡ map pair_tree keys.old.items ++ exception_key exception) }
+    ensures { OnOk result (map pair_tree keys.new.items
+        ≡ map pair_tree keys.old.items ++ exception_key exception) }
 {
     if exception {
         put(alloc, keys, "is_exception", Value::Bool(true))?;
@@ -284,7 +294,8 @@ fn result_keys(
 }
 
 fn response_keys(alloc: Global, message: &Response) -> Result<Vec<Pair<Global>>, AllocError>
-    ensures { IfOk result (λ v. dict (pairs_of (map pair_tree v.items)) ≡ response_tree message.now) }
+    ensures { IfOk result (λ v. dict (pairs_of (map pair_tree v.items))
+        ≡ response_tree message.now) }
 {
     let result = message.result.copy_into(alloc)?;
     result_keys(alloc, message.seq, result, message.exception)
@@ -294,7 +305,8 @@ fn request_written(alloc: Global, message: &Numbered) -> Result<Vec<u8>, EncodeE
     ensures ok { IfOk result (λ v. v.items ≡ written (request_tree message.now)) }
     ensures back { IfOk result (λ v. IsReadBack (request_tree message.now)) }
     ensures deep { IsErrOf result EncodeError.TooDeep ↔ (32 < depth (request_tree message.now)) }
-    ensures long { IsErrOf result EncodeError.TooLong ↔ ((depth (request_tree message.now) ≤ 32) × ¬ IsShort (request_tree message.now)) }
+    ensures long { IsErrOf result EncodeError.TooLong
+        ↔ ((depth (request_tree message.now) ≤ 32) × ¬ IsShort (request_tree message.now)) }
 {
     if !request_nests(message) {
         return Err(EncodeError::TooDeep);
@@ -310,7 +322,8 @@ fn response_written(alloc: Global, message: &Response) -> Result<Vec<u8>, Encode
     ensures ok { IfOk result (λ v. v.items ≡ written (response_tree message.now)) }
     ensures back { IfOk result (λ v. IsReadBack (response_tree message.now)) }
     ensures deep { IsErrOf result EncodeError.TooDeep ↔ (32 < depth (response_tree message.now)) }
-    ensures long { IsErrOf result EncodeError.TooLong ↔ ((depth (response_tree message.now) ≤ 32) × ¬ IsShort (response_tree message.now)) }
+    ensures long { IsErrOf result EncodeError.TooLong
+        ↔ ((depth (response_tree message.now) ≤ 32) × ¬ IsShort (response_tree message.now)) }
 {
     if !response_nests(message) {
         return Err(EncodeError::TooDeep);
@@ -331,10 +344,14 @@ fn response_written(alloc: Global, message: &Response) -> Result<Vec<u8>, Encode
 /// `TooDeep` where the args of a `start_command` nest deeper than 31; `TooLong` where a part is
 /// longer than 2^32-1; `Mem` where memory ran out.
 pub fn write_request(alloc: Global, message: &Numbered) -> Result<Vec<u8>, EncodeError>
-    ensures ok { IfOk result (λ v. v.items ≡ written (tree_of (request message.now.seq (asked message.now.request)))) }
-    ensures back { IfOk result (λ v. IsReadBack (tree_of (request message.now.seq (asked message.now.request)))) }
-    ensures deep { IsErrOf result EncodeError.TooDeep ↔ (32 < depth (tree_of (request message.now.seq (asked message.now.request)))) }
-    ensures long { IsErrOf result EncodeError.TooLong ↔ ((depth (tree_of (request message.now.seq (asked message.now.request))) ≤ 32)
+    ensures ok { IfOk result (λ v. v.items
+        ≡ written (tree_of (request message.now.seq (asked message.now.request)))) }
+    ensures back { IfOk result (λ v.
+        IsReadBack (tree_of (request message.now.seq (asked message.now.request)))) }
+    ensures deep { IsErrOf result EncodeError.TooDeep
+        ↔ (32 < depth (tree_of (request message.now.seq (asked message.now.request)))) }
+    ensures long { IsErrOf result EncodeError.TooLong
+        ↔ ((depth (tree_of (request message.now.seq (asked message.now.request))) ≤ 32)
         × ¬ IsShort (tree_of (request message.now.seq (asked message.now.request)))) }
 {
     request_written(alloc, message)
@@ -348,13 +365,18 @@ pub fn write_request(alloc: Global, message: &Numbered) -> Result<Vec<u8>, Encod
 /// `TooDeep` where the result nests deeper than 31; `TooLong` where a part of it is longer than
 /// 2^32-1; `Mem` where memory ran out.
 pub fn write_response(alloc: Global, message: &Response) -> Result<Vec<u8>, EncodeError>
-    ensures ok { IfOk result (λ v. v.items ≡ written (tree_of (response message.now.seq (tree message.now.result) message.now.exception))) }
-    ensures back { IfOk result (λ v. IsReadBack (tree_of (response message.now.seq (tree message.now.result) message.now.exception))) }
+    ensures ok { IfOk result (λ v. v.items ≡ written (tree_of
+        (response message.now.seq (tree message.now.result) message.now.exception))) }
+    ensures back { IfOk result (λ v. IsReadBack (tree_of
+        (response message.now.seq (tree message.now.result) message.now.exception))) }
     ensures deep { IsErrOf result EncodeError.TooDeep
-        ↔ (32 < depth (tree_of (response message.now.seq (tree message.now.result) message.now.exception))) }
+        ↔ (32 < depth (tree_of
+        (response message.now.seq (tree message.now.result) message.now.exception))) }
     ensures long { IsErrOf result EncodeError.TooLong
-        ↔ ((depth (tree_of (response message.now.seq (tree message.now.result) message.now.exception)) ≤ 32)
-        × ¬ IsShort (tree_of (response message.now.seq (tree message.now.result) message.now.exception))) }
+        ↔ ((depth (tree_of
+        (response message.now.seq (tree message.now.result) message.now.exception)) ≤ 32)
+        × ¬ IsShort (tree_of
+        (response message.now.seq (tree message.now.result) message.now.exception))) }
 {
     response_written(alloc, message)
 }
@@ -366,7 +388,8 @@ pub fn write_answer(alloc: Global, seq: u64, exception: Option<&str>) -> Result<
     requires number { seq < 2 ^ 63 }
     requires short { IfSome exception (λ text. length text.now < 2 ^ 32) }
     ensures ok { IfOk result (λ v. v.items ≡ answer_bytes seq (option_copied exception.entry)) }
-    ensures back { IfOk result (λ v. IsReadBack (tree_of (answer seq (option_copied exception.entry)))) }
+    ensures back { IfOk result (λ v.
+        IsReadBack (tree_of (answer seq (option_copied exception.entry)))) }
 {
     let result = match exception {
         Some(text) => Value::from_str(alloc, text)?,

@@ -24,7 +24,8 @@ outcome_of entry = option_map_or counted entry.ended Exception
 -- the step at the place runs after the outcomes before it
 abbrev pub runs_at : List StepPlan → List Results → ℕ → Bool
 runs_at steps outcomes i =
-    option_map_or (runs (is_over (take i outcomes)) (is_halted steps (take i outcomes))) (slice_get steps i) false
+    option_map_or (runs (is_over (take i outcomes)) (is_halted steps (take i outcomes)))
+    (slice_get steps i) false
 
 -- the outcomes of the steps that ran, in their order
 abbrev pub ran : List Results → List Results
@@ -44,7 +45,8 @@ pub record IsRun (steps : List StepPlan) (turns : ℕ) (before after : List Told
   pub entries : List Told
   pub told : after ≡ before ++ entries
   pub count : length report.outcomes ≡ length steps
-  pub skipped : (i : ℕ) → i < length steps → (slice_get report.outcomes i ≡ Some Skipped) ↔ (runs_at steps report.outcomes i ≡ false)
+  pub skipped : (i : ℕ) → i < length steps → (slice_get report.outcomes i ≡ Some Skipped)
+      ↔ (runs_at steps report.outcomes i ≡ false)
   pub outcomes : ran report.outcomes ≡ told_outcomes entries refused
   pub waited : All (IsWaitedFor turns) entries
   pub result : report.result ≡ result_of steps report.outcomes

@@ -1,3 +1,5 @@
+//! What carries out commands, and what it tells of them.
+
 use bm_board::StepPlan;
 use bm_session::Results;
 

@@ -1,3 +1,5 @@
+//! A build's steps, run one after the other.
+
 ghost use Rattle.std.specs.Prelude.{◌≡◌, ◌<◌, false, length, IfOk, OnErr};
 ghost use Rattle.bm_runner.specs.Run.{IsRun, IsStepRun, counted, runs_at};
 

@@ -1,4 +1,6 @@
-ghost use Rattle.std.specs.Prelude.{◌≡◌, false, IfOk};
+//! Worked builds over a port of memory.
+
+ghost use Rattle.std.specs.Prelude.{◌≡◌, ◌<◌, true, false, IfOk};
 
 use super::*;
 use bm_board::{Build, LockUses, StepPlan, StepPlans, Words};
@@ -40,12 +42,23 @@ struct Scripted {
     interrupts: u64,
 }
 
+impl Scripted {
+    // Whether there is room for one entry more. Where one request for memory is refused, the second try succeeds.
+    fn has_room(&mut self) -> bool
+        ensures told { self.new.entries.told ≡ self.old.entries.told }
+        ensures refused { self.new.refused ≡ self.old.refused }
+        ensures room { result ≡ true → 0 < self.new.entries.room }
+    {
+        self.entries.reserve().is_ok() || self.entries.reserve().is_ok()
+    }
+}
+
 fn line_at(script: &[Line; 4], place: usize) -> Line {
     if place < 4 { script[place] } else { RUNNING }
 }
 
 impl Port for Scripted {
-    ghost told = { λ p. p.entries };
+    ghost told = { λ p. p.entries.told };
 
     ghost refused = { λ p. p.refused };
 
@@ -55,12 +68,13 @@ impl Port for Scripted {
             None => false,
         };
         let refuses = matches!(line_at(&self.script, self.place), Line::Refuse);
-        let k = self.entries.as_slice().len() as u64;
-        if noted && !refuses && (self.entries.begin(k).is_ok() || self.entries.begin(k).is_ok()) {
-            return Some(k);
+        if !noted || refuses || !self.has_room() {
+            self.refused = true;
+            return None;
         }
-        self.refused = true;
-        None
+        let k = self.entries.as_slice().len() as u64;
+        let _ = self.entries.begin(k);
+        Some(k)
     }
 
     fn poll(&mut self, k: u64) -> Polled {
@@ -254,5 +268,19 @@ fn report_is_copied_whole(rt: HostRuntime) -> Result<(), Fail> {
     };
     assert_eq!(rt; copy.outcomes.as_slice(), [Results::Failure].as_slice());
     assert_eq!(rt; copy.result, Results::Failure);
+    Ok(())
+}
+
+#[test]
+fn reserved_entry_is_begun(rt: HostRuntime) -> Result<(), Fail> {
+    let mut entries = Entries::new(rt.alloc());
+    let has_room = entries.reserve().is_ok() || entries.reserve().is_ok();
+    assert!(rt; has_room && entries.as_slice().is_empty());
+    let first = Told {
+        k: 7,
+        polls: 0,
+        ended: None,
+    };
+    assert!(rt; entries.begin(7).is_ok() && entries.as_slice() == [first].as_slice());
     Ok(())
 }

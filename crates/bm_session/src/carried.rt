@@ -1,9 +1,9 @@
 //! What the items of an update carry.
-ghost use Rattle.std.specs.Prelude.{◌≡◌, [], IfOk};
+ghost use Rattle.std.specs.Prelude.{◌≡◌, IfOk};
 ghost use Rattle.std.specs.Option.{option_or};
 ghost use Rattle.bm_msg.specs.Carried.{carried, last_rc as last_rc_of, with_field, exit_code_of};
 
-use bm_lines::{Letter, LogName, OneOrMany, Parcel, ParcelBuilder};
+use bm_lines::{Letter, LogName, Parcel, ParcelBuilder};
 use bm_msg::{Field, Fields};
 use bm_value::Num;
 use std::alloc::{AllocError, Global};
@@ -19,40 +19,16 @@ fn add_field(builder: &mut ParcelBuilder, field: Field) -> Result<(), AllocError
     }
 }
 
-/// The lines that many items carry.
-#[cold]
-#[inline(never)]
-#[tactic(auto, using(crate::proofs::Fields::carried_more))]
-fn many(alloc: Global, fields: Vec<Field>) -> Result<Parcel, AllocError>
-    ensures { IfOk result (λ parcel. parcel ≡ carried fields.items) }
-{
-    let mut builder = ParcelBuilder::new(alloc);
-    for field in fields {
-        add_field(&mut builder, field)?;
-    }
-    Ok(builder.into_parcel())
-}
-
-/// The lines that one item carries.
-#[inline(always)]
-fn only(alloc: Global, field: Field) -> Result<Parcel, AllocError>
-    ensures { IfOk result (λ parcel. parcel ≡ with_field [] field) }
-{
-    match field {
-        Field::Text(letter, text) => Parcel::of_text(alloc, LogName::stdio(), letter, text),
-        Field::Named(name, text) => Parcel::of_text(alloc, name, Letter::O, text),
-        Field::Rc(_) => Ok(Parcel::new(alloc)),
-    }
-}
-
 /// The lines that the items carry, by the name of their log.
+#[tactic(auto, using(crate::proofs::Fields::carried_more))]
 pub fn parcel(alloc: Global, fields: Fields) -> Result<Parcel, AllocError>
     ensures { IfOk result (λ parcel. parcel ≡ carried fields) }
 {
-    match fields.into_items() {
-        OneOrMany::One(field) => only(alloc, field),
-        OneOrMany::Many(fields) => many(alloc, fields),
+    let mut builder = ParcelBuilder::new(alloc);
+    for field in fields.into_vec() {
+        add_field(&mut builder, field)?;
     }
+    Ok(builder.into_parcel())
 }
 
 /// The exit code of the item, or the one before it.

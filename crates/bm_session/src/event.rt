@@ -44,12 +44,14 @@ impl Event {
         ensures event { IfOk result (IsEvent (tree value.now)) }
         // A value that is an event is answered as that, unless memory runs out.
         ensures only { (e : Event) → IsEvent (tree value.now) e → IfOk result (λ r. r ≡ e) }
-        ensures wants { (e : Event) → IsEvent (tree value.now) e → IfErr result (λ f. f ≡ MsgError.Mem) }
+        ensures wants { (e : Event) → IsEvent (tree value.now) e → IfErr result
+            (λ f. f ≡ MsgError.Mem) }
         // A fault that is told is the first reason why it is none.
         ensures fault { IfErr result (λ f. f ≢ MsgError.Mem → IsNoEvent (tree value.now) f) }
         // The first reason is told, and bad arguments are an event, whatever memory there is.
         ensures told { (f : MsgError) → IsNoEvent (tree value.now) f → IsErrOf result f }
-        ensures args { (n : ℕ) → IsFaulty (tree value.now) (MsgError.BadArgs n) → result ≡ Ok (Event.In n Body.BadArgs) }
+        ensures args { (n : ℕ) → IsFaulty (tree value.now) (MsgError.BadArgs n)
+            → result ≡ Ok (Event.In n Body.BadArgs) }
     {
         if let Some(update) = read_text(value) {
             return Ok(Event::of_text(alloc, update)?);

@@ -24,7 +24,8 @@ fn has_part(parcel: &Parcel, name: &str) -> bool
 
 /// Appends the lines of the parcel's part with the name, if it has one.
 fn append_part(lines: &mut Vec<Line>, parcel: &Parcel, name: &str) -> Result<(), AllocError>
-    ensures { IfOk result (λ u. lines.new.items ≡ lines.old.items ++ joined (blocks_under name.now parcel.now)) }
+    ensures { IfOk result (λ u. lines.new.items
+        ≡ lines.old.items ++ joined (blocks_under name.now parcel.now)) }
 {
     for part in parcel.parts() {
         if part.name.is(name) {
@@ -46,7 +47,9 @@ fn append_lines(out: &mut Vec<Line>, lines: &[Line]) -> Result<(), AllocError>
 
 /// Whether the log had a block, or has one where the event, if it counts, adds one.
 fn found_after(found: bool, counts: bool, event: &Event, command: u64, name: &str) -> bool
-    ensures { result ≡ (found || not (is_empty (if counts then (if is_update_of command event.now then blocks_under name.now (parcel_of event.now) else []) else []))) }
+    ensures { result ≡ (found || not (is_empty (if counts
+        then (if is_update_of command event.now then blocks_under name.now (parcel_of event.now)
+        else []) else []))) }
 {
     if found || !counts {
         return found;
@@ -72,7 +75,9 @@ fn append_added(
     command: u64,
     name: &str,
 ) -> Result<(), AllocError>
-    ensures { IfOk result (λ u. lines.new.items ≡ lines.old.items ++ joined (if counts then (if is_update_of command event.now then blocks_under name.now (parcel_of event.now) else []) else [])) }
+    ensures { IfOk result (λ u. lines.new.items ≡ lines.old.items ++ joined (if counts
+        then (if is_update_of command event.now then blocks_under name.now (parcel_of event.now)
+        else []) else [])) }
 {
     if !counts {
         return Ok(());

@@ -42,8 +42,10 @@ impl Verdict {
     /// The bytes of the response that tells the verdict on request `seq`. They are read back, whatever follows them.
     pub fn answer(self, alloc: Global, seq: u64) -> Result<Vec<u8>, AllocError>
         requires { seq < 2 ^ 63 }
-        ensures bytes { IfOk result (λ bytes. bytes.items ≡ answer_bytes seq (exception_text self)) }
-        ensures back { IfOk result (λ bytes. IsReadBack (tree_of (answer seq (exception_text self)))) }
+        ensures bytes { IfOk result (λ bytes. bytes.items
+            ≡ answer_bytes seq (exception_text self)) }
+        ensures back { IfOk result
+            (λ bytes. IsReadBack (tree_of (answer seq (exception_text self)))) }
     {
         write_answer(alloc, seq, self.exception())
     }

@@ -35,9 +35,15 @@ impl Model for Session {
 
     ghost Value = { Lane };
 
-    ghost view = { λ s. record { trace = s.events.items; room = min (vec_capacity s.events - vec_len s.events) (table_room s.table) } };
+    ghost view = { λ s. record {
+      trace = s.events.items;
+      room = min (vec_capacity s.events - vec_len s.events) (table_room s.table);
+    } };
 
-    ghost invariant = { λ s. IsSession (record { trace = s.events.items; room = min (vec_capacity s.events - vec_len s.events) (table_room s.table) }) s.table };
+    ghost invariant = { λ s. IsSession (record {
+      trace = s.events.items;
+      room = min (vec_capacity s.events - vec_len s.events) (table_room s.table);
+    }) s.table };
 }
 
 impl Session {
@@ -101,7 +107,8 @@ impl Session {
     /// The log of the command under the name, or None where that log isn't there. It reads the whole trace, and takes
     /// memory for that unless the command was never started.
     pub fn log(&self, alloc: Global, command: u64, name: &str) -> Result<Option<Block>, AllocError>
-        ensures log { IfOk result (λ log. log ≡ (if has_log_in self.now.trace command name.now then Some (log_of self.now.trace command name.now) else None)) }
+        ensures log { IfOk result (λ log. log ≡ (if has_log_in self.now.trace command name.now
+            then Some (log_of self.now.trace command name.now) else None)) }
         ensures unstarted { commands_of self.now.trace ≤ command → IsOk result }
     {
         if command >= self.table.commands() {
@@ -143,8 +150,10 @@ impl Session {
         ensures item { IfOk result (λ p. p.given ≡ item_of self.old.trace event) }
 
         ensures back { IfErr result (λ r. r.0 ≡ event) }
-        ensures refused { IfErr result (λ r. (refusal_of self.old.trace event ≡ Some r.1) ⊎ ((refusal_of self.old.trace event ≡ None) × (r.1 ≡ Refusal.Mem))) }
-        ensures down { event ≡ Event.Down → (up_of self.old.trace || cut_of self.old.trace) ≡ true → IsOk result }
+        ensures refused { IfErr result (λ r. (refusal_of self.old.trace event ≡ Some r.1)
+            ⊎ ((refusal_of self.old.trace event ≡ None) × (r.1 ≡ Refusal.Mem))) }
+        ensures down { event ≡ Event.Down → (up_of self.old.trace || cut_of self.old.trace) ≡ true
+            → IsOk result }
     {
         match self.prepare(&event) {
             Ok((reply, item)) => Ok(Plan::of(event, reply, item)),
@@ -162,8 +171,10 @@ impl Session {
         ensures reply { IfOk result (λ r. r.0 ≡ reply_of self.old.trace event.now) }
         ensures item { IfOk result (λ r. r.1 ≡ item_of self.old.trace event.now) }
 
-        ensures refused { IfErr result (λ r. (refusal_of self.old.trace event.now ≡ Some r) ⊎ ((refusal_of self.old.trace event.now ≡ None) × (r ≡ Refusal.Mem))) }
-        ensures down { event.now ≡ Event.Down → (up_of self.old.trace || cut_of self.old.trace) ≡ true → IsOk result }
+        ensures refused { IfErr result (λ r. (refusal_of self.old.trace event.now ≡ Some r)
+            ⊎ ((refusal_of self.old.trace event.now ≡ None) × (r ≡ Refusal.Mem))) }
+        ensures down { event.now ≡ Event.Down
+            → (up_of self.old.trace || cut_of self.old.trace) ≡ true → IsOk result }
     {
         if let Some(reason) = self.table.refusal(self.events.len(), event) {
             return Err(reason);
@@ -221,8 +232,10 @@ impl Session {
 
     /// Takes the event, or passes it over.
     fn take(&mut self, event: Event) -> Result<Ran, AllocError>
-        ensures trace { IfOk result (λ r. self.new.trace ≡ trace_as self.old.trace event (refusal_of self.old.trace event)) }
-        ensures ran { IfOk result (λ r. r ≡ ran_as self.old.trace event (refusal_of self.old.trace event)) }
+        ensures trace { IfOk result (λ r. self.new.trace
+            ≡ trace_as self.old.trace event (refusal_of self.old.trace event)) }
+        ensures ran { IfOk result
+            (λ r. r ≡ ran_as self.old.trace event (refusal_of self.old.trace event)) }
     {
         match self.ready(event) {
             Ok(plan) => {

@@ -191,7 +191,8 @@ impl Table {
 
     /// Whether the event is a fresh update of a command that is open.
     fn counts(&self, event: &Event) -> bool
-        ensures { (t : Trace) → IsTable self.now t → refusal_of t event.now ≡ None → result ≡ counts_in t event.now }
+        ensures { (t : Trace) → IsTable self.now t → refusal_of t event.now ≡ None
+            → result ≡ counts_in t event.now }
     {
         match event {
             Event::In(n, Body::Update { command, .. }) => self.updates(*n, *command),
@@ -215,7 +216,8 @@ impl Table {
 
     /// The verdict on a fresh request.
     fn verdict(&self, body: &Body) -> Verdict
-        ensures { (t : Trace) (n : ℕ) → IsTable self.now t → result ≡ verdict_of t (Event.In n body.now) }
+        ensures { (t : Trace) (n : ℕ) → IsTable self.now t
+            → result ≡ verdict_of t (Event.In n body.now) }
     {
         match body {
             Body::Update { command, .. } | Body::Complete { command, .. } => {
@@ -253,7 +255,8 @@ impl Table {
 
     /// Why the event isn't taken where so many were taken before it.
     pub fn refusal(&self, taken: usize, event: &Event) -> Option<Refusal>
-        ensures { (t : Trace) → IsTable self.now t → length t ≡ taken → result ≡ refusal_of t event.now }
+        ensures { (t : Trace) → IsTable self.now t → length t ≡ taken
+            → result ≡ refusal_of t event.now }
     {
         if let Event::Up = event {
             if self.is_up() {
@@ -296,7 +299,8 @@ impl Table {
 
     /// The verdict that a request gets: the first one on its number.
     fn answer(&self, number: u64, body: &Body) -> Verdict
-        ensures { (t : Trace) → IsTable self.now t → up_of t ≡ true → result ≡ answer_of t number (Event.In number body.now) }
+        ensures { (t : Trace) → IsTable self.now t → up_of t ≡ true
+            → result ≡ answer_of t number (Event.In number body.now) }
     {
         match self.seen.verdict(number) {
             Some(first) => first,
@@ -306,7 +310,8 @@ impl Table {
 
     /// What the master sends after the event.
     pub fn reply(&self, event: &Event) -> Reply
-        ensures { (t : Trace) → IsTable self.now t → refusal_of t event.now ≡ None → result ≡ reply_of t event.now }
+        ensures { (t : Trace) → IsTable self.now t → refusal_of t event.now ≡ None
+            → result ≡ reply_of t event.now }
     {
         match event {
             Event::Up | Event::Cut | Event::Down => Reply::Silent,
@@ -321,7 +326,8 @@ impl Table {
 
     /// The open command that the message ends.
     fn ended(&self, number: u64, body: &Body) -> Option<Open>
-        ensures { (t : Trace) → IsTable self.now t → up_of t ≡ true → result ≡ option_map (open_entry t) (ended_by_of t (Event.In number body.now)) }
+        ensures { (t : Trace) → IsTable self.now t → up_of t ≡ true
+            → result ≡ option_map (open_entry t) (ended_by_of t (Event.In number body.now)) }
     {
         match body {
             Body::Complete { command, .. } => {
@@ -344,14 +350,16 @@ impl Table {
 
     /// Whether the event is a fresh update of the command, which is open.
     fn updates(&self, number: u64, command: u64) -> bool
-        ensures { (t : Trace) → IsTable self.now t → up_of t ≡ true → result ≡ (is_new_in t number && is_open_in t command) }
+        ensures { (t : Trace) → IsTable self.now t → up_of t ≡ true
+            → result ≡ (is_new_in t number && is_open_in t command) }
     {
         self.is_new(number) && self.is_open(command)
     }
 
     /// What the event does to the logs. A `Down` takes no memory.
     pub fn item(&self, event: &Event) -> Result<Option<Item>, AllocError>
-        ensures item { IfOk result (λ i. (t : Trace) → IsTable self.now t → refusal_of t event.now ≡ None → i ≡ item_of t event.now) }
+        ensures item { IfOk result (λ i. (t : Trace) → IsTable self.now t
+            → refusal_of t event.now ≡ None → i ≡ item_of t event.now) }
         ensures down { event.now ≡ Event.Down → IsOk result }
     {
         match event {
@@ -401,7 +409,8 @@ impl Table {
         requires orders { self.old.orders < 2 ^ 63 }
         requires places { 4 ≤ vec_capacity self.old.opened }
         requires room { 0 < table_room self.old }
-        ensures table { (t : Trace) → IsTable self.old t → was_taken t ≡ true → refusal_of t event.now ≡ None → IsTable self.new (t ++ event.now ∷ []) }
+        ensures table { (t : Trace) → IsTable self.old t → was_taken t ≡ true
+            → refusal_of t event.now ≡ None → IsTable self.new (t ++ event.now ∷ []) }
         ensures places { 4 ≤ vec_capacity self.new.opened }
         ensures room { table_room self.old ≤ table_room self.new + 1 }
     {
@@ -420,8 +429,10 @@ impl Table {
         requires known { (t : Trace) × IsTable self.old t × (refusal_of t event.now ≡ None) }
         requires orders { self.old.orders < 2 ^ 63 }
         requires places { 4 ≤ vec_capacity self.old.opened }
-        ensures counts { IfOk result (λ b. (t : Trace) → IsTable self.old t → refusal_of t event.now ≡ None → b ≡ counts_in t event.now) }
-        ensures table { OnOk result ((t : Trace) → IsTable self.old t → was_taken t ≡ true → refusal_of t event.now ≡ None → IsTable self.new (t ++ event.now ∷ [])) }
+        ensures counts { IfOk result (λ b. (t : Trace) → IsTable self.old t
+            → refusal_of t event.now ≡ None → b ≡ counts_in t event.now) }
+        ensures table { OnOk result ((t : Trace) → IsTable self.old t → was_taken t ≡ true
+            → refusal_of t event.now ≡ None → IsTable self.new (t ++ event.now ∷ [])) }
         ensures places { 4 ≤ vec_capacity self.new.opened }
     {
         self.reserve(1)?;
@@ -441,7 +452,8 @@ impl Table {
 
     /// A session that was cut is resumed; else one begins.
     fn take_up(&mut self)
-        ensures table { (t : Trace) → IsTable self.old t → refusal_of t Event.Up ≡ None → IsTable self.new (t ++ Event.Up ∷ []) }
+        ensures table { (t : Trace) → IsTable self.old t → refusal_of t Event.Up ≡ None
+            → IsTable self.new (t ++ Event.Up ∷ []) }
         ensures places { vec_capacity self.new.opened ≡ vec_capacity self.old.opened }
         ensures room { table_room self.old ≤ table_room self.new }
     {
@@ -451,7 +463,8 @@ impl Table {
 
     /// The commands stay open, and the numbers known.
     fn take_cut(&mut self)
-        ensures table { (t : Trace) → IsTable self.old t → refusal_of t Event.Cut ≡ None → IsTable self.new (t ++ Event.Cut ∷ []) }
+        ensures table { (t : Trace) → IsTable self.old t → refusal_of t Event.Cut ≡ None
+            → IsTable self.new (t ++ Event.Cut ∷ []) }
         ensures places { vec_capacity self.new.opened ≡ vec_capacity self.old.opened }
         ensures room { table_room self.old ≤ table_room self.new }
     {
@@ -473,7 +486,8 @@ impl Table {
         requires orders { self.old.orders < 2 ^ 63 }
         requires places { 4 ≤ vec_capacity self.old.opened }
         requires room { 0 < table_room self.old }
-        ensures table { (t : Trace) → IsTable self.old t → was_taken t ≡ true → refusal_of t Event.Go ≡ None → IsTable self.new (t ++ Event.Go ∷ []) }
+        ensures table { (t : Trace) → IsTable self.old t → was_taken t ≡ true
+            → refusal_of t Event.Go ≡ None → IsTable self.new (t ++ Event.Go ∷ []) }
         ensures places { 4 ≤ vec_capacity self.new.opened }
         ensures room { table_room self.old ≤ table_room self.new + 1 }
     {
@@ -490,7 +504,9 @@ impl Table {
 
     fn take_stop(&mut self, command: u64)
         requires { self.old.orders < 2 ^ 63 }
-        ensures table { (t : Trace) → IsTable self.old t → refusal_of t (Event.Stop command) ≡ None → IsTable self.new (t ++ Event.Stop command ∷ []) }
+        ensures table { (t : Trace) → IsTable self.old t
+            → refusal_of t (Event.Stop command) ≡ None
+            → IsTable self.new (t ++ Event.Stop command ∷ []) }
         ensures places { vec_capacity self.new.opened ≡ vec_capacity self.old.opened }
         ensures room { table_room self.old ≤ table_room self.new }
     {
@@ -503,7 +519,8 @@ impl Table {
     fn take_in(&mut self, number: u64, body: &Body)
         requires known { IsTableUp self.old }
         requires room { 0 < table_room self.old }
-        ensures table { (t : Trace) → IsTable self.old t → was_taken t ≡ true → up_of t ≡ true → IsTable self.new (t ++ Event.In number body.now ∷ []) }
+        ensures table { (t : Trace) → IsTable self.old t → was_taken t ≡ true → up_of t ≡ true
+            → IsTable self.new (t ++ Event.In number body.now ∷ []) }
         ensures places { vec_capacity self.new.opened ≡ vec_capacity self.old.opened }
         ensures room { table_room self.old ≤ table_room self.new + 1 }
     {
@@ -524,7 +541,8 @@ impl Table {
     /// Takes the refusal of an order: the command that the order started ends, if it is open.
     fn take_refusal(&mut self, number: u64)
         requires { IsTableUp self.old }
-        ensures table { (t : Trace) → IsTable self.old t → was_taken t ≡ true → up_of t ≡ true → IsTable self.new (t ++ Event.In number (Body.Answered true) ∷ []) }
+        ensures table { (t : Trace) → IsTable self.old t → was_taken t ≡ true → up_of t ≡ true
+            → IsTable self.new (t ++ Event.In number (Body.Answered true) ∷ []) }
         ensures places { vec_capacity self.new.opened ≡ vec_capacity self.old.opened }
         ensures room { table_room self.new ≡ table_room self.old }
     {
@@ -539,7 +557,8 @@ impl Table {
         requires room { 0 < table_room self.old }
         requires asks { asks body.now ≡ true }
         requires fresh { verdict_in self.old.seen.ranges number ≡ None }
-        ensures table { (t : Trace) → IsTable self.old t → up_of t ≡ true → IsTable self.new (t ++ Event.In number body.now ∷ []) }
+        ensures table { (t : Trace) → IsTable self.old t → up_of t ≡ true
+            → IsTable self.new (t ++ Event.In number body.now ∷ []) }
         ensures places { vec_capacity self.new.opened ≡ vec_capacity self.old.opened }
         ensures room { table_room self.old ≤ table_room self.new + 1 }
     {
@@ -563,8 +582,10 @@ impl Table {
     /// Ends the open command.
     fn end(&mut self, entry: Open, fault: bool)
         requires { entry.command < length self.old.outcomes.items }
-        ensures listed { self.new.opened.items ≡ filter (λ (o : Open). not (entry.command == o.command)) self.old.opened.items }
-        ensures ended { self.new.outcomes.items ≡ slice_set self.old.outcomes.items entry.command (Some (ends_as_lem entry fault)) }
+        ensures listed { self.new.opened.items ≡ filter
+            (λ (o : Open). not (entry.command == o.command)) self.old.opened.items }
+        ensures ended { self.new.outcomes.items
+            ≡ slice_set self.old.outcomes.items entry.command (Some (ends_as_lem entry fault)) }
         ensures link { self.new.link ≡ self.old.link }
         ensures orders { self.new.orders ≡ self.old.orders }
         ensures seen { self.new.seen ≡ self.old.seen }

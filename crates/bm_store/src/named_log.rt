@@ -45,6 +45,7 @@ impl NamedLog {
         })
     }
 
+    /// The name of the log.
     pub fn name(&self) -> &LogName
         ensures { result.now ≡ self.now.name }
     {

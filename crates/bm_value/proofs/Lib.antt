@@ -1,11 +1,11 @@
 pub mod Utf8
-pub mod ShortTexts
-pub mod Covered
 pub mod Values
+pub mod Trees
 pub mod Loops
 pub mod Soundness
 pub mod Completeness
 pub mod Fronts
+pub mod FirstBytes
 pub mod Unique
 pub mod Examples
 pub mod Written

@@ -1,10 +1,10 @@
 -- Reading values one after the other, as a loop does.
-use Rattle.std.proofs.Common.{◌≡◌, ℕ, suc, ◌-◌, ◌+◌, ◌≤◌, ◌<◌, List, [], ◌∷◌, ◌++◌, Ok, Err, refl, sym, ap, subst, ◌∙◌, arith}
+use Rattle.std.proofs.Common.{◌≡◌, ℕ, suc, ◌-◌, ◌+◌, ◌≤◌, ◌<◌, List, [], ◌∷◌, ◌++◌, Ok, Err, refl, sym, ap, ◌∙◌, arith}
 use Rattle.bm_value.specs.declared.fault.DecodeError.{DecodeError}
 use Rattle.bm_value.specs.declared.fault.DecodeError.TheVariants.{Truncated, Reserved, BadUtf8, TooDeep, Trailing, Mem}
 use Rattle.bm_value.specs.Tree.{Tree, Trees, none, item, Pairs, no_pairs, pair, TreePair}
 use Rattle.bm_value.specs.View.{trees_of, pairs_of}
-use Rattle.bm_value.specs.Reading.{Answer, Parse, ◌>>=◌, mapped, with_one, Refuses, items_at, pair_at, pairs_at}
+use Rattle.bm_value.specs.Reading.{Answer, Parse, ◌>>=◌, mapped, Refuses, items_at, pair_at, pairs_at}
 
 -- trees before others
 abbrev pub onto : List Tree → Trees → Trees
@@ -44,56 +44,19 @@ refused-along TooDeep a b is h = sym is ∙ h
 refused-along Trailing a b is h = sym is ∙ h
 refused-along Mem a b is h = tt
 
--- ---- what was found so far, and one more
-
-fault_back : {X Y : Type 0} (f : X → Y) (part : Answer X) (d : DecodeError) → mapped f part ≡ Err d → part ≡ Err d
-fault_back f (Ok x) d h = absurd cc
-fault_back f (Err e) d h = let same : e ≡ d = cc in ap (λ (k : DecodeError). Err k) same
-
--- what refuses the whole refused its part
-pub refused_part : {X Y : Type 0} (e : DecodeError) (part : Answer X) (f : X → Y) → Refuses e (mapped f part) → Refuses e part
-refused_part Truncated part f h = fault_back f part Truncated h
-refused_part Reserved part f h = fault_back f part Reserved h
-refused_part BadUtf8 part f h = fault_back f part BadUtf8 h
-refused_part TooDeep part f h = fault_back f part TooDeep h
-refused_part Trailing part f h = fault_back f part Trailing h
-refused_part Mem part f h = tt
-
-abbrev found_or : {Y : Type 0} → Y × List ℕ → Answer Y → Y × List ℕ
-found_or d (Ok x) = x
-found_or d (Err e) = d
-
-record Part {X Y : Type 0} (f : X → Y) (part : Answer X) (y : Y) (rest : List ℕ) : Type 0 where
-  x : X
-  is : part ≡ Ok (x, rest)
-  gives : f x ≡ y
-
-part_of : {X Y : Type 0} (f : X → Y) (part : Answer X) (y : Y) (rest : List ℕ) → mapped f part ≡ Ok (y, rest) → Part f part y rest
-part_of f (Ok x) y rest h =
-    let same : x.1 ≡ rest = ap (λ r. (found_or (y, rest) r).1) h in
-    record { x = x.0; is = ap (λ (b : List ℕ). Ok (x.0, b)) same; gives = ap (λ r. (found_or (y, rest) r).0) h }
-part_of f (Err e) y rest h = absurd cc
-
 -- ---- arrays
 
 regroup : (front : List Tree) (t : Tree) (read : Answer Trees) → mapped (onto front) (mapped (item t) read) ≡ mapped (onto (front ++ t ∷ [])) read
 regroup front t (Ok x) = ap (λ (ts : Trees). Ok (ts, x.1)) (onto-one front t x.0)
 regroup front t (Err f) = refl
 
-item_read : (value : Parse Tree) (front : List Tree) (count i : ℕ) (bytes : List ℕ) (t : Tree) (after : List ℕ) (total : Answer Trees) → i < count → value bytes ≡ Ok (t, after)
+pub item_read : (value : Parse Tree) (front : List Tree) (count i : ℕ) (bytes : List ℕ) (t : Tree) (after : List ℕ) (total : Answer Trees) → i < count → value bytes ≡ Ok (t, after)
     → mapped (onto front) (items_at value (count - i) bytes) ≡ total → mapped (onto (front ++ t ∷ [])) (items_at value (count - (i + 1)) after) ≡ total
 unfolding items_at
 item_read value front count i bytes t after total lt h so_far =
     let k : count - i ≡ suc (count - (i + 1)) = omega arith in
     let one : mapped (onto front) (items_at value (count - i) bytes) ≡ mapped (onto (front ++ t ∷ [])) (items_at value (count - (i + 1)) after) = rw (k, h) (regroup front t (items_at value (count - (i + 1)) after)) in
     sym one ∙ so_far
-
--- the same, of the items after it was added to them
-pub item_pushed : (value : Parse Tree) (front grown : List Tree) (count i : ℕ) (bytes after : List ℕ) (total : Answer Trees) → i < count → mapped (with_one front) (value bytes) ≡ Ok (grown, after)
-    → mapped (onto front) (items_at value (count - i) bytes) ≡ total → mapped (onto grown) (items_at value (count - (i + 1)) after) ≡ total
-item_pushed value front grown count i bytes after total lt h so_far =
-    let part = part_of (with_one front) (value bytes) grown after h in
-    subst (λ ts. mapped (onto ts) (items_at value (count - (i + 1)) after) ≡ total) part.gives (item_read value front count i bytes part.x after total lt part.is so_far)
 
 pub item_refused : (value : Parse Tree) (e : DecodeError) (front : List Tree) (count i : ℕ) (bytes : List ℕ) (total : Answer Trees) → i < count → Refuses e (value bytes)
     → mapped (onto front) (items_at value (count - i) bytes) ≡ total → Refuses e total
@@ -128,7 +91,7 @@ regroup_pairs : (front : List TreePair) (p : TreePair) (read : Answer Pairs) →
 regroup_pairs front p (Ok x) = ap (λ (ps : Pairs). Ok (ps, x.1)) (onto_pairs-one front p x.0)
 regroup_pairs front p (Err f) = refl
 
-pair_read : (value : Parse Tree) (front : List TreePair) (count i : ℕ) (bytes : List ℕ) (p : TreePair) (after : List ℕ) (total : Answer Pairs) → i < count → pair_at value bytes ≡ Ok (p, after)
+pub pair_read : (value : Parse Tree) (front : List TreePair) (count i : ℕ) (bytes : List ℕ) (p : TreePair) (after : List ℕ) (total : Answer Pairs) → i < count → pair_at value bytes ≡ Ok (p, after)
     → mapped (onto_pairs front) (pairs_at value (count - i) bytes) ≡ total → mapped (onto_pairs (front ++ p ∷ [])) (pairs_at value (count - (i + 1)) after) ≡ total
 unfolding pairs_at
 pair_read value front count i bytes p after total lt h so_far =
@@ -136,12 +99,6 @@ pair_read value front count i bytes p after total lt h so_far =
     let one : mapped (onto_pairs front) (pairs_at value (count - i) bytes) ≡ mapped (onto_pairs (front ++ p ∷ [])) (pairs_at value (count - (i + 1)) after) =
     ap (λ n. mapped (onto_pairs front) (pairs_at value n bytes)) k ∙ ap (λ (r : Answer TreePair). mapped (onto_pairs front) (r >>= λ q. mapped (pair q.0.key q.0.value) (pairs_at value (count - (i + 1)) q.1))) h ∙ regroup_pairs front p (pairs_at value (count - (i + 1)) after) in
     sym one ∙ so_far
-
-pub pair_pushed : (value : Parse Tree) (front grown : List TreePair) (count i : ℕ) (bytes after : List ℕ) (total : Answer Pairs) → i < count → mapped (with_one front) (pair_at value bytes) ≡ Ok (grown, after)
-    → mapped (onto_pairs front) (pairs_at value (count - i) bytes) ≡ total → mapped (onto_pairs grown) (pairs_at value (count - (i + 1)) after) ≡ total
-pair_pushed value front grown count i bytes after total lt h so_far =
-    let part = part_of (with_one front) (pair_at value bytes) grown after h in
-    subst (λ ps. mapped (onto_pairs ps) (pairs_at value (count - (i + 1)) after) ≡ total) part.gives (pair_read value front count i bytes part.x after total lt part.is so_far)
 
 pub pair_refused : (value : Parse Tree) (e : DecodeError) (front : List TreePair) (count i : ℕ) (bytes : List ℕ) (total : Answer Pairs) → i < count → Refuses e (pair_at value bytes)
     → mapped (onto_pairs front) (pairs_at value (count - i) bytes) ≡ total → Refuses e total

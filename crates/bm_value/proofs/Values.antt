@@ -1,15 +1,8 @@
 -- A value by its first byte, and values level by level.
-use Rattle.std.proofs.Common.{◌≡◌, ℕ, zero, suc, pos, ◌<◌, ◌-◌, List, [], ◌∷◌, length, get_or, take, drop, map, Result, Ok, Err, Vec, refl, sym, ap, subst, ◌∙◌, arith}
-use Rattle.bm_value.specs.Row.{width, row}
-use Rattle.bm_value.specs.Tree.{Tree, int, array, dict, Trees, TreePair, Pairs as TreePairs}
+use Rattle.std.proofs.Common.{◌≡◌, ℕ, zero, suc, ◌<◌, ◌-◌, List, map, Ok, Vec, refl, sym, ap, ◌∙◌, arith}
+use Rattle.bm_value.specs.Tree.{Tree, array, dict, Trees, TreePair, Pairs as TreePairs}
 use Rattle.bm_value.specs.View.{value_step, items_step, pair_step, pairs_step, tree, trees_of, pairs_of, pair_tree, items_tree, pairs_tree}
-use Rattle.bm_value.specs.Reading.{Gives, mapped, ◌>>=◌, number_at, length_at, plain_at, items_at, pairs_at, array_with, map_with, value_at, value_with, row_with, inner}
-use Rattle.bm_value.specs.declared.fault.DecodeError.{DecodeError}
-use Rattle.bm_value.specs.declared.fault.DecodeError.TheVariants.{Truncated}
-use Rattle.bm_value.specs.declared.row.Row.{Row}
-use Rattle.bm_value.specs.declared.row.Row.TheVariants as rows
-use Rattle.bm_value.specs.declared.row.Plain.TheVariants as plain
-use Rattle.bm_value.specs.declared.row.Wide.{Wide}
+use Rattle.bm_value.specs.Reading.{mapped, ◌>>=◌, length_at, items_at, pairs_at, array_with, map_with, value_at, value_with, inner}
 use Rattle.bm_value.specs.declared.value.Items.{Items}
 use Rattle.bm_value.specs.declared.value.Value.{Value, Map, Array}
 use Rattle.bm_value.specs.declared.value.Pair.{Pair}
@@ -18,24 +11,12 @@ use Rattle.bm_value.specs.declared.value.Value.TheViews.{roll-Items, roll-Pairs}
 use Rattle.bm_value.specs.declared.value.Value.TheVariants.{rolls-Map, rolls-Array}
 use Rattle.bm_value.specs.declared.value.Value.TheOpen.{Value-F}
 use Rattle.bm_value.specs.declared.value.Value.TheFolds.{fold-roll-Value, fold-roll-Items, fold-roll-Pairs}
-use Rattle.std.proofs.lemmas.List.{take_rest}
 use Rattle.bm_value.specs.declared.row.Size.{Size}
 
 pub value_at-is : (room : ℕ) (bytes : List ℕ) → value_at room bytes ≡ value_with (inner room) bytes
 unfolding value_at
 value_at-is zero bytes = refl
 value_at-is (suc room) bytes = refl
-
-pub no_byte : (room : ℕ) (bytes : List ℕ) → length bytes < 1 → value_at room bytes ≡ Err Truncated
-no_byte room [] h = value_at-is room []
-no_byte room (b ∷ bytes) h = absurd (omega arith)
-
-pub first_byte : (room : ℕ) (bytes : List ℕ) (r : Row) → 0 < length bytes → r ≡ row (get_or bytes 0 0) → value_at room bytes ≡ row_with (inner room) r (drop 1 bytes)
-first_byte room [] r h is = absurd (omega arith)
-first_byte room (b ∷ bytes) r h is = value_at-is room (b ∷ bytes) ∙ ap (λ (x : Row). row_with (inner room) x bytes) (sym is)
-
-pub gives_along : {X Y : Type 0} (view : X → Y) (r : Result X DecodeError) (a b : Result Y DecodeError) → a ≡ b → Gives view r a → Gives view r b
-gives_along view r a b e h = subst (λ x. Gives view r x) e h
 
 pub items_tree-of : {A : Type 0} (v : Vec (Value A) A) → items_tree (roll-Items A record { vec = v }) ≡ trees_of (map tree v.items)
 items_tree-of {A} v = fold-roll-Items A Tree Trees TreePair TreePairs value_step items_step pair_step pairs_step record { vec = v }
@@ -48,24 +29,6 @@ tree-Map {A} p = ap tree (sym (rolls-Map p)) ∙ fold-roll-Value A Tree Trees Tr
 
 pub tree-Array : {A : Type 0} (x : Items A) → tree (Array x) ≡ array (items_tree x)
 tree-Array {A} x = ap tree (sym (rolls-Array x)) ∙ fold-roll-Value A Tree Trees TreePair TreePairs value_step items_step pair_step pairs_step (Value-F.Array x)
-
-pub tail_is : (bytes : List ℕ) → take (length bytes - 1) (drop 1 bytes) ≡ drop 1 bytes
-tail_is bytes = take_rest bytes 1
-
--- what stands behind the first byte is read by its row
-pub gives_row : {X : Type 0} (view : X → Tree × List ℕ) (out : Result X DecodeError) (room : ℕ) (bytes : List ℕ) (r : Row) → 0 < length bytes → r ≡ row (get_or bytes 0 0)
-    → Gives view out (row_with (inner room) r (take (length bytes - 1) (drop 1 bytes))) → Gives view out (value_at room bytes)
-gives_row view out room bytes r h is given =
-    subst (λ x. Gives view out x) (ap (row_with (inner room) r) (tail_is bytes) ∙ sym (first_byte room bytes r h is)) given
-
-pub behind_first : (room : ℕ) (bytes : List ℕ) → 0 < length bytes → row_with (inner room) (row (get_or bytes 0 0)) (take (length bytes - 1) (drop 1 bytes)) ≡ value_at room bytes
-behind_first room bytes h = ap (row_with (inner room) (row (get_or bytes 0 0))) (tail_is bytes) ∙ sym (first_byte room bytes (row (get_or bytes 0 0)) h refl)
-
--- a number without a sign, and the bytes behind it
-pub unsigned_read : (first room : ℕ) (rest : List ℕ) (w : Wide) (n : ℕ) (after : List ℕ) → row first ≡ rows.Plain (plain.Unsigned w) → number_at (width w) rest ≡ Ok (n, after)
-    → row_with (inner room) (row first) rest ≡ Ok (int (pos n), after)
-unfolding plain_at
-unsigned_read first room rest w n after is read = ap (λ r. row_with (inner room) r rest) is ∙ ap (mapped (λ k. int (pos k))) read
 
 pub array_read : (room : ℕ) (s : Size) (bytes : List ℕ) (n : ℕ) (rest : List ℕ) (ts : Trees) (after : List ℕ) → 0 < room → length_at s bytes ≡ Ok (n, rest) → items_at (value_at (room - 1)) n rest ≡ Ok (ts, after)
     → array_with (inner room) s bytes ≡ Ok (array ts, after)

@@ -1,4 +1,5 @@
--- Which bytes spell a tree, and where bytes that begin with no tree go wrong (MessagePack specification).
+-- Which bytes spell a tree, and where bytes that begin with no tree go wrong (MessagePack
+-- specification).
 use Rattle.std.specs.Prelude.{◌≡◌, ℕ, zero, suc, ◌+◌, ◌-◌, ◌*◌, ◌<◌, ◌≤◌, ◌⊎◌, pos, List, [], ◌∷◌, ◌++◌, length}
 use Rattle.std.specs.Int.{Width, w8, w32, w64, byte_len, from_be_bytes, cast_signed}
 use Rattle.std.specs.Str.{IsUtf8}
@@ -23,19 +24,24 @@ abbrev pub IsLength : Size → List ℕ → ℕ → Type 0
 IsLength (size.Here k) bytes n = (bytes ≡ []) × (n ≡ k)
 IsLength (size.Field w) bytes n = IsField (width w) bytes n
 
--- What stands behind the first byte of a value with no value inside: nothing, a number's field, or a length, an ext's type
--- and so many bytes. A str's bytes are UTF-8.
+-- What stands behind the first byte of a value with no value inside: nothing, a number's field, or
+-- a length, an ext's type and so many bytes. A str's bytes are UTF-8.
 abbrev pub IsPlain : Plain → List ℕ → Tree → Type 0
 IsPlain plain.Nil bytes t = (bytes ≡ []) × (t ≡ nil)
 IsPlain (plain.Bool b) bytes t = (bytes ≡ []) × (t ≡ bool b)
 IsPlain (plain.Small z) bytes t = (bytes ≡ []) × (t ≡ int z)
 IsPlain (plain.Unsigned w) bytes t = (n : ℕ) × IsField (width w) bytes n × (t ≡ int (pos n))
-IsPlain (plain.Signed w) bytes t = (n : ℕ) × IsField (width w) bytes n × (t ≡ int (cast_signed (width w) n))
+IsPlain (plain.Signed w) bytes t = (n : ℕ) × IsField (width w) bytes n
+    × (t ≡ int (cast_signed (width w) n))
 IsPlain plain.Bits32 bytes t = (n : ℕ) × IsField w32 bytes n × (t ≡ bits32 n)
 IsPlain plain.Bits64 bytes t = (n : ℕ) × IsField w64 bytes n × (t ≡ bits64 n)
-IsPlain (plain.Str s) bytes t = (head : List ℕ) × (text : List ℕ) × (bytes ≡ head ++ text) × IsLength s head (length text) × IsUtf8 text × (t ≡ str text)
-IsPlain (plain.Bin s) bytes t = (head : List ℕ) × (text : List ℕ) × (bytes ≡ head ++ text) × IsLength s head (length text) × (t ≡ bin text)
-IsPlain (plain.Ext s) bytes t = (head : List ℕ) × (kind : List ℕ) × (text : List ℕ) × (k : ℕ) × (bytes ≡ head ++ (kind ++ text)) × IsLength s head (length text) × IsField w8 kind k × (t ≡ ext (cast_signed w8 k) text)
+IsPlain (plain.Str s) bytes t = (head : List ℕ) × (text : List ℕ) × (bytes ≡ head ++ text)
+    × IsLength s head (length text) × IsUtf8 text × (t ≡ str text)
+IsPlain (plain.Bin s) bytes t = (head : List ℕ) × (text : List ℕ) × (bytes ≡ head ++ text)
+    × IsLength s head (length text) × (t ≡ bin text)
+IsPlain (plain.Ext s) bytes t = (head : List ℕ) × (kind : List ℕ) × (text : List ℕ) × (k : ℕ)
+    × (bytes ≡ head ++ (kind ++ text)) × IsLength s head (length text)
+    × IsField w8 kind k × (t ≡ ext (cast_signed w8 k) text)
 
 -- a first byte of a value with no value inside, and what belongs behind it
 abbrev pub SpellsPlain : List ℕ → Tree → Type 0
@@ -62,17 +68,21 @@ abbrev mutual
   Spells bytes (str s) = SpellsPlain bytes (str s)
   Spells bytes (bin s) = SpellsPlain bytes (bin s)
   Spells bytes (ext k s) = SpellsPlain bytes (ext k s)
-  Spells bytes (array ts) = (rest : List ℕ) × Opens rows.Array bytes (count ts) rest × SpellsItems rest ts
-  Spells bytes (dict ps) = (rest : List ℕ) × Opens rows.Map bytes (count_of_pairs ps) rest × SpellsPairs rest ps
+  Spells bytes (array ts) = (rest : List ℕ) × Opens rows.Array bytes (count ts) rest
+      × SpellsItems rest ts
+  Spells bytes (dict ps) = (rest : List ℕ) × Opens rows.Map bytes (count_of_pairs ps) rest
+      × SpellsPairs rest ps
 
   -- each in turn
   pub SpellsItems : List ℕ → Trees → Type 0
   SpellsItems bytes none = bytes ≡ []
-  SpellsItems bytes (item t ts) = (front : List ℕ) × (rest : List ℕ) × (bytes ≡ front ++ rest) × Spells front t × SpellsItems rest ts
+  SpellsItems bytes (item t ts) = (front : List ℕ) × (rest : List ℕ) × (bytes ≡ front ++ rest)
+      × Spells front t × SpellsItems rest ts
 
   pub SpellsPairs : List ℕ → Pairs → Type 0
   SpellsPairs bytes no_pairs = bytes ≡ []
-  SpellsPairs bytes (pair k v ps) = (key : List ℕ) × (value : List ℕ) × (rest : List ℕ) × (bytes ≡ key ++ (value ++ rest)) × Spells key k × Spells value v × SpellsPairs rest ps
+  SpellsPairs bytes (pair k v ps) = (key : List ℕ) × (value : List ℕ) × (rest : List ℕ)
+      × (bytes ≡ key ++ (value ++ rest)) × Spells key k × Spells value v × SpellsPairs rest ps
 
 -- the length's field is not all there
 abbrev pub LacksLength : Size → List ℕ → Type 0
@@ -81,7 +91,8 @@ LacksLength (size.Field w) bytes = length bytes < byte_len (width w)
 
 -- the length is there and asks for more than stands behind it, where so many bytes come between
 abbrev pub LacksBytes : Size → ℕ → List ℕ → Type 0
-LacksBytes s between bytes = (head : List ℕ) × (rest : List ℕ) × (n : ℕ) × (bytes ≡ head ++ rest) × IsLength s head n × (length rest < between + n)
+LacksBytes s between bytes = (head : List ℕ) × (rest : List ℕ) × (n : ℕ) × (bytes ≡ head ++ rest)
+    × IsLength s head n × (length rest < between + n)
 
 -- a fault behind the first byte of a value with no value inside
 abbrev pub PlainFails : Plain → List ℕ → DecodeError → Type 0
@@ -93,27 +104,32 @@ PlainFails (plain.Signed w) bytes f = (length bytes < byte_len (width w)) × (f 
 PlainFails plain.Bits32 bytes f = (length bytes < 4) × (f ≡ Truncated)
 PlainFails plain.Bits64 bytes f = (length bytes < 8) × (f ≡ Truncated)
 PlainFails (plain.Str s) bytes f = ((LacksLength s bytes ⊎ LacksBytes s 0 bytes) × (f ≡ Truncated))
-    ⊎ ((head : List ℕ) × (text : List ℕ) × (rest : List ℕ) × (bytes ≡ head ++ (text ++ rest)) × IsLength s head (length text) × (IsUtf8 text → ⊥) × (f ≡ BadUtf8))
+    ⊎ ((head : List ℕ) × (text : List ℕ) × (rest : List ℕ) × (bytes ≡ head ++ (text ++ rest))
+    × IsLength s head (length text) × (IsUtf8 text → ⊥) × (f ≡ BadUtf8))
 PlainFails (plain.Bin s) bytes f = (LacksLength s bytes ⊎ LacksBytes s 0 bytes) × (f ≡ Truncated)
 PlainFails (plain.Ext s) bytes f = (LacksLength s bytes ⊎ LacksBytes s 1 bytes) × (f ≡ Truncated)
 
--- a fault behind a first byte of this row; inside says it of an array or a map, whose entries are of so many values each
+-- a fault behind a first byte of this row; inside says it of an array or a map, whose entries are
+-- of so many values each
 abbrev pub FailsRow : Row → List ℕ → DecodeError → (ℕ → Size → Type 0) → Type 0
 FailsRow (rows.Plain p) bytes f inside = PlainFails p bytes f
 FailsRow rows.Reserved bytes f inside = f ≡ Reserved
 FailsRow (rows.Array s) bytes f inside = inside 1 s
 FailsRow (rows.Map s) bytes f inside = inside 2 s
 
--- The first fault from the left is f, where arrays and maps may nest so deep. Inside one of them, the first values are
--- spelled by trees that nest no deeper, and the next value, of those that are counted, fails.
+-- The first fault from the left is f, where arrays and maps may nest so deep. Inside one of them,
+-- the first values are spelled by trees that nest no deeper, and the next value, of those that are
+-- counted, fails.
 abbrev pub FailsWithin : ℕ → List ℕ → DecodeError → Type 0
 FailsWithin zero [] f = f ≡ Truncated
 FailsWithin zero (b ∷ bytes) f = FailsRow (row b) bytes f (λ each s. f ≡ TooDeep)
 FailsWithin (suc room) [] f = f ≡ Truncated
 FailsWithin (suc room) (b ∷ bytes) f = FailsRow (row b) bytes f (λ each s.
     (LacksLength s bytes × (f ≡ Truncated))
-    ⊎ ((head : List ℕ) × (front : List ℕ) × (back : List ℕ) × (n : ℕ) × (ts : Trees) × (bytes ≡ head ++ (front ++ back)) × IsLength s head n
-    × (count ts < each * n) × SpellsItems front ts × (depth_of_items ts ≤ room) × FailsWithin room back f))
+    ⊎ ((head : List ℕ) × (front : List ℕ) × (back : List ℕ) × (n : ℕ) × (ts : Trees)
+    × (bytes ≡ head ++ (front ++ back)) × IsLength s head n
+    × (count ts < each * n) × SpellsItems front ts × (depth_of_items ts ≤ room)
+    × FailsWithin room back f))
 
 -- The first fault from the left is f, with n arrays and maps round the bytes.
 abbrev pub Fails : List ℕ → ℕ → DecodeError → Type 0

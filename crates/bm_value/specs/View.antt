@@ -1,4 +1,5 @@
--- A value as a tree, without where it lies in memory. Contracts see values by `tree`, never by their fields.
+-- A value as a tree, without where it lies in memory. Contracts see values by `tree`, never by
+-- their fields.
 use Rattle.std.specs.Prelude.{List, [], ◌∷◌}
 use Rattle.bm_value.specs.Tree.{Tree, nil, bool, int, bits32, bits64, str, bin, array, dict, ext, Trees, none, item, Pairs as TreePairs, no_pairs, pair, TreePair}
 use Rattle.bm_value.specs.declared.value.Value.{Value}
@@ -45,10 +46,12 @@ abbrev pub pair_tree : {A : Type 0} → Pair A → TreePair
 pair_tree {A} = fold-Pair A Tree Trees TreePair TreePairs value_step items_step pair_step pairs_step
 
 abbrev pub items_tree : {A : Type 0} → Items A → Trees
-items_tree {A} = fold-Items A Tree Trees TreePair TreePairs value_step items_step pair_step pairs_step
+items_tree {A} =
+    fold-Items A Tree Trees TreePair TreePairs value_step items_step pair_step pairs_step
 
 abbrev pub pairs_tree : {A : Type 0} → Pairs A → TreePairs
-pairs_tree {A} = fold-Pairs A Tree Trees TreePair TreePairs value_step items_step pair_step pairs_step
+pairs_tree {A} =
+    fold-Pairs A Tree Trees TreePair TreePairs value_step items_step pair_step pairs_step
 
 -- the values of an array, and the pairs of a map
 abbrev pub values_in : {A : Type 0} → Items A → List (Value A)

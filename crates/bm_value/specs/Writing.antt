@@ -1,5 +1,5 @@
--- The written form (MessagePack specification): of each kind the format with the fewest bytes. A number of at least 0 is
--- written as unsigned, one below as signed. Pairs stand in the map's order.
+-- The written form (MessagePack specification): of each kind the format with the fewest bytes. A
+-- number of at least 0 is written as unsigned, one below as signed. Pairs stand in the map's order.
 use Rattle.std.specs.Prelude.{◌≡◌, ℕ, ◌+◌, ◌^◌, ◌==◌, ℤ, pos, negsuc, List, [], ◌∷◌, ◌++◌, length, Result, Ok, Err, nat_lt, if◌then◌else◌}
 use Rattle.std.specs.Int.{Width, w8, w16, w32, w64, to_be_bytes, cast_unsigned}
 use Rattle.bm_value.specs.Tree.{Tree, nil, bool, int, bits32, bits64, str, bin, array, dict, ext, Trees, none, item, Pairs, no_pairs, pair, TreePair, count, count_of_pairs}

@@ -6,19 +6,17 @@
 //! they are.
 #![tactic(auto)]
 
-mod ascii;
 mod bytes;
 mod copying;
+mod decoding;
 mod fault;
-mod front;
-mod heads;
+pub mod heads;
 pub mod laws;
 mod limits;
 mod lookup;
 mod num;
-mod reading;
+mod reader;
 mod row;
-mod short_text;
 #[cfg(test)]
 mod tests;
 mod text;
@@ -26,10 +24,10 @@ mod value;
 mod writing;
 
 pub use bytes::Bytes;
+pub use decoding::{decode, decode_whole};
 pub use fault::{DecodeError, EncodeError};
 pub use limits::{MAX_DEPTH, is_short, nests_within};
 pub use num::Num;
-pub use reading::{decode, decode_whole};
 pub use text::Text;
 pub use value::{Items, Pair, Pairs, Value};
-pub use writing::encode;
+pub use writing::{encode, put_str};

@@ -2,31 +2,21 @@
 
 ghost use Rattle.std.specs.Prelude.{◌≡◌, IfOk, string_bytes};
 
-use crate::short_text::ShortText;
 use std::alloc::{AllocError, Allocator};
-use std::fmt;
 use std::marker::Model;
 
-/// Text that a value keeps. A short one takes no memory.
-#[derive(Drop)]
+/// Text that a value keeps.
+#[derive(Debug, Drop)]
 pub struct Text<A: Allocator> {
-    kept: Kept<A>,
-}
-
-#[derive(Drop)]
-enum Kept<A: Allocator> {
-    Short(ShortText),
-    Long(String<A>),
+    string: String<A>,
 }
 
 impl<A: Allocator> Model for Text<A> {
-    ghost use Rattle.std.specs.Prelude.{List, ℕ};
+    ghost use Rattle.std.specs.Prelude.{List, ℕ, string_bytes};
 
     ghost Value = { List ℕ };
 
-    ghost use Rattle.bm_value.specs.Kept.{kept_bytes};
-
-    ghost view = { λ t. kept_bytes t.kept };
+    ghost view = { λ t. string_bytes t.string };
 }
 
 impl<A: Allocator> Text<A> {
@@ -34,58 +24,36 @@ impl<A: Allocator> Text<A> {
     pub fn from_string(string: String<A>) -> Text<A>
         ensures { result ≡ string_bytes string }
     {
-        Text {
-            kept: Kept::Long(string),
-        }
+        Text { string }
     }
 
-    /// Keeps this text.
-    #[inline(always)]
-    pub(crate) fn from_short(short: ShortText) -> Text<A>
-        ensures { result ≡ short }
+    /// The text, which the value gives up.
+    pub fn into_string(self) -> String<A>
+        ensures { string_bytes result ≡ self }
     {
-        Text {
-            kept: Kept::Short(short),
-        }
+        self.string
     }
 
     /// The text.
     pub fn as_str(&self) -> &str
         ensures { result.now ≡ self.now }
     {
-        match &self.kept {
-            Kept::Short(short) => short.as_str(),
-            Kept::Long(string) => string.as_str(),
-        }
+        self.string.as_str()
     }
 }
 
 impl<A: Allocator + Copy> Text<A> {
-    /// This text, under the allocator where it isn't short.
+    /// This text, under the allocator.
     pub fn from_str(alloc: A, text: &str) -> Result<Text<A>, AllocError>
         ensures { IfOk result (λ t. t ≡ text.now) }
     {
-        match ShortText::of_str(text) {
-            Some(short) => Ok(Text::from_short(short)),
-            None => Ok(Text::from_string(String::from_str(alloc, text)?)),
-        }
+        Ok(Text::from_string(String::from_str(alloc, text)?))
     }
 
     /// An equal text, under the same allocator.
     pub fn copy(&self) -> Result<Text<A>, AllocError>
         ensures { IfOk result (λ t. t ≡ self.now) }
     {
-        match &self.kept {
-            Kept::Short(short) => Ok(Text::from_short(short.copy())),
-            Kept::Long(string) => Ok(Text::from_string(string.clone()?)),
-        }
-    }
-}
-
-impl<A: Allocator> fmt::Debug for Text<A> {
-    fn fmt<W: fmt::Write>(&self, f: &mut fmt::Formatter<W>) -> fmt::Result {
-        f.debug_struct("Text")
-            .field("string", &self.as_str())
-            .finish()
+        Ok(Text::from_string(self.string.clone()?))
     }
 }

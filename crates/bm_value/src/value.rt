@@ -11,7 +11,7 @@ use std::alloc::{AllocError, Allocator, Global};
 
 /// A MessagePack value, whose parts lie in the allocator `A`.
 #[cycle(value)]
-#[derive(Debug)]
+#[derive(Debug, Drop)]
 pub enum Value<A: Allocator = Global> {
     Nil,
     Bool(bool),
@@ -28,23 +28,8 @@ pub enum Value<A: Allocator = Global> {
     Ext(i8, Bytes<A>),
 }
 
-// Most values have nothing to give back. That is seen where they lie, and only an array or a map takes a call.
-impl<A: Allocator> Drop for Value<A> {
-    #[cycle(value)]
-    #[inline(always)]
-    fn drop(self) {
-        match self {
-            Value::Nil | Value::Bool(_) | Value::Int(_) | Value::Bits32(_) | Value::Bits64(_) => {}
-            Value::Str(text) => drop(text),
-            Value::Bin(bytes) | Value::Ext(_, bytes) => drop(bytes),
-            Value::Array(items) => drop(items),
-            Value::Map(pairs) => drop(pairs),
-        }
-    }
-}
-
 impl<A: Allocator + Copy> Value<A> {
-    /// The str of this text, under the allocator where it isn't short.
+    /// The str of this text, under the allocator.
     pub fn from_str(alloc: A, text: &str) -> Result<Value<A>, AllocError>
         ensures { IfOk result (λ v. tree v ≡ str text.now) }
     {

@@ -51,7 +51,8 @@ start_answer running k name argv =
 -- the answer to a request that comes for the first time, while these commands run
 abbrev pub answer_among : List ℕ → Asked → Answer
 answer_among running (start_command k name args) = start_answer running k name (argv_of args)
-answer_among running (interrupt_command k why) = if runs_among running k then answer.Done else answer.NoSuchCommand
+answer_among running (interrupt_command k why) = if runs_among running k then answer.Done
+    else answer.NoSuchCommand
 answer_among running (print message) = answer.Done
 answer_among running keepalive = answer.Done
 answer_among running shutdown = answer.Done
@@ -115,7 +116,8 @@ repeated c n first = record { act = Nothing; reply = Some (reply n first); core 
 
 abbrev pub heard_request : Core → ℕ → Asked → Option Answer → Hearing
 heard_request c n asked (Some first) = repeated c n first
-heard_request c n asked None = let a = answer_to c asked in first_heard c n a (act_of asked a) (started_by asked a)
+heard_request c n asked None = let a = answer_to c asked in
+    first_heard c n a (act_of asked a) (started_by asked a)
 
 -- request n, whose keys are missing or of another kind
 abbrev pub heard_bad : Core → ℕ → Option Answer → Hearing
@@ -150,7 +152,8 @@ window = 64
 
 -- so many more requests have places in the window and numbers below 2^63
 abbrev pub has_room : Core → ℕ → Bool
-has_room c places = nat_le (length (unanswered_requests c) + places) window && nat_le (next_number c + places) (2 ^ 63)
+has_room c places = nat_le (length (unanswered_requests c) + places) window
+    && nat_le (next_number c + places) (2 ^ 63)
 
 -- why so many requests of command k are refused
 abbrev pub refusal : Core → ℕ → ℕ → Option WorkRefusal

@@ -18,12 +18,14 @@ ends_text line b = (b == line_end) || (length line + 1 == longest)
 abbrev pub texts_after : List ℕ → List ℕ → List (List ℕ)
 texts_after line [] = []
 texts_after line (b ∷ bs) =
-    if ends_text line b then (line ++ b ∷ []) ∷ texts_after [] bs else texts_after (line ++ b ∷ []) bs
+    if ends_text line b then (line ++ b ∷ []) ∷ texts_after [] bs
+    else texts_after (line ++ b ∷ []) bs
 
 -- the bytes behind the last of these texts
 abbrev pub left_after : List ℕ → List ℕ → List ℕ
 left_after line [] = line
-left_after line (b ∷ bs) = if ends_text line b then left_after [] bs else left_after (line ++ b ∷ []) bs
+left_after line (b ∷ bs) = if ends_text line b then left_after [] bs
+    else left_after (line ++ b ∷ []) bs
 
 -- the texts that bytes end, and the bytes behind the last of them
 abbrev pub texts_of : List ℕ → List (List ℕ)
@@ -45,4 +47,5 @@ last_text bytes = Some (utf8_lossy bytes)
 abbrev pub first_end : ℕ → List ℕ → Option ℕ
 first_end before [] = None
 first_end before (b ∷ bs) =
-    if (b == line_end) || (before + 1 == longest) then Some 1 else option_map (λ n. n + 1) (first_end (before + 1) bs)
+    if (b == line_end) || (before + 1 == longest) then Some 1
+    else option_map (λ n. n + 1) (first_end (before + 1) bs)

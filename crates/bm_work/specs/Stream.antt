@@ -40,7 +40,8 @@ stream reports = stream_from 0 reports
 
 -- of these requests, those whose number has no answer, in their order
 abbrev pub without_answer : List ℕ → List Sent → List Sent
-without_answer answered requests = filter (λ (s : Sent). not (list_any (λ n. n == s.seq) answered)) requests
+without_answer answered requests = filter
+    (λ (s : Sent). not (list_any (λ n. n == s.seq) answered)) requests
 
 -- the lines of a text of command k
 abbrev pub lines_in : ℕ → Report → List Line

@@ -11,4 +11,5 @@ StreamsJoin =
 
 -- What is said later of a command follows what was said.
 abbrev pub SaidGrows : Type 0
-SaidGrows = (first second : List Report) (k : ℕ) → said (first ++ second) k ≡ said first k ++ said second k
+SaidGrows = (first second : List Report) (k : ℕ) → said (first ++ second) k
+    ≡ said first k ++ said second k

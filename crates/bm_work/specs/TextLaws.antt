@@ -21,7 +21,8 @@ abbrev pub TextsAreTheBytes : Type 0
 TextsAreTheBytes = (bytes : List ℕ) → concat (texts_of bytes) ++ left_of bytes ≡ bytes
 
 abbrev pub TextsEndWhereTheyMust : Type 0
-TextsEndWhereTheyMust = (bytes : List ℕ) → All IsText (texts_of bytes) × IsPartOfLine (left_of bytes)
+TextsEndWhereTheyMust = (bytes : List ℕ) → All IsText (texts_of bytes)
+    × IsPartOfLine (left_of bytes)
 
 -- In which pieces the bytes come plays no part.
 abbrev pub PiecesPlayNoPart : Type 0

@@ -50,8 +50,10 @@ impl Assembler {
     /// The texts that end in the kept bytes followed by the piece; what follows the last of them is kept.
     /// Bytes that are not UTF-8 are shown as U+FFFD. Want of memory changes nothing.
     pub fn feed(&mut self, piece: &[u8]) -> Result<Vec<Text>, AllocError>
-        ensures texts { IfOk result (λ texts. texts.items ≡ shown (texts_of (self.old.kept ++ piece.now))) }
-        ensures kept { OnOk result (self.new ≡ record self.old { kept = left_of (self.old.kept ++ piece.now) }) }
+        ensures texts { IfOk result (λ texts. texts.items
+            ≡ shown (texts_of (self.old.kept ++ piece.now))) }
+        ensures kept { OnOk result (self.new
+            ≡ record self.old { kept = left_of (self.old.kept ++ piece.now) }) }
         ensures err { OnErr result (self.new ≡ self.old) }
     {
         let alloc = *self.kept.allocator();
@@ -87,7 +89,8 @@ impl Assembler {
 fn find_end(before: usize, bytes: &[u8]) -> Option<usize>
     requires { before < longest }
     ensures end { result ≡ first_end before bytes.now }
-    ensures within { IfSome result (λ n. (n ≤ length bytes.now) × (0 < n) × (before + n ≤ longest)) }
+    ensures within { IfSome result (λ n. (n ≤ length bytes.now) × (0 < n)
+        × (before + n ≤ longest)) }
 {
     let room = LONGEST - before;
     let len = room.min(bytes.len());
@@ -104,7 +107,8 @@ fn push_texts<'a>(
     texts: &mut Vec<Text>,
     bytes: &'a [u8],
 ) -> Result<&'a [u8], AllocError>
-    ensures texts { OnOk result (texts.new.items ≡ texts.old.items ++ shown (texts_after [] bytes.now)) }
+    ensures texts { OnOk result (texts.new.items
+        ≡ texts.old.items ++ shown (texts_after [] bytes.now)) }
     ensures left { IfOk result (λ left. left.now ≡ left_after [] bytes.now) }
 {
     let mut rest = bytes;

@@ -45,9 +45,10 @@ impl History {
         History {}
     }
 
-    #[inline(always)]
+    /// The history with what the note adds.
     pub(crate) fn with(&self, _note: &Note<'_>) -> History
-        ensures { (result.reports ≡ self.now.reports ++ reported_by _note.now) × (result.answered ≡ self.now.answered ++ answered_by _note.now) }
+        ensures { (result.reports ≡ self.now.reports ++ reported_by _note.now)
+            × (result.answered ≡ self.now.answered ++ answered_by _note.now) }
     {
         History {}
     }

@@ -86,7 +86,8 @@ pub(crate) fn said(
 fn update(alloc: Global, seq: u64, command: u64, field: Field) -> Result<Sent, AllocError>
     requires number { seq < 2 ^ 63 }
     requires short { IsShort (item_of field) }
-    ensures { IfOk result (λ s. s ≡ record { seq = seq; bytes = request_bytes seq (update command (field ∷ [])) }) }
+    ensures { IfOk result (λ s. s
+        ≡ record { seq = seq; bytes = request_bytes seq (update command (field ∷ [])) }) }
 {
     let mut fields = Fields::new(alloc);
     fields.push(field)?;

@@ -20,7 +20,8 @@ pub(crate) fn numbered(alloc: Global, seq: u64, request: Request) -> Result<Sent
     requires number { seq < 2 ^ 63 }
     requires flat { depth (tree_of (asks seq (asked request))) ≤ 32 }
     requires short { IsShort (tree_of (asks seq (asked request))) }
-    ensures { IfOk result (λ s. s ≡ record { seq = seq; bytes = request_bytes seq (asked request) }) }
+    ensures { IfOk result (λ s. s
+        ≡ record { seq = seq; bytes = request_bytes seq (asked request) }) }
 {
     match write_request(alloc, &Numbered { seq, request }) {
         Ok(bytes) => Ok(Sent {

@@ -17,15 +17,12 @@ use crate::history::{History, Note};
 use crate::sent::{Finish, Sent, copies, ending, said};
 use crate::wire::reply;
 use bm_lines::Letter;
-use bm_msg::{Message, Numbered};
+use bm_msg::{Message, NUMBER_LIMIT, Numbered};
 use std::alloc::{AllocError, Global};
 use std::marker::Model;
 
 /// The most requests without an answer.
 const WINDOW: usize = 64;
-
-/// The numbers of requests are below this one.
-const NUMBERS: u64 = 1 << 63;
 
 /// A worker's side of a session: the commands that run, the requests that have no answer yet, and the
 /// requests that were heard. What it reported in the session, it keeps in the proofs alone.
@@ -47,9 +44,20 @@ impl Model for Worker {
 
     ghost coded = { Prim.hlevel (codes, kept_answers.the_row.coded) };
 
-    ghost view = { λ w. record { running = w.running.items; reports = w.history.reports; answered = w.history.answered; answers = w.answers } };
+    ghost view = { λ w. record {
+      running = w.running.items;
+      reports = w.history.reports;
+      answered = w.history.answered;
+      answers = w.answers;
+    } };
 
-    ghost invariant = { λ w. IsKept (record { running = w.running.items; reports = w.history.reports; answered = w.history.answered; answers = w.answers }) w.next w.unanswered.items };
+    ghost invariant = { λ w. IsKept
+        (record {
+          running = w.running.items;
+          reports = w.history.reports;
+          answered = w.history.answered;
+          answers = w.answers;
+        }) w.next w.unanswered.items };
 }
 
 impl Worker {
@@ -86,7 +94,8 @@ impl Worker {
         message: Message,
     ) -> Result<(WorkAct, Option<Vec<u8>>), (Message, WorkRefusal)>
         ensures act { IfOk result (λ r. r.0 ≡ (heard self.old (meaning message)).act) }
-        ensures reply { IfOk result (λ r. option_map (λ v. v.items) r.1 ≡ (heard self.old (meaning message)).reply) }
+        ensures reply { IfOk result (λ r. option_map (λ v. v.items) r.1
+            ≡ (heard self.old (meaning message)).reply) }
         ensures core { OnOk result (self.new ≡ (heard self.old (meaning message)).core) }
         ensures back { IfErr result (λ e. (e.0 ≡ message) × (e.1 ≡ WorkRefusal.Mem)) }
         ensures err { OnErr result (self.new ≡ self.old) }
@@ -100,7 +109,7 @@ impl Worker {
         }
     }
 
-    /// The same for a request with that number whose keys are missing or of another kind.
+    /// What a request with that number asks whose keys are missing or of another kind: nothing, and its response.
     ///
     /// # Errors
     ///
@@ -108,7 +117,8 @@ impl Worker {
     pub fn bad_args(&mut self, seq: u64) -> Result<(WorkAct, Option<Vec<u8>>), WorkRefusal>
         requires { seq < 2 ^ 63 }
         ensures act { IfOk result (λ r. r.0 ≡ (bad_request self.old seq).act) }
-        ensures reply { IfOk result (λ r. option_map (λ v. v.items) r.1 ≡ (bad_request self.old seq).reply) }
+        ensures reply { IfOk result (λ r. option_map (λ v. v.items) r.1
+            ≡ (bad_request self.old seq).reply) }
         ensures core { OnOk result (self.new ≡ (bad_request self.old seq).core) }
         ensures mem { IfErr result (λ e. e ≡ WorkRefusal.Mem) }
         ensures err { OnErr result (self.new ≡ self.old) }
@@ -130,10 +140,13 @@ impl Worker {
     /// no answer or the numbers below 2^63 are used up, else `Mem`. They change nothing.
     pub fn say(&mut self, command: u64, letter: Letter, text: &str) -> Result<Sent, WorkRefusal>
         requires { length text.now ≤ 65536 }
-        ensures sent { IfOk result (λ s. s ≡ sent (next_number self.old) (text_of command letter text.now)) }
-        ensures kept { OnOk result (self.new ≡ with_reports (text_of command letter text.now ∷ []) self.old) }
+        ensures sent { IfOk result (λ s. s
+            ≡ sent (next_number self.old) (text_of command letter text.now)) }
+        ensures kept { OnOk result (self.new
+            ≡ with_reports (text_of command letter text.now ∷ []) self.old) }
         ensures accepted { OnOk result (refusal_of self.old command 1 ≡ None) }
-        ensures refused { IfErr result (λ e. (refusal_of self.old command 1 ≡ Some e) ⊎ ((refusal_of self.old command 1 ≡ None) × (e ≡ WorkRefusal.Mem))) }
+        ensures refused { IfErr result (λ e. (refusal_of self.old command 1 ≡ Some e)
+            ⊎ ((refusal_of self.old command 1 ≡ None) × (e ≡ WorkRefusal.Mem))) }
         ensures err { OnErr result (self.new ≡ self.old) }
     {
         if let Some(refusal) = self.refusal(command, 1) {
@@ -156,10 +169,16 @@ impl Worker {
     /// numbers below 2^63 lack the places, else `Mem`. They change nothing.
     pub fn finish(&mut self, command: u64, finish: Finish) -> Result<Vec<Sent>, WorkRefusal>
         requires { length (fault_of finish) ≤ 65536 }
-        ensures sent { IfOk result (λ v. v.items ≡ stream_from (next_number self.old) (reports_of command finish)) }
-        ensures kept { OnOk result (self.new ≡ without_command command (with_reports (reports_of command finish) self.old)) }
-        ensures accepted { OnOk result (refusal_of self.old command (length (reports_of command finish)) ≡ None) }
-        ensures refused { IfErr result (λ e. (refusal_of self.old command (length (reports_of command finish)) ≡ Some e) ⊎ ((refusal_of self.old command (length (reports_of command finish)) ≡ None) × (e ≡ WorkRefusal.Mem))) }
+        ensures sent { IfOk result (λ v. v.items
+            ≡ stream_from (next_number self.old) (reports_of command finish)) }
+        ensures kept { OnOk result (self.new
+            ≡ without_command command (with_reports (reports_of command finish) self.old)) }
+        ensures accepted { OnOk result
+            (refusal_of self.old command (length (reports_of command finish)) ≡ None) }
+        ensures refused { IfErr result
+            (λ e. (refusal_of self.old command (length (reports_of command finish)) ≡ Some e)
+            ⊎ ((refusal_of self.old command (length (reports_of command finish)) ≡ None)
+            × (e ≡ WorkRefusal.Mem))) }
         ensures err { OnErr result (self.new ≡ self.old) }
     {
         let places = places_of(&finish);
@@ -179,17 +198,22 @@ impl Worker {
 
     /// Exactly the requests of the stream that have no answer, oldest first, with the bytes that were sent.
     pub fn resend(&self) -> Result<Vec<Sent>, AllocError>
-        ensures unanswered { IfOk result (λ v. v.items ≡ without_answer self.now.answered (stream self.now.reports)) }
-        ensures oldest_first { Rise 0 (numbers (unanswered_requests self.now)) (next_number self.now) }
+        ensures unanswered { IfOk result (λ v. v.items
+            ≡ without_answer self.now.answered (stream self.now.reports)) }
+        ensures oldest_first { Rise 0 (numbers (unanswered_requests self.now))
+            (next_number self.now) }
     {
         copies(*self.unanswered.allocator(), self.unanswered.as_slice())
     }
 
     /// What a request asks, and its response. Want of memory gives it back and changes nothing.
     fn hear_request(&mut self, numbered: Numbered) -> Result<(WorkAct, Vec<u8>), Numbered>
-        ensures act { IfOk result (λ r. r.0 ≡ (heard self.old (request numbered.seq (asked numbered.request))).act) }
-        ensures reply { IfOk result (λ r. Some r.1.items ≡ (heard self.old (request numbered.seq (asked numbered.request))).reply) }
-        ensures core { OnOk result (self.new ≡ (heard self.old (request numbered.seq (asked numbered.request))).core) }
+        ensures act { IfOk result (λ r. r.0
+            ≡ (heard self.old (request numbered.seq (asked numbered.request))).act) }
+        ensures reply { IfOk result (λ r. Some r.1.items
+            ≡ (heard self.old (request numbered.seq (asked numbered.request))).reply) }
+        ensures core { OnOk result (self.new
+            ≡ (heard self.old (request numbered.seq (asked numbered.request))).core) }
         ensures err { IfErr result (λ e. (e ≡ numbered) × (self.new ≡ self.old)) }
     {
         let Some(first) = self.answers.get(numbered.seq) else {
@@ -201,11 +225,14 @@ impl Worker {
         }
     }
 
-    /// The same for a request that comes for the first time.
+    /// What a request that comes for the first time asks, and its response.
     fn hear_first(&mut self, numbered: Numbered) -> Result<(WorkAct, Vec<u8>), Numbered>
-        ensures act { IfOk result (λ r. r.0 ≡ (heard_request self.old numbered.seq (asked numbered.request) None).act) }
-        ensures reply { IfOk result (λ r. Some r.1.items ≡ (heard_request self.old numbered.seq (asked numbered.request) None).reply) }
-        ensures core { OnOk result (self.new ≡ (heard_request self.old numbered.seq (asked numbered.request) None).core) }
+        ensures act { IfOk result (λ r. r.0
+            ≡ (heard_request self.old numbered.seq (asked numbered.request) None).act) }
+        ensures reply { IfOk result (λ r. Some r.1.items
+            ≡ (heard_request self.old numbered.seq (asked numbered.request) None).reply) }
+        ensures core { OnOk result (self.new
+            ≡ (heard_request self.old numbered.seq (asked numbered.request) None).core) }
         ensures err { IfErr result (λ e. (e ≡ numbered) × (self.new ≡ self.old)) }
     {
         let alloc = *self.unanswered.allocator();
@@ -235,7 +262,7 @@ impl Worker {
         if !runs(self.running.as_slice(), command) {
             return Some(WorkRefusal::NoSuchCommand);
         }
-        if self.unanswered.len() + places > WINDOW || self.next > NUMBERS - places as u64 {
+        if self.unanswered.len() + places > WINDOW || self.next > NUMBER_LIMIT - places as u64 {
             return Some(WorkRefusal::Window);
         }
         None
@@ -244,7 +271,8 @@ impl Worker {
     /// Frees the place of the request with that number.
     fn free(&mut self, seq: u64) -> WorkAct
         ensures freed { self.new ≡ freed self.old seq }
-        ensures act { result ≡ (if awaits self.old seq then WorkAct.Answered seq else WorkAct.Nothing) }
+        ensures act { result
+            ≡ (if awaits self.old seq then WorkAct.Answered seq else WorkAct.Nothing) }
     {
         if !contains(self.unanswered.as_slice(), seq) {
             return WorkAct::Nothing;
@@ -262,7 +290,8 @@ fn take_out(commands: &mut Vec<u64>, command: u64)
 }
 
 fn take_out_request(requests: &mut Vec<Sent>, seq: u64)
-    ensures { requests.new.items ≡ filter (λ (s : SentRequest). not (s.seq == seq)) requests.old.items }
+    ensures { requests.new.items
+        ≡ filter (λ (s : SentRequest). not (s.seq == seq)) requests.old.items }
 {
     requests.retain(|sent| sent.seq != seq);
 }

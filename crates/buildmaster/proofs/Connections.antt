@@ -6,12 +6,11 @@ use Rattle.std.proofs.lemmas.Bool.Decides.{nat_tests}
 use Rattle.std.proofs.lemmas.List.{append-nil, length_push}
 use Rattle.bm_lines.specs.declared.line.Line.{Line}
 use Rattle.bm_session.proofs.Pushed.{next}
-use Rattle.bm_session.proofs.Taken.{and-right}
 use Rattle.bm_session.specs.declared.event.Event.{Event}
 use Rattle.bm_session.specs.declared.event.Event.TheVariants.{Up, In, Go, Stop, Cut, Down}
 use Rattle.bm_session.specs.declared.event.Body.TheVariants.{Answered}
 use Rattle.bm_session.specs.declared.refusal.Refusal.{Refusal}
-use Rattle.bm_session.specs.Trace.{Trace, begins_session, is_fresh, is_new_number, is_up, is_cut, refusal}
+use Rattle.bm_session.specs.Trace.{Trace, begins_session, is_fresh, is_new_number, is_cut, refusal}
 use Rattle.bm_work.specs.Core.{numbers}
 use Rattle.bm_work.specs.Stream.{Report, sent, stream, stream_from, without_answer}
 use Rattle.bm_world.specs.declared.step.Step.TheVariants.{Hear, Drain, Look}
@@ -169,7 +168,7 @@ linked-Up x s = go (refusal x.scene.lane.trace Up) refl
 
 pub linked : (f : ℕ → List Line) (x : Linked) (p : Happening) → is_possible x p ≡ true → AgreeOf f x → LinkOf x → LinkOf (after_one x p)
 linked f x (Learn n) ok h s = record {
-  in_order = learns (requests_taken x.scene.lane.trace) (length x.scene.worker.reports) (passage x.link) n s.in_order (arrived-number x.link.sent x.link.arrived n (and-right (is_up x.scene.lane.trace) _ ok));
+  in_order = learns (requests_taken x.scene.lane.trace) (length x.scene.worker.reports) (passage x.link) n s.in_order (arrived-number x.link.sent x.link.arrived n ok);
   sent_of = s.sent_of;
 }
 linked f x (Do (Run k)) ok h s = s

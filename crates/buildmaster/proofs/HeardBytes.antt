@@ -1,29 +1,23 @@
 -- What the program answers to the bytes of a request.
-use Rattle.std.proofs.Common.{◌≡◌, sym, ◌∙◌, subst, ℕ, ◌<◌, ◌≤◌, ◌^◌, List}
-use Rattle.std.specs.Prelude.{Result, Ok, Err}
+use Rattle.std.proofs.Common.{◌≡◌, refl, inl, sym, subst, ℕ, ◌<◌, ◌≤◌, ◌^◌, List}
+use Rattle.std.specs.Prelude.{Ok, Err}
 use Rattle.bm_value.specs.declared.fault.DecodeError.{DecodeError}
 use Rattle.bm_value.specs.declared.fault.DecodeError.TheVariants.{Truncated, Reserved, BadUtf8, TooDeep, Trailing, Mem as NoMemory}
 use Rattle.bm_value.specs.Reading.{Refuses}
 use Rattle.bm_value.specs.Spelling.{Spells}
 use Rattle.bm_value.specs.Tree.{Tree, depth}
 use Rattle.bm_value.proofs.Unique.{spelled_once}
-use Rattle.bm_msg.specs.Answers.{Reads}
 use Rattle.bm_msg.specs.declared.fault.MsgError.{MsgError}
-use Rattle.bm_msg.specs.declared.fault.MsgError.TheVariants.{NotMap, NoSeq, NoOp, BadArgs, Mem}
-use Rattle.bm_msg.specs.Meaning.{Meaning, request}
+use Rattle.bm_msg.specs.declared.fault.MsgError.TheVariants.{Mem}
+use Rattle.bm_msg.specs.Meaning.{request}
 use Rattle.bm_msg.specs.Messages.{IsMessage}
 use Rattle.bm_session.specs.declared.event.Event.{Event}
-use Rattle.bm_session.specs.Heard.{event_of}
+use Rattle.bm_session.specs.Heard.{IsEvent}
 use Rattle.bm_work.specs.Stream.{Report, asked_by, sent}
-use Rattle.buildmaster.specs.declared.incoming.Unread.{Unread}
 use Rattle.buildmaster.specs.declared.incoming.Unread.TheVariants.{Spelling, Meaning as Telling, OutOfMemory}
 use Rattle.buildmaster.specs.Schedule.{as_heard}
 use Rattle.buildmaster.specs.Wire.{CanBeSaid, AreRead, IsHeard, HearsRequests}
-use Rattle.buildmaster.proofs.Bytes.{bytes_are_read, bytes_are_the_event}
-
-pub hears-event : (bytes : List ℕ) (t : Tree) (m : Meaning) (e : Event) → Spells bytes t → IsMessage t m → e ≡ event_of m → HearsRequests bytes (Ok e)
-unfolding HearsRequests
-hears-event bytes t m e spelled told is = λ n r low can same. is ∙ bytes_are_the_event n r t m low can (subst (λ b. Spells b t) same spelled) told
+use Rattle.buildmaster.proofs.Bytes.{bytes_are_read}
 
 pub hears-nothing : (bytes : List ℕ) → HearsRequests bytes (Err OutOfMemory)
 unfolding HearsRequests
@@ -51,23 +45,17 @@ told-by bytes n r t low can same spelled =
     let one : read.tree ≡ t = spelled_once (sent n r).bytes read.tree t read.spelled (subst (λ b. Spells b t) same spelled) in
     subst (λ u. IsMessage u (request n (asked_by r))) one read.told
 
-untold : (fault : MsgError) (m : Meaning) (e : Event) → Reads (Err fault) (Ok m) → IsHeard (Err (Telling fault)) e
-untold NotMap m e h = absurd cc
-untold NoSeq m e h = absurd cc
-untold NoOp m e h = absurd cc
-untold (BadArgs k) m e h = absurd cc
-untold Mem m e h = tt
-
-pub hears-told : (bytes : List ℕ) (t : Tree) (fault : MsgError) → Spells bytes t → ((m : Meaning) → IsMessage t m → Reads (Err fault) (Ok m)) → HearsRequests bytes (Err (Telling fault))
+-- the event of that tree is what is answered
+pub hears-event : (bytes : List ℕ) (t : Tree) (answered : Event) → Spells bytes t → ((e : Event) → IsEvent t e → answered ≡ e) → HearsRequests bytes (Ok answered)
 unfolding HearsRequests
-hears-told bytes t fault spelled only = λ n r low can same.
-    untold fault (request n (asked_by r)) (as_heard n r) (only (request n (asked_by r)) (told-by bytes n r t low can same spelled))
+hears-event bytes t answered spelled only = λ n r low can same.
+    only (as_heard n r) (inl (request n (asked_by r), told-by bytes n r t low can same spelled, refl))
 
-no-bad-args : (k : ℕ) (m : Meaning) (answer : Result Event Unread) (e : Event) → Reads (Err (BadArgs k)) (Ok m) → IsHeard answer e
-no-bad-args k m answer e h = absurd cc
+untold : (fault : MsgError) (e : Event) → fault ≡ Mem → IsHeard (Err (Telling fault)) e
+untold fault e is = subst (λ f. IsHeard (Err (Telling f)) e) (sym is) tt
 
-pub hears-bad-args : (bytes : List ℕ) (t : Tree) (fault : MsgError) (k : ℕ) (answer : Result Event Unread) → Spells bytes t → fault ≡ BadArgs k → ((m : Meaning) → IsMessage t m → Reads (Err fault) (Ok m)) → HearsRequests bytes answer
+-- and no other fault of that tree is told but want of memory
+pub hears-told : (bytes : List ℕ) (t : Tree) (fault : MsgError) → Spells bytes t → ((e : Event) → IsEvent t e → fault ≡ Mem) → HearsRequests bytes (Err (Telling fault))
 unfolding HearsRequests
-hears-bad-args bytes t fault k answer spelled is only = λ n r low can same.
-    no-bad-args k (request n (asked_by r)) answer (as_heard n r)
-    (subst (λ f. Reads (Err f) (Ok (request n (asked_by r)))) is (only (request n (asked_by r)) (told-by bytes n r t low can same spelled)))
+hears-told bytes t fault spelled wants = λ n r low can same.
+    untold fault (as_heard n r) (wants (as_heard n r) (inl (request n (asked_by r), told-by bytes n r t low can same spelled, refl)))

@@ -19,8 +19,4 @@ mod ResumedExamples
 mod Bytes
 mod HeardBytes
 mod SmallNumbers
-mod Hex
-mod HexLanes
 mod Lines
-mod Windows
-mod Scripts

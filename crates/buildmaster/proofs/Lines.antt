@@ -1,6 +1,8 @@
--- How much of a script is left.
-use Rattle.std.proofs.Common.{◌≡◌, ℕ, ◌+◌, ◌<◌, ◌≤◌, List, ◌∷◌, ◌++◌, take, length, Option, Some, None, IfSome, ap, arith, length-append, Bor}
-use Rattle.std.proofs.lemmas.List.{length-take}
+-- What is read of a script, and how much of it is left.
+use Rattle.std.proofs.Common.{◌≡◌, sym, ◌∙◌, ap, subst, ℕ, ◌+◌, ◌<◌, ◌≤◌, List, ◌∷◌, ◌++◌, length, take, Option, Some, None, IfSome, arith, length-append, append-nil, Bor}
+use Rattle.std.specs.Io.KnownBytes.{Consumes}
+use Rattle.std.proofs.KnownBytes.{Consumes-trans}
+use Rattle.std.proofs.lemmas.List.{take-take, take-append-le}
 use Rattle.std.specs.Option.{option_map_or}
 
 -- the bytes that are left, and one more where there is a line
@@ -11,10 +13,12 @@ pub cut_shortens : (line text : List ℕ) (left : Option (Bor (List ℕ))) → I
 cut_shortens line text None cut = omega arith
 cut_shortens line text (Some rest) cut = omega (arith, ap length cut, length-append line (10 ∷ rest.now))
 
--- a front of so many bytes has no more
-pub length-front : (n : ℕ) (xs : List ℕ) → length (take n xs) ≤ n
-length-front n xs = omega (arith, length-take n xs)
+-- a read of no bytes
+pub reads-none : (a b c : Option (List ℕ)) (script piece : List ℕ) (n : ℕ) → n ≡ 0 → Consumes a b script → Consumes b c (take n piece) → Consumes a c script
+reads-none a b c script piece n none before read =
+    subst (Consumes a c) (append-nil script) (Consumes-trans a b c script _ before (subst (λ k. Consumes b c (take k piece)) none read))
 
--- what fits into a front fits into what is full of it
-pub within_front : (filled n : ℕ) (xs : List ℕ) (before count total : ℕ) → filled ≤ length (take n xs) → before + count ≡ n → before ≤ total → filled ≤ total + count
-within_front filled n xs before count total room full within = omega (arith, length-front n xs)
+-- the front of what a read filled
+pub front-of : (n len : ℕ) (xs ys rest : List ℕ) → n ≤ length xs → n ≤ len → ys ≡ take len (xs ++ rest) → take n xs ≡ take n ys
+front-of n len xs ys rest fits few is =
+    sym (ap (take n) is ∙ take-take n len (xs ++ rest) few ∙ take-append-le n xs rest fits)

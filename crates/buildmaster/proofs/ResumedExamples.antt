@@ -74,6 +74,20 @@ viewers_see_each_line_once = refl
 they_see_what_was_said : log (visible (reached over_a_cut).scene.lane.trace (reached over_a_cut).scene.lane.shown) 0 stdio ≡ said (reported (acts_of over_a_cut)) 0
 they_see_what_was_said = refl
 
+-- the answer lies in the worker's socket when the lane is cut: it is learned after the cut, and its request isn't sent again
+abbrev learned_after_the_cut : List Happening
+learned_after_the_cut =
+    up ∷ start ∷ run 0 ∷ say 0 (codes "a\n") ∷ say 0 (codes "b\n") ∷ deliver 0 ∷ deliver 1 ∷ Learn 0 ∷ cut ∷ Learn 1 ∷ say 0 (codes "c\n") ∷ up ∷ []
+
+learned_after_the_cut_is_one : is_resumed_schedule 8 (learned_after_the_cut ++ deliver 2 ∷ []) ≡ true
+learned_after_the_cut_is_one = refl
+
+answered_is_not_sent_again : numbers (reached learned_after_the_cut).link.sent ≡ 2 ∷ []
+answered_is_not_sent_again = refl
+
+each_line_is_logged_once : log (reached (learned_after_the_cut ++ deliver 2 ∷ [])).scene.lane.trace 0 stdio ≡ line (codes "a") ∷ line (codes "b") ∷ line (codes "c") ∷ []
+each_line_is_logged_once = refl
+
 -- a new request after a resuming Up under a number that was had: none; with the next number it is one
 abbrev one_line_and_a_cut : List Happening
 one_line_and_a_cut = up ∷ start ∷ run 0 ∷ say 0 (codes "a\n") ∷ deliver 0 ∷ Learn 0 ∷ cut ∷ up ∷ say 0 (codes "b\n") ∷ []
@@ -95,7 +109,7 @@ twice_is_none = refl
 hole_is_none : is_resumed_schedule 8 (up ∷ start ∷ run 0 ∷ say 0 (codes "a\n") ∷ say 0 (codes "b\n") ∷ deliver 1 ∷ []) ≡ false
 hole_is_none = refl
 
--- the worker learns an answer that the cut lost, or one before its request was taken
+-- the worker learns an answer that the cut lost over the next connection, or one before its request was taken
 lost_answer_is_none : is_resumed_schedule 8 (up ∷ start ∷ run 0 ∷ say 0 (codes "a\n") ∷ deliver 0 ∷ cut ∷ up ∷ Learn 0 ∷ []) ≡ false
 lost_answer_is_none = refl
 

@@ -23,8 +23,10 @@ AllSaidIsLogged =
     → is_schedule c (acts ++ more) ≡ true
     → is_over (scene_after (opening c) acts) more ≡ true
     → was_started (scene_after (opening c) acts).lane.trace k ≡ true
-    → requests_taken (scene_after (opening c) acts).lane.trace ≡ length (scene_after (opening c) acts).worker.reports
-    → log (scene_after (opening c) (acts ++ more)).lane.trace k stdio ≡ said (reported (acts ++ more)) k
+    → requests_taken (scene_after (opening c) acts).lane.trace
+    ≡ length (scene_after (opening c) acts).worker.reports
+    → log (scene_after (opening c) (acts ++ more)).lane.trace k stdio
+    ≡ said (reported (acts ++ more)) k
 
 -- a log of another name has no line: the worker says nothing under it
 abbrev pub OtherLogsAreEmpty : Type 0
@@ -48,7 +50,8 @@ abbrev pub ResumedIsLogged : Type 0
 ResumedIsLogged =
     (c : ℕ) (ps : List Happening) (k : ℕ)
     → is_resumed_schedule c ps ≡ true
-    → IsPrefix (log (linked_after (at_first c) ps).scene.lane.trace k stdio) (said (reported (acts_of ps)) k)
+    → IsPrefix (log (linked_after (at_first c) ps).scene.lane.trace k stdio)
+    (said (reported (acts_of ps)) k)
 
 -- where the worker has no request unanswered, no session was given up and the lane is drained, viewers see all of it
 abbrev pub AllResumedIsLogged : Type 0
@@ -57,7 +60,8 @@ AllResumedIsLogged =
     → is_resumed_schedule c ps ≡ true
     → unanswered (linked_after (at_first c) ps) ≡ []
     → list_any is_down_event (linked_after (at_first c) ps).scene.lane.trace ≡ false
-    → (linked_after (at_first c) ps).scene.lane.shown ≡ productive (linked_after (at_first c) ps).scene.lane.trace
+    → (linked_after (at_first c) ps).scene.lane.shown
+    ≡ productive (linked_after (at_first c) ps).scene.lane.trace
     → log (visible (linked_after (at_first c) ps).scene.lane.trace (linked_after (at_first c) ps).scene.lane.shown) k stdio
     ≡ said (reported (acts_of ps)) k
 
@@ -70,14 +74,16 @@ abbrev pub SentAreRequests : Type 0
 SentAreRequests =
     (c : ℕ) (ps : List Happening)
     → is_resumed_schedule c ps ≡ true
-    → AllByRecursion (IsSentOf (linked_after (at_first c) ps).scene.worker.reports) (linked_after (at_first c) ps).link.sent
+    → AllByRecursion (IsSentOf (linked_after (at_first c) ps).scene.worker.reports)
+    (linked_after (at_first c) ps).link.sent
 
 -- its acts are a schedule, and what is reached is what that schedule reaches: so all that holds of schedules holds here
 abbrev pub ResumedIsSchedule : Type 0
 ResumedIsSchedule =
     (c : ℕ) (ps : List Happening)
     → is_resumed_schedule c ps ≡ true
-    → (is_schedule c (acts_of ps) ≡ true) × ((linked_after (at_first c) ps).scene ≡ scene_after (opening c) (acts_of ps))
+    → (is_schedule c (acts_of ps) ≡ true)
+    × ((linked_after (at_first c) ps).scene ≡ scene_after (opening c) (acts_of ps))
 
 -- a log of another name has no line
 abbrev pub OtherResumedLogsAreEmpty : Type 0

@@ -1,7 +1,11 @@
+-- What a reader of this crate has to believe: all of these files. The lemmas of proofs/ only help their proofs.
+-- what a worker and its lane do, connection after connection
 pub mod Schedule
+-- the same over connections that are cut and resumed
 pub mod Resumed
+-- what then holds of logs
 pub mod Laws
+-- that the bytes of a message are the event which a schedule delivers
 pub mod Wire
+-- what hex digits write
 pub mod Hex
-pub mod Window
-pub mod Script

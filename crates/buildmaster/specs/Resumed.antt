@@ -1,8 +1,12 @@
 -- Resumed schedules: schedules over connections that are cut and resumed, with what is in flight on them.
+--
+-- Two things they take for granted of the world. The worker's core is never restarted inside a session: each connection that
+-- resumes meets the core that the last one had. And the worker hears of a giving up: no cut drops the answer `new` to the `auth`
+-- that follows one, so its core is new from that Up on. What an old core says until it hears `new` counts as said before that Up.
 use Rattle.std.specs.Prelude.{ℕ, ◌+◌, Bool, true, false, ◌==◌, not, ◌&&◌, nat_lt, List, [], ◌∷◌, ◌++◌, length, take, Option, Some, None, if◌then◌else◌, option_map, unwrap_or, slice_get, fold, filter_map}
 use Rattle.std.specs.List.{list_any}
 use Rattle.bm_session.specs.declared.event.Event.TheVariants.{Up}
-use Rattle.bm_session.specs.Trace.{is_up, is_cut}
+use Rattle.bm_session.specs.Trace.{is_cut}
 use Rattle.bm_work.specs.declared.sent.Sent.{Sent}
 use Rattle.bm_work.specs.Stream.{stream, stream_from, without_answer}
 use Rattle.bm_world.specs.declared.step.Step.TheVariants.{Hear}
@@ -42,8 +46,9 @@ abbrev pub is_possible : Linked → Happening → Bool
 -- a connection keeps the order
 is_possible x (Do (Deliver n)) = is_next x.link n
 is_possible x (Do a) = is_allowed x.scene a
--- only what the lane took over this connection is answered over it: a cut loses the other answers
-is_possible x (Learn n) = is_up x.scene.lane.trace && list_any (λ (s : Sent). s.seq == n) (take x.link.arrived x.link.sent)
+-- only what the lane took over this connection is answered over it. A cut may lose answers: one that lies in the worker's
+-- socket already is learned after the cut too, and none once another connection began
+is_possible x (Learn n) = list_any (λ (s : Sent). s.seq == n) (take x.link.arrived x.link.sent)
 
 -- What follows
 

@@ -54,4 +54,5 @@ IsHeard (Err other) event = ⊥
 
 -- where the bytes are those of a request that a worker can say, the call answers the event that a schedule delivers
 unfoldable pub HearsRequests : List ℕ → Result Event Unread → Type 0
-HearsRequests bytes answered = (n : ℕ) (r : Report) → n < 2 ^ 63 → CanBeSaid r → bytes ≡ (sent n r).bytes → IsHeard answered (as_heard n r)
+HearsRequests bytes answered =
+    (n : ℕ) (r : Report) → n < 2 ^ 63 → CanBeSaid r → bytes ≡ (sent n r).bytes → IsHeard answered (as_heard n r)

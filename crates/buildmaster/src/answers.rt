@@ -3,43 +3,12 @@
 use bm_lines::{Block, content};
 use bm_session::{Reply, Results, Verdict};
 use bm_world::Answer;
-use itoa::write_digits;
 use std::alloc::Global;
 use std::io;
 use std::io::Write;
 
-/// What stands before a request's number in the answer to it.
-const WORD: &[u8] = b"answer ";
-
-/// Where the number's last digit stands in the line that `write_done` makes. It has room for 20 digits behind the word.
-const DIGITS_END: usize = 27;
-
 /// Writes what a lane answered to a step: `silent` where an event was taken that nothing is sent for.
-///
-/// The answers to an update and to a drain are written as bytes, since most lines of a script are those.
-#[inline(always)]
 pub fn write_answer<W: Write>(output: &mut W, answer: Answer, silent: &str) -> io::Result<()> {
-    match answer {
-        Answer::Heard(Reply::Answer(number, Verdict::Done)) => write_done(output, number),
-        Answer::Took => output.write_all(b"took\n"),
-        _ => write_words(output, answer, silent),
-    }
-}
-
-/// Writes that a request was done: its digits are put between the words, so that all goes out as one piece.
-#[inline(always)]
-fn write_done<W: Write>(output: &mut W, number: u64) -> io::Result<()> {
-    let mut line = *b"                            nil\n";
-    let digits = write_digits(number, &mut line, DIGITS_END);
-    let start = digits - WORD.len();
-    line[start..digits].copy_from_slice(WORD);
-    output.write_all(&line[start..])
-}
-
-/// Writes any answer. Kept apart, it takes nothing from the frequent ones.
-#[cold]
-#[inline(never)]
-fn write_words<W: Write>(output: &mut W, answer: Answer, silent: &str) -> io::Result<()> {
     match answer {
         Answer::Heard(reply) => write_reply(output, reply, silent),
         Answer::Refused(refusal) => writeln!(output, "refused {refusal}"),

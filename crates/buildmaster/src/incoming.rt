@@ -1,16 +1,16 @@
 //! A recorded message of the worker, from hex digits to an event.
 
-ghost use Rattle.std.specs.Prelude.{ℕ, List};
-ghost use Rattle.bm_value.specs.Spelling.{Spells};
-ghost use Rattle.bm_value.specs.View.{tree};
+ghost use Rattle.std.specs.Prelude.{◌≡◌, ◌⊎◌, ℕ, List, IfOk, IfErr};
+ghost use Rattle.buildmaster.specs.Hex.{Write};
 ghost use Rattle.buildmaster.specs.Wire.{HearsRequests};
+ghost use Rattle.buildmaster.specs.declared.incoming.Unread.TheVariants.{Hex, OutOfMemory};
 
-use crate::hex_digits::{HexError, read_hex};
-use bm_msg::{MsgError, read, read_text};
+use bm_msg::MsgError;
 use bm_session::Event;
-use bm_value::{DecodeError, Value, decode_whole};
+use bm_value::{DecodeError, decode_whole};
 use bumpalo::Bump;
-use std::alloc::Global;
+use hex::FromHexError;
+use std::alloc::{AllocError, Allocator, Global};
 use thiserror::Error;
 
 /// Why hex digits are no event.
@@ -29,12 +29,33 @@ pub enum Unread {
     OutOfMemory,
 }
 
-impl From<HexError> for Unread {
-    fn from(fault: HexError) -> Unread {
-        match fault {
-            HexError::NoHex => Unread::Hex,
-            HexError::Mem => Unread::OutOfMemory,
-        }
+impl From<AllocError> for Unread {
+    ghost from_gives = { λ _ e. e ≡ OutOfMemory };
+
+    fn from(_error: AllocError) -> Unread {
+        Unread::OutOfMemory
+    }
+}
+
+/// The bytes that hex digits of either case write, with spaces anywhere among them.
+///
+/// # Errors
+///
+/// `Hex` exactly where they write none; `OutOfMemory` where memory ran out.
+fn read_hex<A: Allocator + Copy>(alloc: A, text: &[u8]) -> Result<Vec<u8, A>, Unread>
+    ensures found { IfOk result (λ v. Write text.now v.items) }
+    ensures refused { IfErr result (λ e. (e ≡ OutOfMemory)
+        ⊎ ((e ≡ Hex) × ((bytes : List ℕ) → ¬ Write text.now bytes))) }
+{
+    let digits = text
+        .iter()
+        .copied()
+        .filter(|byte| *byte != b' ')
+        .collect::<Vec<u8, A>>(alloc)?;
+    match hex::decode(alloc, digits) {
+        Ok(bytes) => Ok(bytes),
+        Err(FromHexError::OutOfMemory) => Err(Unread::OutOfMemory),
+        Err(_) => Err(Unread::Hex),
     }
 }
 
@@ -55,27 +76,8 @@ fn event_of(alloc: Global, arena: &Bump, bytes: &[u8]) -> Result<Event, Unread>
         Err(DecodeError::Mem) => return Err(Unread::OutOfMemory),
         Err(fault) => return Err(Unread::Spelling(fault)),
     };
-    match read_text(&tree) {
-        Some(update) => match Event::of_text(alloc, update) {
-            Ok(event) => Ok(event),
-            Err(_) => Err(Unread::OutOfMemory),
-        },
-        None => event_in(alloc, &tree),
-    }
-}
-
-/// The event that a message of any kind is.
-#[cold]
-#[inline(never)]
-fn event_in(alloc: Global, message: &Value<&Bump>) -> Result<Event, Unread>
-    ensures { (bytes : List ℕ) → Spells bytes (tree message.now) → HearsRequests bytes result }
-{
-    match read(alloc, message) {
-        Ok(message) => match Event::of_message(alloc, message) {
-            Ok(heard) => Ok(heard),
-            Err(_) => Err(Unread::OutOfMemory),
-        },
-        Err(MsgError::BadArgs(number)) => Ok(Event::bad_args(number)),
+    match Event::of_value(alloc, &tree) {
+        Ok(event) => Ok(event),
         Err(MsgError::Mem) => Err(Unread::OutOfMemory),
         Err(fault) => Err(Unread::Meaning(fault)),
     }

@@ -10,7 +10,9 @@ ghost use Rattle.std.specs.Str.Parse.{digits_value};
 /// are allowed, a sign is not.
 pub fn read_number(text: &str) -> Option<u64>
     ensures value { IfSome result (λ n. n ≡ digits_value 10 text.now) }
-    ensures found { IsSome result ↔ ((all_ascii_digits text.now ≡ true) × (0 < length text.now) × (digits_value 10 text.now < 2 ^ 64)) }
+    ensures found { IsSome result
+        ↔ ((all_ascii_digits text.now ≡ true) × (0 < length text.now)
+        × (digits_value 10 text.now < 2 ^ 64)) }
 {
     if !has_digits_alone(text) {
         return None;

@@ -1,9 +1,19 @@
-//! The lines of a replay's script.
+//! A replay's script, and its lines.
 
-ghost use Rattle.std.specs.Prelude.{◌≡◌, ◌≢◌, ◌++◌, ◌∷◌, IfSome, IfNone, EachIndex, slice_index};
+ghost use Rattle.std.specs.Prelude.{◌≡◌, ◌≢◌, ◌≤◌, ◌++◌, ◌∷◌, IfSome, IfNone, IfOk, OnOk, EachIndex, slice_index, vec_len};
+ghost use Rattle.std.specs.Io.KnownBytes.{Consumes, IsAtEnd};
 
 use crate::numbers::read_number;
 use memchr::memchr;
+use std::alloc::Global;
+use std::io;
+use std::io::Read;
+
+/// A script may have so many bytes.
+pub const MOST_BYTES: usize = 67_108_864;
+
+/// At the most so many bytes come with one read.
+const PIECE: usize = 65_536;
 
 /// The log that a line asks for where it names none: that of standard output, standard error and
 /// header lines, as in the Buildbot manual.
@@ -50,6 +60,34 @@ pub enum ScriptLine<'a> {
     Unknown,
 }
 
+/// Reads a script to its input's end.
+///
+/// # Errors
+///
+/// A read that failed, one that was interrupted too; `FileTooLarge` where the script has more than
+/// `MOST_BYTES`; and `OutOfMemory`.
+pub fn read_script<R: Read>(alloc: Global, input: &mut R) -> io::Result<Vec<u8>>
+    ensures read { IfOk result (λ script.
+        Consumes (R.remaining input.old) (R.remaining input.new) script.items) }
+    ensures end { OnOk result (IsAtEnd (R.remaining input.new)) }
+    ensures few { IfOk result (λ script. vec_len script ≤ 67108864) }
+{
+    let mut script = Vec::new(alloc);
+    let mut piece = vec![in alloc; 0u8; PIECE]?;
+    // Each read but the last gives a byte.
+    'reads: for _ in 0..=MOST_BYTES {
+        let count = input.read(piece.as_mut_slice())?;
+        if count == 0 {
+            return Ok(script);
+        }
+        if count > MOST_BYTES - script.len() {
+            break;
+        }
+        script.extend_from_slice(&piece[..count])?;
+    }
+    Err(io::Error::from(io::ErrorKind::FileTooLarge))
+}
+
 /// The first line of a text without its line end, and the text behind that, if there is one.
 pub fn cut_line(text: &[u8]) -> (&[u8], Option<&[u8]>)
     ensures cut { IfSome result.1 (λ rest. text.now ≡ result.0.now ++ 10 ∷ rest.now) }
@@ -75,9 +113,7 @@ pub fn read_line(line: &[u8]) -> ScriptLine<'_> {
     }
 }
 
-/// Reads a line that is neither a message nor a drain. Kept apart, it takes nothing from these.
-#[cold]
-#[inline(never)]
+/// Reads a line that is neither a message nor a drain.
 fn read_request(line: &[u8]) -> Option<Request<'_>> {
     match line {
         b"up" => Some(Request::Up),

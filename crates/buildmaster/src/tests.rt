@@ -12,7 +12,7 @@ mod schedules;
 mod viewing;
 mod words;
 
-use crate::replay::{replay_holding, replay_run};
+use crate::replay::replay_run;
 use std::alloc::Global;
 use std::process::Abort;
 use std::test::Fail;
@@ -33,18 +33,6 @@ pub fn replay_bytes(alloc: Global, capacity: u32, input: &[u8]) -> Result<Replay
     let mut output = Vec::new(alloc);
     let mut faults = Vec::new(alloc);
     let status = replay_run(alloc, capacity, input, &mut output, &mut faults);
-    Ok(Replayed {
-        status,
-        output: String::from_utf8(output)?,
-        faults: String::from_utf8(faults)?,
-    })
-}
-
-/// The same over a queue of 4 items, where lines wait once so many bytes of answers are held.
-pub fn replay_waiting(alloc: Global, most_held: usize, input: &[u8]) -> Result<Replayed, Fail> {
-    let mut output = Vec::new(alloc);
-    let mut faults = Vec::new(alloc);
-    let status = replay_holding(alloc, 4, most_held, input, &mut output, &mut faults);
     Ok(Replayed {
         status,
         output: String::from_utf8(output)?,

@@ -1,3 +1,5 @@
+//! Each request refused in turn.
+
 use super::*;
 use bumpalo::Bump;
 use std::alloc::Global;

@@ -1,12 +1,12 @@
-//! Calls that meet want of memory change nothing, and answer when they are made again. In the gate no request is refused;
-//! `tests/refused_memory` refuses each in turn.
+//! Made for `tests/refused_memory`, which refuses each request for memory in turn: a call that meets want of memory
+//! changes nothing, and answers when it's made again. In the gate no request is refused, and no call is made twice.
 
 use super::{
-    AUTH_OF_A_SESSION, COMPLETE_ONE, EXCEPTION_ONE, NAMED_UPDATE, START_ZERO, UPDATE_ZERO, message,
-    written,
+    AUTH_OF_A_SESSION, COMPLETE_ONE, EXCEPTION_ONE, NAMED_UPDATE, START_ZERO, UPDATE_OF_A_BAD_ITEM,
+    UPDATE_ZERO, message, written,
 };
-use crate::{Message, MsgError};
-use bm_value::EncodeError;
+use crate::{Message, MsgError, read};
+use bm_value::{DecodeError, EncodeError, Value, decode_whole};
 use std::alloc::{AllocError, Global};
 use std::process::Abort;
 use std::test::Fail;
@@ -58,4 +58,20 @@ fn refused_orders_and_answers_are_read_and_written_again(rt: HostRuntime) -> Res
     stands_refusal(&rt, START_ZERO)?;
     stands_refusal(&rt, EXCEPTION_ONE)?;
     stands_refusal(&rt, AUTH_OF_A_SESSION)
+}
+
+fn decoded_again(alloc: Global, bytes: &[u8]) -> Result<Value<Global>, DecodeError> {
+    match decode_whole(alloc, bytes) {
+        Ok(value) => Ok(value),
+        Err(_) => decode_whole(alloc, bytes),
+    }
+}
+
+/// The reader isn't called again: bad arguments are told whatever memory there is, though an item
+/// that could be copied stands before the bad one.
+#[test]
+fn bad_arguments_are_told_without_memory(rt: HostRuntime) -> Result<(), Fail> {
+    let value = decoded_again(rt.alloc(), UPDATE_OF_A_BAD_ITEM)?;
+    assert!(rt; read(rt.alloc(), &value).err() == Some(MsgError::BadArgs(5)));
+    Ok(())
 }

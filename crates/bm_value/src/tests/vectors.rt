@@ -1,10 +1,10 @@
 //! Seven messages of the worker protocol, each the written form of its tree.
 
-use super::{fault_in, rewritten, written};
-use crate::{DecodeError, decode, decode_whole};
+use super::{fault_in, is_rewritten, is_written, rewritten};
+use crate::{DecodeError, Value, decode, decode_whole};
 use bumpalo::Bump;
 use linked_list_allocator::LocalHeap;
-use std::alloc::{Allocator, Global};
+use std::alloc::{AllocError, Allocator, Global};
 use std::process::Abort;
 use std::test::Fail;
 
@@ -40,73 +40,91 @@ pub const VECTORS: [&[u8]; 7] = [
 
 const LENGTHS: [usize; 7] = [53, 44, 33, 62, 82, 44, 66];
 
-fn read_back<A: Allocator + Copy>(
-    rt: &impl Abort,
-    alloc: A,
-    bytes: &[u8],
-) -> Result<(), DecodeError> {
-    let (_, taken) = decode(alloc, bytes)?;
-    assert_eq!(rt; taken, bytes.len());
-    assert_eq!(rt; rewritten(alloc, bytes)?.as_slice(), bytes);
-    Ok(())
+/// How many bytes the first value takes.
+fn taken_of<A: Allocator + Copy>(alloc: A, bytes: &[u8]) -> Option<usize> {
+    match decode(alloc, bytes) {
+        Ok((_, taken)) => Some(taken),
+        Err(_) => None,
+    }
+}
+
+fn is_read_back<A: Allocator + Copy>(alloc: A, bytes: &[u8]) -> bool {
+    taken_of(alloc, bytes) == Some(bytes.len()) && is_rewritten(alloc, bytes, bytes)
+}
+
+fn in_an_arena(alloc: Global, bytes: &[u8]) -> bool {
+    let arena = Bump::new(alloc);
+    is_read_back(&arena, bytes)
+}
+
+fn in_a_heap(alloc: Global, bytes: &[u8]) -> Result<bool, AllocError> {
+    let heap = LocalHeap::new(alloc, 4096)?;
+    Ok(is_read_back(&heap, bytes))
 }
 
 #[test]
 fn each_is_read_and_written_back_under_each_allocator(rt: HostRuntime) -> Result<(), Fail> {
-    let alloc = rt.alloc();
-    for (bytes, length) in VECTORS.into_iter().zip(LENGTHS) {
-        assert_eq!(rt; bytes.len(), length);
-        read_back(&rt, alloc, bytes)?;
-        let arena = Bump::new(alloc);
-        read_back(&rt, &arena, bytes)?;
-        let heap = LocalHeap::new(alloc, 4096)?;
-        read_back(&rt, &heap, bytes)?;
+    for (bytes, length) in VECTORS.iter().zip(&LENGTHS) {
+        assert!(rt; bytes.len() == *length);
+        assert!(rt; is_read_back(rt.alloc(), bytes));
+        assert!(rt; in_an_arena(rt.alloc(), bytes));
+        assert!(rt; in_a_heap(rt.alloc(), bytes)?);
     }
     Ok(())
+}
+
+/// Whether a copy in a heap is written as these bytes.
+fn is_copied_to_a_heap<A: Allocator>(
+    alloc: Global,
+    value: &Value<A>,
+    bytes: &[u8],
+) -> Result<bool, AllocError> {
+    let heap = LocalHeap::new(alloc, 4096)?;
+    let copy = value.copy_into(&heap)?;
+    Ok(is_written(alloc, &copy, bytes))
+}
+
+/// Whether a copy in an arena is written there as these bytes, and so is its copy in a heap.
+fn is_copied_to_an_arena(alloc: Global, value: &Value, bytes: &[u8]) -> Result<bool, AllocError> {
+    let arena = Bump::new(alloc);
+    let copy = value.copy_into(&arena)?;
+    Ok(is_written(&arena, &copy, bytes) && is_copied_to_a_heap(alloc, &copy, bytes)?)
 }
 
 #[test]
 fn a_copy_in_an_arena_is_written_alike(rt: HostRuntime) -> Result<(), Fail> {
-    let alloc = rt.alloc();
-    let value = decode_whole(alloc, UPDATE_WITH_A_FLOAT)?;
-    let arena = Bump::new(alloc);
-    let copy = value.copy_into(&arena)?;
-    let mut out = Vec::new(&arena);
-    crate::encode(&copy, &mut out)?;
-    assert_eq!(rt; out.as_slice(), UPDATE_WITH_A_FLOAT);
-    let heap = LocalHeap::new(alloc, 4096)?;
-    let again = copy.copy_into(&heap)?;
-    assert_eq!(rt; written(alloc, &again)?.as_slice(), UPDATE_WITH_A_FLOAT);
+    let value = decode_whole(rt.alloc(), UPDATE_WITH_A_FLOAT)?;
+    assert!(rt; is_copied_to_an_arena(rt.alloc(), &value, UPDATE_WITH_A_FLOAT)?);
     Ok(())
 }
 
-#[test]
-fn every_proper_prefix_is_truncated(rt: HostRuntime) -> Result<(), Fail> {
+/// How many proper prefixes there are, each of them truncated.
+fn prefixes_of(rt: &impl Abort, alloc: Global, bytes: &[u8]) -> u32 {
     let mut prefixes = 0u32;
-    for bytes in VECTORS {
-        for n in 0..bytes.len() {
-            assert_eq!(rt;
-                fault_in(rt.alloc(), &bytes[..n]),
-                Some(DecodeError::Truncated),
-                "at {n}"
-            );
-            prefixes = prefixes.saturating_add(1);
-        }
+    for n in 0..bytes.len() {
+        let fault = fault_in(alloc, &bytes[..n]);
+        assert!(rt; fault == Some(DecodeError::Truncated), "at {n}");
+        prefixes = prefixes.saturating_add(1);
     }
-    assert_eq!(rt; prefixes, 384);
-    Ok(())
+    prefixes
+}
+
+#[test]
+fn every_proper_prefix_is_truncated(rt: HostRuntime) {
+    let mut prefixes = 0u32;
+    for bytes in &VECTORS {
+        prefixes = prefixes.saturating_add(prefixes_of(&rt, rt.alloc(), bytes));
+    }
+    assert!(rt; prefixes == 384);
 }
 
 #[test]
 fn bytes_behind_a_value_are_trailing(rt: HostRuntime) -> Result<(), Fail> {
     let mut bytes = Vec::from_slice(rt.alloc(), UPDATE_ZERO)?;
     bytes.push(0)?;
-    assert_eq!(rt;
-        decode_whole(rt.alloc(), &bytes).err(),
-        Some(DecodeError::Trailing)
-    );
-    let (_, taken) = decode(rt.alloc(), &bytes)?;
-    assert_eq!(rt; taken, 53);
+    let fault = decode_whole(rt.alloc(), &bytes).err();
+    assert!(rt; fault == Some(DecodeError::Trailing));
+    assert!(rt; taken_of(rt.alloc(), &bytes) == Some(53));
     Ok(())
 }
 
@@ -127,15 +145,21 @@ fn stands(alloc: Global, bytes: &[u8]) -> bool {
     }
 }
 
+/// Each other byte at the place gives a value or a refusal.
+fn stands_at(rt: &impl Abort, alloc: Global, bytes: &[u8], i: usize) -> Result<(), AllocError> {
+    let mut changed = Vec::from_slice(alloc, bytes)?;
+    for byte in 0..=255u8 {
+        set(&mut changed, i, byte);
+        assert!(rt; stands(alloc, &changed), "byte {i} as {byte}");
+    }
+    Ok(())
+}
+
 #[test]
 fn any_byte_changed_gives_a_value_or_a_named_refusal(rt: HostRuntime) -> Result<(), Fail> {
-    for bytes in VECTORS {
+    for bytes in &VECTORS {
         for i in 0..bytes.len() {
-            let mut changed = Vec::from_slice(rt.alloc(), bytes)?;
-            for byte in 0..=255u8 {
-                set(&mut changed, i, byte);
-                assert!(rt; stands(rt.alloc(), &changed), "byte {i} as {byte}");
-            }
+            stands_at(&rt, rt.alloc(), bytes, i)?;
         }
     }
     Ok(())

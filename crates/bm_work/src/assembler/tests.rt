@@ -1,3 +1,5 @@
+//! Worked pieces of a pipe, and random ones.
+
 ghost use Rattle.std.specs.Prelude.{◌<◌, ◌≤◌, length};
 
 use crate::Assembler;
@@ -224,22 +226,29 @@ fn is_same_cut(
     Ok(are_same(cut.as_slice(), whole))
 }
 
-/// The first place at which a cut makes other texts, if there is one.
-fn other_cut(alloc: Global, seed: u64) -> Result<Option<usize>, AllocError> {
+/// Whether a text ends with a line just for each line end in the bytes, of which there is one at least.
+fn has_lines_of(texts: &[Text], bytes: &[u8]) -> bool {
+    let wanted = bytes.iter().filter(|byte| **byte == b'\n').count();
+    let lines = texts.iter().filter(|text| text.as_str().ends_with('\n'));
+    0 < wanted && lines.count() == wanted
+}
+
+/// Whether random bytes have the texts of their lines, wherever they are cut.
+fn is_same_at_every_cut(alloc: Global, seed: u64) -> Result<bool, AllocError> {
     let bytes = random_bytes(alloc, seed, 100, 9)?;
     let whole = texts_of(alloc, &[bytes.as_slice()])?;
     for place in 0..bytes.len() + 1 {
         if !is_same_cut(alloc, bytes.as_slice(), place, whole.as_slice())? {
-            return Ok(Some(place));
+            return Ok(false);
         }
     }
-    Ok(None)
+    Ok(has_lines_of(whole.as_slice(), bytes.as_slice()))
 }
 
 #[test]
 fn pieces_play_no_part_at_every_cut(rt: HostRuntime) -> Result<(), Fail> {
     for seed in 0..4 {
-        assert_eq!(rt; other_cut(rt.alloc(), seed)?, None, "seed {seed}");
+        assert!(rt; is_same_at_every_cut(rt.alloc(), seed)?, "seed {seed}");
     }
     Ok(())
 }
@@ -273,7 +282,10 @@ fn is_same_in_pieces(alloc: Global, seed: u64) -> Result<bool, AllocError> {
     let whole = texts_of(alloc, &[bytes.as_slice()])?;
     let pieces = pieces_of(alloc, seed, bytes.as_slice())?;
     let cut = texts_of(alloc, pieces.as_slice())?;
-    Ok(are_same(cut.as_slice(), whole.as_slice()))
+    Ok(
+        has_lines_of(whole.as_slice(), bytes.as_slice())
+            && are_same(cut.as_slice(), whole.as_slice()),
+    )
 }
 
 #[test]

@@ -1,10 +1,40 @@
-//! Scripts that are read in several pieces, and lines that wait for the input's end.
+//! Scripts whose input comes in pieces.
 
-use super::replay_waiting;
+use super::Replayed;
+use crate::replay::replay_run;
 use std::alloc::{AllocError, Global};
+use std::io;
+use std::io::Read;
 use std::test::Fail;
 
-/// Lengths of a line about that of a window, which is 65,536 bytes at first, and far from it.
+/// A reader that gives at the most so many bytes at a time.
+#[derive(Drop)]
+struct PieceReader<'a> {
+    bytes: &'a [u8],
+    most: usize,
+}
+
+impl Read for PieceReader<'_> {
+    fn read(&mut self, buf: &mut [u8]) -> io::Result<usize> {
+        let most = self.most.min(buf.len());
+        self.bytes.read(&mut buf[..most])
+    }
+}
+
+/// Replays a script over a queue of 4 items, where at the most so many bytes come with one read.
+fn replay_pieces(alloc: Global, most: usize, bytes: &[u8]) -> Result<Replayed, Fail> {
+    let mut output = Vec::new(alloc);
+    let mut faults = Vec::new(alloc);
+    let input = PieceReader { bytes, most };
+    let status = replay_run(alloc, 4, input, &mut output, &mut faults);
+    Ok(Replayed {
+        status,
+        output: String::from_utf8(output)?,
+        faults: String::from_utf8(faults)?,
+    })
+}
+
+/// Lengths of a line about that of the greatest read, which is 65,536 bytes, and far from it.
 const LENGTHS: [usize; 8] = [0, 1_000, 32_700, 65_529, 65_533, 65_534, 65_535, 150_000];
 
 /// Three times a comment of this length and `up`, and then a line of another form.
@@ -21,9 +51,6 @@ fn commented(alloc: Global, length: usize) -> Result<String, AllocError> {
     Ok(script)
 }
 
-/// Numbers of bytes of answers that are held before lines wait.
-const HELD: [usize; 3] = [0, 4, 1_000];
-
 /// A recorded session whose logs are viewed, and its answers.
 const VIEWED: &str =
     "up\ngo\nin 84aa7365715f6e756d62657200a26f70a6757064617465aa636f6d6d616e645f6964a130a4617267739192a67374646f7574a2610a\nlook 0 0 10\ndrain\n\n# viewed\nlook 0 0 10\ndrain\nlook 0 0 10\nlog 0\nlook 0 0\nup";
@@ -31,32 +58,31 @@ const VIEWED: &str =
 const ANSWERS: &str =
     "ok\nstart 0 0\nanswer 0 nil\nno log\ntook\nchunk 0 0\ntook\nchunk 0 1\noa\nlog 0 1 open\noa\n";
 
+/// Whether a replay answered this, and then met the line of another form.
+fn stopped_at(replayed: &Replayed, answers: &str, fault: &str) -> bool {
+    replayed.status == 1 && replayed.output.as_str() == answers && replayed.faults.as_str() == fault
+}
+
 #[test]
 fn lines_of_any_length_are_counted_and_answered(rt: HostRuntime) -> Result<(), Fail> {
-    for length in LENGTHS {
-        let script = commented(rt.alloc(), length)?;
-        for most_held in HELD {
-            let replayed = replay_waiting(rt.alloc(), most_held, script.as_bytes())?;
-            let answers = "ok\nrefused already up\nrefused already up\n";
-            assert_eq!(rt;
-                replayed.output.as_str(),
-                answers,
-                "at {length}, {most_held}"
-            );
-            let fault = "line 7: not understood\n";
-            assert_eq!(rt; replayed.faults.as_str(), fault, "at {length}, {most_held}");
+    let answers = "ok\nrefused already up\nrefused already up\n";
+    for length in &LENGTHS {
+        let script = commented(rt.alloc(), *length)?;
+        for most in &[1, 1_000, usize::MAX] {
+            let replayed = replay_pieces(rt.alloc(), *most, script.as_bytes())?;
+            let stopped = stopped_at(&replayed, answers, "line 7: not understood\n");
+            assert!(rt; stopped, "at {length}, {most}");
         }
     }
     Ok(())
 }
 
 #[test]
-fn answers_are_the_same_whichever_lines_wait(rt: HostRuntime) -> Result<(), Fail> {
-    for most_held in 0..=ANSWERS.len() {
-        let replayed = replay_waiting(rt.alloc(), most_held, VIEWED.as_bytes())?;
-        assert_eq!(rt; replayed.output.as_str(), ANSWERS, "at {most_held}");
-        assert_eq!(rt; replayed.faults.as_str(), "line 12: not understood\n");
-        assert_eq!(rt; replayed.status, 1);
+fn answers_are_the_same_in_whichever_pieces_lines_come(rt: HostRuntime) -> Result<(), Fail> {
+    for most in 1..=VIEWED.len() {
+        let replayed = replay_pieces(rt.alloc(), most, VIEWED.as_bytes())?;
+        let stopped = stopped_at(&replayed, ANSWERS, "line 12: not understood\n");
+        assert!(rt; stopped, "at {most}");
     }
     Ok(())
 }

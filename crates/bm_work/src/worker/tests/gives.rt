@@ -3,7 +3,6 @@
 use super::turn::Given;
 use crate::sent::copies;
 use crate::{Argv, Sent, WorkAct, WorkRefusal};
-use bm_value::{Value, decode_whole};
 use std::alloc::{AllocError, Global};
 
 /// What a turn is to give.
@@ -34,24 +33,18 @@ pub enum Act {
 #[derive(Clone, Copy)]
 pub enum Reply {
     Bytes(&'static [u8]),
-    /// The text of its exception; an empty one, if it is none.
-    Tells(&'static str),
     NoReply,
 }
 
 impl Gives {
     /// Whether this is what a turn gave.
-    pub fn is(
-        &self,
-        alloc: Global,
-        given: &Result<Given, WorkRefusal>,
-    ) -> Result<bool, AllocError> {
+    pub fn is(&self, given: &Result<Given, WorkRefusal>) -> bool {
         match given {
-            Ok(Given::Heard(act, bytes)) => Ok(self.does(act) && self.replies(alloc, bytes)?),
-            Ok(Given::Said(sent)) => Ok(self.says(sent)),
-            Ok(Given::Sent(requests)) => Ok(self.sends(requests.as_slice())),
-            Ok(Given::Nothing) => Ok(matches!(self, Gives::Silent)),
-            Err(refusal) => Ok(self.refuses(*refusal)),
+            Ok(Given::Heard(act, bytes)) => self.does(act) && self.replies(bytes),
+            Ok(Given::Said(sent)) => self.says(sent),
+            Ok(Given::Sent(requests)) => self.sends(requests.as_slice()),
+            Ok(Given::Nothing) => matches!(self, Gives::Silent),
+            Err(refusal) => self.refuses(*refusal),
         }
     }
 
@@ -76,11 +69,11 @@ impl Gives {
         }
     }
 
-    fn replies(&self, alloc: Global, bytes: &Option<Vec<u8>>) -> Result<bool, AllocError> {
+    fn replies(&self, bytes: &Option<Vec<u8>>) -> bool {
         match (self, bytes) {
-            (Gives::Does(_, reply), Some(bytes)) => reply.is(alloc, bytes.as_slice()),
-            (Gives::Does(_, reply), None) => Ok(matches!(reply, Reply::NoReply)),
-            _ => Ok(false),
+            (Gives::Does(_, Reply::Bytes(wanted)), Some(bytes)) => bytes.as_slice() == *wanted,
+            (Gives::Does(_, Reply::NoReply), None) => true,
+            _ => false,
         }
     }
 
@@ -138,26 +131,4 @@ impl Act {
 fn are_words(words: &[&str], argv: &Argv) -> bool {
     let argv = argv.as_slice();
     words.len() == argv.len() && words.iter().zip(argv).all(|(a, b)| b.as_str() == *a)
-}
-
-impl Reply {
-    fn is(&self, alloc: Global, bytes: &[u8]) -> Result<bool, AllocError> {
-        match self {
-            Reply::Bytes(wanted) => Ok(bytes == *wanted),
-            Reply::Tells(text) => tells(alloc, bytes, text),
-            Reply::NoReply => Ok(false),
-        }
-    }
-}
-
-/// Whether the response tells of an exception with the text, or of none where the text is empty. Bytes that spell no
-/// value count as want of memory.
-fn tells(alloc: Global, bytes: &[u8], text: &str) -> Result<bool, AllocError> {
-    let Ok(value) = decode_whole(alloc, bytes) else {
-        return Err(AllocError);
-    };
-    match (value.get("is_exception"), value.get("result")) {
-        (Some(Value::Bool(true)), Some(Value::Str(told))) => Ok(told.as_str() == text),
-        _ => Ok(text.is_empty()),
-    }
 }

@@ -63,6 +63,46 @@ const NO_SUCH_COMMAND_ONE: &[u8] =
 const BAD_ARGUMENTS_SEVEN: &[u8] =
     b"\x84\xaaseq_number\x07\xa2op\xa8response\xa6result\xadbad arguments\xacis_exception\xc3";
 
+const ALREADY_RUNS_FOUR: &[u8] =
+    b"\x84\xaaseq_number\x04\xa2op\xa8response\xa6result\xb4command already runs\xacis_exception\xc3";
+
+const BAD_ARGUMENTS_ONE: &[u8] =
+    b"\x84\xaaseq_number\x01\xa2op\xa8response\xa6result\xadbad arguments\xacis_exception\xc3";
+
+const BAD_ARGUMENTS_TWO: &[u8] =
+    b"\x84\xaaseq_number\x02\xa2op\xa8response\xa6result\xadbad arguments\xacis_exception\xc3";
+
+const BAD_ARGUMENTS_ZERO: &[u8] =
+    b"\x84\xaaseq_number\x00\xa2op\xa8response\xa6result\xadbad arguments\xacis_exception\xc3";
+
+const DONE_FIVE: &[u8] = b"\x83\xaaseq_number\x05\xa2op\xa8response\xa6result\xc0";
+
+const DONE_FOUR: &[u8] = b"\x83\xaaseq_number\x04\xa2op\xa8response\xa6result\xc0";
+
+const DONE_SEVEN: &[u8] = b"\x83\xaaseq_number\x07\xa2op\xa8response\xa6result\xc0";
+
+const DONE_SIX: &[u8] = b"\x83\xaaseq_number\x06\xa2op\xa8response\xa6result\xc0";
+
+const DONE_THREE: &[u8] = b"\x83\xaaseq_number\x03\xa2op\xa8response\xa6result\xc0";
+
+const DONE_TWO: &[u8] = b"\x83\xaaseq_number\x02\xa2op\xa8response\xa6result\xc0";
+
+const NO_SUCH_COMMAND_NAME_ZERO: &[u8] =
+    b"\x84\xaaseq_number\x00\xa2op\xa8response\xa6result\xb4no such command name\xacis_exception\xc3";
+
+const NO_SUCH_OPERATION_FIVE: &[u8] =
+    b"\x84\xaaseq_number\x05\xa2op\xa8response\xa6result\xb1no such operation\xacis_exception\xc3";
+
+const NO_SUCH_OPERATION_ZERO: &[u8] =
+    b"\x84\xaaseq_number\x00\xa2op\xa8response\xa6result\xb1no such operation\xacis_exception\xc3";
+
+const TOO_MANY_COMMANDS_EIGHT: &[u8] =
+    b"\x84\xaaseq_number\x08\xa2op\xa8response\xa6result\xb1too many commands\xacis_exception\xc3";
+
+/// The first order, of another command name.
+const MAKE_DIRECTORY: &[u8] =
+    b"\x85\xaaseq_number\x00\xa2op\xadstart_command\xaacommand_id\xa10\xaccommand_name\xa5mkdir\xa4args\x81\xa7command\x91\xa4true";
+
 const INFO_THREE: &[u8] =
     b"\x83\xaaseq_number\x03\xa2op\xa8response\xa6result\x81\xa7version\xadbuildworker 1";
 
@@ -157,30 +197,51 @@ fn early_answer_frees_no_later_request(rt: HostRuntime) -> Result<(), Fail> {
 #[test]
 fn starts_are_tested_in_order(rt: HostRuntime) -> Result<(), Fail> {
     static ROWS: [Row; 9] = [
-        (Start(0, 0, b"\xc0"), Does(Nothing, Tells("bad arguments"))),
+        (
+            Start(0, 0, b"\xc0"),
+            Does(Nothing, Bytes(BAD_ARGUMENTS_ZERO)),
+        ),
         (
             Start(1, 0, b"\x81\xa7command\x90"),
-            Does(Nothing, Tells("bad arguments")),
+            Does(Nothing, Bytes(BAD_ARGUMENTS_ONE)),
         ),
         (
             Start(2, 0, b"\x81\xa7command\x92\xa1a\x01"),
-            Does(Nothing, Tells("bad arguments")),
+            Does(Nothing, Bytes(BAD_ARGUMENTS_TWO)),
         ),
-        (Start(3, 0, WORDS), Does(Runs(0, &["true"]), Tells(""))),
         (
-            Start(4, 0, WORDS),
-            Does(Nothing, Tells("command already runs")),
+            Start(3, 0, WORDS),
+            Does(Runs(0, &["true"]), Bytes(DONE_THREE)),
         ),
-        (Start(5, 1, WORDS), Does(Runs(1, &["true"]), Tells(""))),
-        (Start(6, 2, WORDS), Does(Runs(2, &["true"]), Tells(""))),
+        (Start(4, 0, WORDS), Does(Nothing, Bytes(ALREADY_RUNS_FOUR))),
+        (
+            Start(5, 1, WORDS),
+            Does(Runs(1, &["true"]), Bytes(DONE_FIVE)),
+        ),
+        (
+            Start(6, 2, WORDS),
+            Does(Runs(2, &["true"]), Bytes(DONE_SIX)),
+        ),
         (
             Start(7, 3, LINE),
-            Does(Runs(3, &["sh", "-c", "echo a"]), Tells("")),
+            Does(Runs(3, &["sh", "-c", "echo a"]), Bytes(DONE_SEVEN)),
         ),
         (
             Start(8, 4, WORDS),
-            Does(Nothing, Tells("too many commands")),
+            Does(Nothing, Bytes(TOO_MANY_COMMANDS_EIGHT)),
         ),
+    ];
+    play(&rt, &ROWS)
+}
+
+#[test]
+fn other_command_name_is_refused(rt: HostRuntime) -> Result<(), Fail> {
+    static ROWS: [Row; 2] = [
+        (
+            Hear(MAKE_DIRECTORY),
+            Does(Nothing, Bytes(NO_SUCH_COMMAND_NAME_ZERO)),
+        ),
+        (Say(0, O, "a"), Refuses(WorkRefusal::NoSuchCommand)),
     ];
     play(&rt, &ROWS)
 }
@@ -202,7 +263,10 @@ fn interrupt_is_for_a_running_command(rt: HostRuntime) -> Result<(), Fail> {
             Hear(INTERRUPT_OF_ONE),
             Does(Nothing, Bytes(NO_SUCH_COMMAND_ONE)),
         ),
-        (Hear(INTERRUPT_OF_ZERO), Does(Interrupts(0), Tells(""))),
+        (
+            Hear(INTERRUPT_OF_ZERO),
+            Does(Interrupts(0), Bytes(DONE_TWO)),
+        ),
     ];
     play(&rt, &ROWS)
 }
@@ -215,7 +279,7 @@ fn worker_tells_of_itself(rt: HostRuntime) -> Result<(), Fail> {
 
 #[test]
 fn text_is_to_be_shown(rt: HostRuntime) -> Result<(), Fail> {
-    static ROWS: [Row; 1] = [(Hear(PRINT_FOUR), Does(Prints("hi"), Tells("")))];
+    static ROWS: [Row; 1] = [(Hear(PRINT_FOUR), Does(Prints("hi"), Bytes(DONE_FOUR)))];
     play(&rt, &ROWS)
 }
 
@@ -224,17 +288,20 @@ fn other_operations_have_their_answers(rt: HostRuntime) -> Result<(), Fail> {
     static ROWS: [Row; 4] = [
         (
             Hear(b"\x82\xaaseq_number\x05\xa2op\xa9keepalive"),
-            Does(Nothing, Tells("")),
+            Does(Nothing, Bytes(DONE_FIVE)),
         ),
         (
             Hear(b"\x82\xaaseq_number\x05\xa2op\xa8shutdown"),
-            Does(ShutsDown, Tells("")),
+            Does(ShutsDown, Bytes(DONE_FIVE)),
         ),
         (
             Hear(b"\x82\xaaseq_number\x05\xa2op\xa6upload"),
-            Does(Nothing, Tells("no such operation")),
+            Does(Nothing, Bytes(NO_SUCH_OPERATION_FIVE)),
         ),
-        (Hear(UPDATE_ZERO), Does(Nothing, Tells("no such operation"))),
+        (
+            Hear(UPDATE_ZERO),
+            Does(Nothing, Bytes(NO_SUCH_OPERATION_ZERO)),
+        ),
     ];
     each_first(&rt, &ROWS)
 }

@@ -3,6 +3,7 @@ use Rattle.std.proofs.lemmas.List.{length-append}
 use Rattle.bm_runner.specs.declared.port.Told.{Told}
 use Rattle.bm_runner.specs.declared.port.Polled.{Polled}
 use Rattle.bm_runner.specs.Port.{asked}
+use Rattle.bm_runner.specs.Entries.{Kept}
 use Rattle.bm_runner.proofs.Places.{set-last, get-last}
 use Rattle.bm_runner.proofs.entries.Entries.note.Goals as goal
 
@@ -14,5 +15,7 @@ note_last xs before entry got new last said at e hg hn =
     ap (λ ys. set ys last new) e ∙ ap (λ k. set (before ++ entry ∷ []) k new) place ∙ set-last before entry new
     ∙ ap (λ y. before ++ y ∷ []) (hn ∙ ap (λ g. asked g said) same)
 
-pub returns : goal.returns
-returns c = λ before entry e. note_last c.self.inside.vec.items before entry c.index-entry.result.now c.after.result _ c.args.said (omega (arith, ap length (c.self.view_is ∙ e), length-append before (entry ∷ []))) (c.self.view_is ∙ e) c.index-entry.ensures c.after.ensures
+pub returns-clause-told : goal.returns-clause-told
+returns-clause-told c =
+    let told : c.self.inside.vec.items ≡ c.args.self.now.told = ap (λ (e : Kept). e.told) c.self.view_is in
+    λ before entry e. note_last c.self.inside.vec.items before entry c.index-entry.result.now c.after.result _ c.args.said (omega (arith, ap length (told ∙ e), length-append before (entry ∷ []))) (told ∙ e) c.index-entry.ensures c.after.ensures

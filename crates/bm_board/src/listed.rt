@@ -1,0 +1,71 @@
+//! A list of plain items.
+
+ghost use Rattle.std.specs.Prelude.{◌≡◌, IfOk};
+
+use std::alloc::{AllocError, Global};
+use std::marker::Model;
+
+/// What has equal copies, which may take memory.
+pub trait Copied: Sized {
+    /// An equal value.
+    fn copy(&self) -> Result<Self, AllocError>
+        ensures { IfOk result (λ copy. copy ≡ self.now) };
+}
+
+/// Items in their order. Contracts see them as a list.
+#[derive(Debug, Drop)]
+pub struct Listed<T> {
+    pub(crate) vec: Vec<T>,
+}
+
+impl<T> Model for Listed<T> {
+    ghost use Rattle.std.specs.Prelude.{List};
+
+    ghost Value = { List T };
+
+    ghost view = { λ l. l.vec.items };
+}
+
+impl<T> Listed<T> {
+    ghost use Rattle.std.specs.Prelude.{[]};
+
+    /// No item. It takes no memory.
+    pub fn new(alloc: Global) -> Listed<T>
+        ensures { result ≡ [] }
+    {
+        Listed {
+            vec: Vec::new(alloc),
+        }
+    }
+
+    pub fn from_vec(vec: Vec<T>) -> Listed<T>
+        ensures { result ≡ vec.items }
+    {
+        Listed { vec }
+    }
+
+    pub fn into_vec(self) -> Vec<T>
+        ensures { result.items ≡ self }
+    {
+        self.vec
+    }
+
+    pub fn as_slice(&self) -> &[T]
+        ensures { result.now ≡ self.now }
+    {
+        self.vec.as_slice()
+    }
+}
+
+impl<T: Copied + Drop> Listed<T> {
+    /// Equal items.
+    pub fn copy(&self) -> Result<Listed<T>, AllocError>
+        ensures { IfOk result (λ l. l ≡ self.now) }
+    {
+        let mut vec = Vec::with_capacity(*self.vec.allocator(), self.vec.len())?;
+        for item in &self.vec {
+            vec.push(item.copy()?)?;
+        }
+        Ok(Listed { vec })
+    }
+}

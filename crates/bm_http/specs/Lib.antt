@@ -1,0 +1,11 @@
+pub mod Paths
+pub mod Numbers
+pub mod Targets
+pub mod Refusals
+pub mod Bodies
+pub mod Requests
+pub mod Replies
+pub mod Shown
+pub mod Laws
+pub mod Held
+pub mod Values
