@@ -381,6 +381,22 @@ pub fn write_response(alloc: Global, message: &Response) -> Result<Vec<u8>, Enco
     response_written(alloc, message)
 }
 
+/// The written form of the response to request `seq` with this result.
+fn result_bytes(
+    alloc: Global,
+    seq: u64,
+    answered: Value<Global>,
+    exception: bool,
+) -> Result<Vec<u8>, AllocError>
+    requires nests { depth (tree_of (response seq (tree answered) exception)) ≤ 32 }
+    requires short { IsShort (tree_of (response seq (tree answered) exception)) }
+    ensures ok { IfOk result (λ v. v.items ≡ written (tree_of (response seq (tree answered) exception))) }
+    ensures back { IfOk result (λ v. IsReadBack (tree_of (response seq (tree answered) exception))) }
+{
+    let keys = result_keys(alloc, seq, answered, exception)?;
+    written_map(alloc, keys)
+}
+
 /// The written form of the response to request `seq` that is nil, or the exception with this text.
 /// It is read back, whatever follows it.
 #[tactic(auto, unfolding(crate::specs::Trees::answer_bytes))]
@@ -391,10 +407,11 @@ pub fn write_answer(alloc: Global, seq: u64, exception: Option<&str>) -> Result<
     ensures back { IfOk result (λ v.
         IsReadBack (tree_of (answer seq (option_copied exception.entry)))) }
 {
-    let result = match exception {
-        Some(text) => Value::from_str(alloc, text)?,
-        None => Value::Nil,
-    };
-    let keys = result_keys(alloc, seq, result, exception.is_some())?;
-    written_map(alloc, keys)
+    match exception {
+        Some(text) => {
+            let answered = Value::from_str(alloc, text)?;
+            result_bytes(alloc, seq, answered, true)
+        }
+        None => result_bytes(alloc, seq, Value::Nil, false),
+    }
 }
