@@ -1,8 +1,8 @@
-pub mod Answers
+pub mod Accepting
 pub mod Asked
 pub mod Attaching
-pub mod Carries
 pub mod Faults
+pub mod Greeting
 pub mod Incoming
 pub mod Link
 pub mod Logins

@@ -2,10 +2,12 @@
 
 ghost use Rattle.std.specs.Prelude.{IfOk};
 ghost use Rattle.bm_value.specs.View.{tree};
-ghost use Rattle.bm_link.specs.Logins.{IsLoginOf, AreLogin, ReadsLogin};
+ghost use Rattle.bm_link.specs.Logins.{IsLoginOf, AreLogin, ReadsLogin, AdmitsOrFails};
 
-use crate::credentials::Credentials;
+use crate::attaching::send_refusal;
+use crate::credentials::{Credentials, Named};
 use crate::fault::{LinkFault, fault_of};
+use crate::user::{User, place_of};
 use bm_msg::{Message, MsgError, Numbered, Request, read};
 use bm_value::{DecodeError, Value, decode_whole};
 use bumpalo::Bump;
@@ -27,10 +29,9 @@ fn login_in(alloc: Global, message: &Value<&Bump>) -> Result<Credentials, LinkFa
                     session,
                 },
         })) => Ok(Credentials {
-            seq,
             username,
             password,
-            session,
+            named: Named { seq, session },
         }),
         Ok(_) => Err(LinkFault::BadMessage),
         Err(MsgError::Mem) => Err(LinkFault::Mem),
@@ -61,7 +62,7 @@ fn login_of_bytes(alloc: Global, arena: &mut Bump, bytes: &[u8]) -> Result<Crede
 }
 
 /// Reads the first message, which is to be a login.
-pub(crate) fn read_login<S: Read + Write + Drop>(
+fn read_login<S: Read + Write + Drop>(
     alloc: Global,
     arena: &mut Bump,
     socket: &mut WebSocket<S, NoMask>,
@@ -80,5 +81,28 @@ pub(crate) fn read_login<S: Read + Write + Drop>(
         }
         Ok(_) => Err(LinkFault::BadMessage),
         Err(error) => Err(fault_of(&error)),
+    }
+}
+
+/// Reads the login, and finds its user. A login of no user is told so.
+pub(crate) fn admit<S: Read + Write + Drop>(
+    alloc: Global,
+    arena: &mut Bump,
+    socket: &mut WebSocket<S, NoMask>,
+    users: &[User],
+) -> Result<(usize, Named), LinkFault>
+    ensures { AdmitsOrFails S.remaining users.now socket.old result socket.new }
+{
+    let credentials = match read_login(alloc, arena, socket) {
+        Ok(credentials) => credentials,
+        Err(fault) => return Err(fault),
+    };
+    let username = credentials.username.as_str();
+    match place_of(users, username, credentials.password.as_str()) {
+        Some(place) => Ok((place, credentials.named)),
+        None => {
+            send_refusal(alloc, socket, credentials.named.seq, "bad login");
+            Err(LinkFault::BadLogin)
+        }
     }
 }
