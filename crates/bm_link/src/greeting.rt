@@ -71,12 +71,14 @@ fn attached_in(value: &Value<Global>) -> Result<Attached, LinkFault>
 fn answered(message: &Message) -> Result<Attached, LinkFault>
     ensures { IfOk result (IsAnswerOf (meaning message.now)) }
 {
-    let Message::Response(Response {
-        seq: 0,
-        result: value,
-        exception,
-        ..
-    }) = message
+    let Message::Response(
+        Response {
+            seq: 0,
+            result: value,
+            exception,
+            ..
+        },
+    ) = message
     else {
         return Err(LinkFault::BadMessage);
     };

@@ -20,15 +20,18 @@ fn login_in(alloc: Global, message: &Value<&Bump>) -> Result<Credentials, LinkFa
     ensures login { IfOk result (IsLoginOf (tree message.now)) }
 {
     match read(alloc, message) {
-        Ok(Message::Request(Numbered {
-            seq,
-            request:
-                Request::Auth {
-                    username,
-                    password,
-                    session,
+        Ok(
+            Message::Request(
+                Numbered {
+                    seq,
+                    request: Request::Auth {
+                        username,
+                        password,
+                        session,
+                    },
                 },
-        })) => Ok(Credentials {
+            ),
+        ) => Ok(Credentials {
             username,
             password,
             named: Named { seq, session },

@@ -1,7 +1,9 @@
 //! A master's link over memory.
 ghost use Rattle.std.specs.Prelude.{◌≡◌};
 
-use super::{ANSWER, AUTH, BAD_LOGIN, HEAD, ORDER, PING, STOP, Script, TEXT, TRUE, UPDATE, script_of};
+use super::{
+    ANSWER, AUTH, BAD_LOGIN, HEAD, ORDER, PING, STOP, Script, TEXT, TRUE, UPDATE, script_of,
+};
 use crate::*;
 use bm_lane::{Blank, Drained, Yard, open};
 use bm_lines::Text;
@@ -50,9 +52,19 @@ fn busy_row<Y: Yard, W: Wait + Drop, R: Wait + Abort>(
     let mut link = link_of(alloc, &[AUTH, UPDATE, TEXT, PING])?;
     let mut arena = Bump::new(alloc);
     let users = users_of(alloc, "w0", "p")?;
-    assert!(rt; matches!(link.attach(rt, alloc, &mut ends.reader), Err(LinkFault::Closed)));
+    assert!(rt;
+        matches!(
+            link.attach(rt, alloc, &mut ends.reader),
+            Err(LinkFault::Closed)
+        )
+    );
     assert!(rt; matches!(link.login(alloc, &mut arena, &users), Ok(1)));
-    assert!(rt; matches!(link.attach(rt, alloc, &mut ends.reader), Ok(Attached::Plain)));
+    assert!(rt;
+        matches!(
+            link.attach(rt, alloc, &mut ends.reader),
+            Ok(Attached::Plain)
+        )
+    );
     assert!(rt; link.has_written(TRUE));
     let argv = [Text::from_str(alloc, "true")?];
     let started = link.start(rt, alloc, &mut ends.reader, argv.as_slice());

@@ -63,8 +63,14 @@ fn is_closed_by(alloc: Global, last: &[u8]) -> Result<bool, Fail> {
         _ => false,
     };
     let is_open = !link.closed();
-    let ended = matches!(link.turn(alloc, &mut arena, &mut core), Err(LinkFault::Closed));
-    let again = matches!(link.turn(alloc, &mut arena, &mut core), Err(LinkFault::Closed));
+    let ended = matches!(
+        link.turn(alloc, &mut arena, &mut core),
+        Err(LinkFault::Closed)
+    );
+    let again = matches!(
+        link.turn(alloc, &mut arena, &mut core),
+        Err(LinkFault::Closed)
+    );
     if !(is_plain && ran && is_open && ended && again) {
         return Err(Fail::from("another turn"));
     }
