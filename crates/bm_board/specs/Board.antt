@@ -45,8 +45,8 @@ occupied worker jobs = count_by (occupies worker) jobs
 abbrev pub holders : Mode → ℕ → List Course → ℕ
 holders mode lock jobs = count_by (holds_lock mode lock) jobs
 
--- the builds within their limits: of each lock there is one exclusive holder, or at most its maximum of counting ones,
--- and no worker has more builds that run or are not released than slots
+-- the builds within their limits: of each lock there is one exclusive holder, or at most its
+-- maximum of counting ones, and no worker has more builds that run or are not released than slots
 pub record IsWithinLimits (b : Standing) : Type 0 where
   pub slots : (w : ℕ) → w < length b.workers
       → occupied w b.jobs ≤ slice_index (map (λ worker. worker.slots) b.workers) w

@@ -11,7 +11,7 @@ use Rattle.bm_board.specs.declared.refusal.BoardRefusal.{BoardRefusal}
 use Rattle.bm_board.specs.declared.refusal.BoardRefusal.TheVariants.{NotWaiting, NotRunning}
 use Rattle.bm_board.specs.Steps.{next_of}
 
--- a build, its phase, and from its start on an outcome for each step: SKIPPED until the step is done
+-- a build, its phase, and from its start on an outcome for each step, SKIPPED until it is done
 pub record Course : Type 0 where
   pub build : Build
   pub phase : Phase
@@ -79,7 +79,8 @@ finish_in (Over result holds) outcome job = Err NotRunning
 abbrev pub finish : Results → Course → Outcome Next
 finish outcome job = finish_in job.phase outcome job
 
--- a waiting build ends CANCELLED (false); of a running one the step that runs will count as CANCELLED (true)
+-- a waiting build ends CANCELLED (false); of a running one the step that runs will count as
+-- CANCELLED (true)
 abbrev pub cancel_in : Phase → Course → Outcome Bool
 cancel_in Waiting job = Ok (in_phase job (Over Cancelled false), false)
 cancel_in (Running step cancelled) job = Ok (in_phase job (Running step true), true)

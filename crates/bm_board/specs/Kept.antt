@@ -1,4 +1,5 @@
--- What a board keeps beside its builds: how many slots are taken and how often each lock is held, counted as they change.
+-- What a board keeps beside its builds: how many slots are taken and how often each lock is held,
+-- counted as they change.
 use Rattle.std.specs.Prelude.{◌≡◌, ℕ, ◌+◌, ◌<◌, ◌≤◌, ◌^◌, Bool, true, ◌&&◌, ◌==◌, nat_lt, if◌then◌else◌, IsTrue, All, List, length, slice_index}
 use Rattle.std.specs.List.{list_any, list_all}
 use Rattle.bm_board.specs.declared.plan.Mode.{Mode}

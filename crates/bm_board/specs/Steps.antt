@@ -1,4 +1,5 @@
--- Which step of a build is next, and the result of a build (Buildbot manual, "Build Steps" and "Results").
+-- Which step of a build is next, and the result of a build (Buildbot manual, "Build Steps" and
+-- "Results").
 use Rattle.std.specs.Prelude.{ℕ, ◌+◌, Bool, true, false, not, ◌&&◌, ◌||◌, nat_lt, if◌then◌else◌, List, length, drop, fold, position, Option}
 use Rattle.std.specs.List.{list_any, zip}
 use Rattle.std.specs.Option.{option_map_or}

@@ -17,8 +17,8 @@ use std::marker::Model;
 /// How many builds a board takes.
 const MOST_BUILDS: usize = 10_000;
 
-/// The workers, the locks, and the builds by number. A build holds a slot of its worker and its locks from its start
-/// until it is released.
+/// The workers, the locks, and the builds by number. A build holds a slot of its worker and its
+/// locks from its start until it is released.
 #[derive(Debug, Drop)]
 pub struct Board {
     workers: Vec<Worker>,
@@ -49,7 +49,7 @@ impl Board {
     ghost use Rattle.bm_board.specs.Board.{IsWithinLimits, add_refusal, board_after, on_build, opening, result_on, start, with_build, with_ready};
     ghost use Rattle.bm_board.specs.Job.{answer_of, cancel, finish, give_up, release};
 
-    /// A board of workers with these many slots, none of them ready, and of locks with these maxima.
+    /// A board of workers with these many slots, none ready, and of locks with these maxima.
     pub fn new(alloc: Global, slots: &[u8], lock_max: &[u32]) -> Result<Board, AllocError>
         requires slots { All (λ n. (1 ≤ n) × (n ≤ 4)) slots.now }
         requires maxima { All (λ n. 1 ≤ n) lock_max.now }
@@ -77,8 +77,9 @@ impl Board {
         self.workers.as_slice().len()
     }
 
-    /// What holds of every board: each lock has one exclusive holder, or at most its maximum of counting ones, and no
-    /// worker has more builds that run or are not released than slots. It does nothing when it runs.
+    /// What holds of every board: each lock has one exclusive holder, or at most its maximum of
+    /// counting ones, and no worker has more builds that run or are not released than slots. It
+    /// does nothing when it runs.
     pub fn stays_within_limits(&self)
         ensures { IsWithinLimits self.now }
     {
@@ -122,8 +123,8 @@ impl Board {
     }
 
     /// Starts a waiting build: it takes a slot of its worker, and its locks.
-    /// Errors: `NoBuild`, `NotWaiting`, `NoWorker` (not ready, or no free slot), `LockHeld`, `Mem`. The board is then
-    /// unchanged.
+    /// Errors: `NoBuild`, `NotWaiting`, `NoWorker` (not ready, or no free slot), `LockHeld`, `Mem`.
+    /// The board is then unchanged.
     pub fn try_start(&mut self, id: u64) -> Result<Started, BoardRefusal>
         ensures started { OnOk result (result ≡ answer_of (on_build (start self.old) self.old id)) }
         ensures board { OnOk result (self.new
@@ -158,7 +159,8 @@ impl Board {
         Ok(Started { worker, next })
     }
 
-    /// The step that runs ended so, or CANCELLED where the build was cancelled meanwhile: what follows.
+    /// The step that runs ended so, or CANCELLED where the build was cancelled meanwhile: what
+    /// follows.
     /// Errors: `NoBuild`, `NotRunning`. The board is then unchanged.
     pub fn step_done(&mut self, id: u64, outcome: Results) -> Result<Next, BoardRefusal>
         ensures answer { result ≡ answer_of (on_build (finish outcome) self.old id) }
@@ -171,8 +173,8 @@ impl Board {
         self.jobs[place].finish(outcome)
     }
 
-    /// Cancels a build: a waiting one ends CANCELLED (false); of a running one the next `step_done` counts as
-    /// CANCELLED (true).
+    /// Cancels a build: a waiting one ends CANCELLED (false); of a running one the next `step_done`
+    /// counts as CANCELLED (true).
     /// Errors: `NoBuild`, `NotRunning` (it is over). The board is then unchanged.
     pub fn cancel(&mut self, id: u64) -> Result<bool, BoardRefusal>
         ensures answer { result ≡ answer_of (on_build cancel self.old id) }

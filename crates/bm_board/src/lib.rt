@@ -1,5 +1,5 @@
-//! The board of builds: which build runs on which worker, the locks that it holds, its steps and its result
-//! (Buildbot manual: "Build Steps", "Interlocks", "Results").
+//! The board of builds: which build runs on which worker, the locks that it holds, its steps and
+//! its result (Buildbot manual: "Build Steps", "Interlocks", "Results").
 #![tactic(auto)]
 
 mod board;

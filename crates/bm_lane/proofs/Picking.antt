@@ -1,5 +1,5 @@
 -- The pick of queues and copies by place is right at each place, and the ends come in order.
-use Rattle.std.proofs.Common.{◌≡◌, ℕ, zero, suc, ◌+◌, List, [], ◌∷◌, ◌++◌, map, refl, ap, sym, ◌∙◌, arith, append_assoc}
+use Rattle.std.proofs.Common.{◌≡◌, ℕ, suc, ◌+◌, List, [], ◌∷◌, ◌++◌, map, ap, ◌∙◌, arith, append_assoc}
 use Rattle.std.proofs.lemmas.List.{map-append}
 use Rattle.bm_lane.specs.Ends.{Blanked}
 use Rattle.bm_lane.specs.Fronts.{HistoryId}

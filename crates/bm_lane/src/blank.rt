@@ -1,5 +1,6 @@
 //! A lane before it has a number, and its ends.
-ghost use Rattle.std.specs.Prelude.{◌≡◌, ◌<◌, ◌≤◌, [], All, length, map, IfOk, IfErr, vec_capacity, vec_len};
+ghost use Rattle.std.specs.Prelude.{◌≡◌, ◌<◌, ◌≤◌, [], All, length, map, IfOk, IfErr, vec_capacity};
+ghost use Rattle.std.specs.Prelude.{vec_len};
 ghost use Rattle.std.specs.Arc.{arc_value};
 ghost use Rattle.bm_lane.specs.Ends.{AllNew};
 ghost use Rattle.bm_lane.specs.Placed.{ArePlaced, new_readers, new_writers, AreItsViewers};
@@ -39,9 +40,16 @@ impl<R: Wait + Drop> Model for Blank<R> {
 
     ghost Value = { Blanked };
 
-    ghost view = { λ b. record { queue = b.pass.table_id; copy = b.publisher.history; capacity = ruled_capacity (arc_value b.queue); viewers = length b.windows.items } };
+    ghost view = { λ b. record {
+      queue = b.pass.table_id;
+      copy = b.publisher.history;
+      capacity = ruled_capacity (arc_value b.queue);
+      viewers = length b.windows.items;
+    } };
 
-    ghost invariant = { λ b. (b.session.trace ≡ []) × IsPassOf (arc_value b.queue) b.pass × (known b.pass ≡ hand true true [] []) × (b.publisher.shown ≡ []) × (b.publisher.held ≡ []) × (b.publisher.kept ≡ []) × AllFresh b.publisher.history [] b.windows.items };
+    ghost invariant = { λ b. (b.session.trace ≡ []) × IsPassOf (arc_value b.queue) b.pass
+        × (known b.pass ≡ hand true true [] []) × (b.publisher.shown ≡ []) × (b.publisher.held ≡ [])
+        × (b.publisher.kept ≡ []) × AllFresh b.publisher.history [] b.windows.items };
 }
 
 /// The ends of a lane.
@@ -52,10 +60,11 @@ pub struct Ends<Y: Yard, R: Wait + Drop> {
     pub viewers: Vec<Viewer<Y>>,
 }
 
-/// A queue that takes `capacity` items at once, and a published copy with places for so many viewers.
+/// A queue that takes `capacity` items at once, and a published copy with places for so many
+/// viewers.
 ///
-/// `NoPlace` where the copy gave no place to one of the viewers, `Mem` where memory is wanting. After either there is no lane,
-/// and the runtime is let go.
+/// `NoPlace` where the copy gave no place to one of the viewers, `Mem` where memory is wanting.
+/// After either there is no lane, and the runtime is let go.
 pub fn open<R: Wait + Drop>(
     rt: R,
     alloc: Global,
@@ -85,16 +94,19 @@ pub fn open<R: Wait + Drop>(
     })
 }
 
-/// The ends of lane 0, lane 1 and so on, in order: those at a place are of the blank at that place. At want of memory
-/// there are none, and the blanks are let go.
+/// The ends of lane 0, lane 1 and so on, in order: those at a place are of the blank at that place.
+/// At want of memory there are none, and the blanks are let go.
 pub fn ends_of_all<Y: Yard, W: Wait + Drop>(
     alloc: Global,
     blanks: Vec<Blank<W>>,
 ) -> Result<Vec<Ends<Y, W>>, AllocError>
     requires { ArePlaced Y.queue Y.copy 0 blanks.items }
-    ensures readers { IfOk result (λ all. map (λ e. e.reader) all.items ≡ new_readers 0 blanks.items) }
-    ensures writers { IfOk result (λ all. map (λ e. e.writer) all.items ≡ new_writers 0 blanks.items) }
-    ensures viewers { IfOk result (λ all. All (λ e. AreItsViewers e.writer e.viewers.items) all.items) }
+    ensures readers { IfOk result (λ all. map (λ e. e.reader) all.items
+        ≡ new_readers 0 blanks.items) }
+    ensures writers { IfOk result (λ all. map (λ e. e.writer) all.items
+        ≡ new_writers 0 blanks.items) }
+    ensures viewers { IfOk result
+        (λ all. All (λ e. AreItsViewers e.writer e.viewers.items) all.items) }
     ensures count { IfOk result (λ all. vec_len all ≡ vec_len blanks) }
 {
     let mut all = Vec::with_capacity(alloc, blanks.len())?;
@@ -131,9 +143,22 @@ impl<R: Wait + Drop> Blank<R> {
         lane: u64,
     ) -> Result<Ends<Y, R>, (Blank<R>, AllocError)>
         requires { (self.queue ≡ Y.queue lane) × (self.copy ≡ Y.copy lane) }
-        ensures reader { IfOk result (λ e. e.reader ≡ record { lane = lane; capacity = self.capacity; trace = []; put = [] }) }
-        ensures writer { IfOk result (λ e. e.writer ≡ record { lane = lane; viewers = self.viewers; taken = []; shown = []; held = []; kept = [] }) }
-        ensures viewers { IfOk result (λ e. AllNew lane e.viewers.items × (length e.viewers.items ≡ self.viewers)) }
+        ensures reader { IfOk result (λ e. e.reader ≡ record {
+          lane = lane;
+          capacity = self.capacity;
+          trace = [];
+          put = [];
+        }) }
+        ensures writer { IfOk result (λ e. e.writer ≡ record {
+          lane = lane;
+          viewers = self.viewers;
+          taken = [];
+          shown = [];
+          held = [];
+          kept = [];
+        }) }
+        ensures viewers { IfOk result (λ e. AllNew lane e.viewers.items
+            × (length e.viewers.items ≡ self.viewers)) }
         ensures back { IfErr result (λ e. e.0 ≡ self) }
     {
         let Ok(theirs) = Arc::try_clone(&self.queue) else {

@@ -1,5 +1,6 @@
 //! How the published copy is made, with its windows.
-ghost use Rattle.std.specs.Prelude.{◌≡◌, [], ◌<◌, ◌≤◌, ◌^◌, drop, All, IfOk, OnOk, MatchResult, Some, length};
+ghost use Rattle.std.specs.Prelude.{◌≡◌, [], ◌<◌, ◌≤◌, ◌^◌, drop, All, IfOk, OnOk, MatchResult};
+ghost use Rattle.std.specs.Prelude.{Some, length};
 ghost use Rattle.left_right.specs.Sides.{view};
 ghost use Rattle.bm_lane.specs.Copies.{IsBook};
 ghost use Rattle.bm_lane.specs.Windows.{AllFresh};
@@ -25,9 +26,13 @@ fn empty(alloc: Global, front: &Front) -> Published
 }
 
 fn window(copy: &mut CopyWriter) -> Result<Window, AllocError>
-    requires { (view copy.old.desk.place ≡ Some copy.old.desk.shown.value.front) × IsBook copy.old.desk.shown.value }
-    ensures kept { (copy.new.desk.shown ≡ copy.old.desk.shown) × (copy.new.log ≡ copy.old.log) × (copy.new.behind ≡ copy.old.behind) × (view copy.new.desk.place ≡ view copy.old.desk.place) }
-    ensures seen { IfOk result (λ w. (w.history ≡ copy.old.desk.shown.value.front.book) × (w.seen ≡ copy.old.desk.shown.value.front.log)) }
+    requires { (view copy.old.desk.place ≡ Some copy.old.desk.shown.value.front)
+        × IsBook copy.old.desk.shown.value }
+    ensures kept { (copy.new.desk.shown ≡ copy.old.desk.shown) × (copy.new.log ≡ copy.old.log)
+        × (copy.new.behind ≡ copy.old.behind)
+        × (view copy.new.desk.place ≡ view copy.old.desk.place) }
+    ensures seen { IfOk result (λ w. (w.history ≡ copy.old.desk.shown.value.front.book)
+        × (w.seen ≡ copy.old.desk.shown.value.front.log)) }
 {
     let mut reader = copy.factory().reader()?;
     reader.learn::<Tells>(copy.tell::<Tells>());
@@ -36,9 +41,14 @@ fn window(copy: &mut CopyWriter) -> Result<Window, AllocError>
 }
 
 fn windows(copy: &mut CopyWriter, alloc: Global, count: usize) -> Result<Vec<Window>, OpenError>
-    requires { (view copy.old.desk.place ≡ Some copy.old.desk.shown.value.front) × IsBook copy.old.desk.shown.value }
-    ensures kept { (copy.new.desk.shown ≡ copy.old.desk.shown) × (drop copy.new.behind copy.new.log.items ≡ drop copy.old.behind copy.old.log.items) }
-    ensures seen { IfOk result (λ ws. AllFresh copy.old.desk.shown.value.front.book copy.old.desk.shown.value.front.log ws.items × (length ws.items ≡ count)) }
+    requires { (view copy.old.desk.place ≡ Some copy.old.desk.shown.value.front)
+        × IsBook copy.old.desk.shown.value }
+    ensures kept { (copy.new.desk.shown ≡ copy.old.desk.shown)
+        × (drop copy.new.behind copy.new.log.items ≡ drop copy.old.behind copy.old.log.items) }
+    ensures seen { IfOk result
+        (λ ws. AllFresh copy.old.desk.shown.value.front.book copy.old.desk.shown.value.front.log
+        ws.items
+        × (length ws.items ≡ count)) }
 {
     let mut windows = Vec::new(alloc);
     for made in 0..count {
@@ -61,7 +71,8 @@ pub fn open_copy<R: Wait + Drop>(
     viewers: usize,
 ) -> Result<(Publisher<R>, Vec<Window>), OpenError>
     requires { (0 < viewers) × (viewers ≤ 64) }
-    ensures { IfOk result (λ t. (t.0.shown ≡ []) × (t.0.held ≡ []) × (t.0.kept ≡ []) × AllFresh t.0.history [] t.1.items × (length t.1.items ≡ viewers)) }
+    ensures { IfOk result (λ t. (t.0.shown ≡ []) × (t.0.held ≡ []) × (t.0.kept ≡ [])
+        × AllFresh t.0.history [] t.1.items × (length t.1.items ≡ viewers)) }
 {
     let head = Head::new();
     let first = empty(alloc, &head.all);

@@ -1,4 +1,5 @@
-//! The history of a lane's items. It only grows, and exists in the proofs alone: what runs is the number of its items.
+//! The history of a lane's items. It only grows, and exists in the proofs alone: what runs is the
+//! number of its items.
 ghost use Rattle.std.specs.Prelude.{◌≡◌, ◌∷◌, ◌++◌, [], ◌+◌, length};
 ghost use mathlib.Core.List.{IsPrefix};
 ghost use Rattle.bm_lane.specs.Histories.{head_of};

@@ -1,10 +1,11 @@
-//! A lane for running threads: a reader's end that takes the events of a worker's connection, a writer's end that shows
-//! their items to viewers, and viewers that never wait. Each end is owned by one thread at a time.
+//! A lane for running threads: a reader's end that takes the events of a worker's connection, a
+//! writer's end that shows their items to viewers, and viewers that never wait. Each end is owned
+//! by one thread at a time.
 //!
-//! An event's item goes through a bounded queue from the reader's end to the writer's, which publishes the book of all
-//! that it showed; viewers read the published book without a lock. When the ends come together again, [`settle`] ties
-//! what each was shown to the one trace of the lane. A block's lines are shared by the trace, the queue and both copies
-//! of the book.
+//! An event's item goes through a bounded queue from the reader's end to the writer's, which
+//! publishes the book of all that it showed; viewers read the published book without a lock. When
+//! the ends come together again, [`settle`] ties what each was shown to the one trace of the lane.
+//! A block's lines are shared by the trace, the queue and both copies of the book.
 #![tactic(auto)]
 
 mod blank;

@@ -41,7 +41,8 @@ pub struct PoolReport {
 /// Why a pool didn't run to its end.
 #[derive(Clone, Copy, Debug, PartialEq, Eq, Error)]
 pub enum PoolFault {
-    /// A thread could not be started. The others ended at their next turn, and what they drained stays drained.
+    /// A thread could not be started. The others ended at their next turn, and what they drained
+    /// stays drained.
     #[error("no thread")]
     Spawn,
     /// Memory is wanting. No thread was started.
@@ -174,10 +175,12 @@ fn report<R: Threads>(rt: &R, workers: Vec<PromisedHandle<Tally, Within>>, turns
     report
 }
 
-/// So many threads drain these lanes. Worker w begins at lane w, modulo the number of lanes, and goes round; it ends
-/// where its gate says so, or after so many turns. Each drain that took an item or met want of memory is counted once.
+/// So many threads drain these lanes. Worker w begins at lane w, modulo the number of lanes, and
+/// goes round; it ends where its gate says so, or after so many turns. Each drain that took an item
+/// or met want of memory is counted once.
 ///
-/// After `Spawn` the workers that were started have ended, and what they drained stays drained; after `Mem` nothing was.
+/// After `Spawn` the workers that were started have ended, and what they drained stays drained;
+/// after `Mem` nothing was.
 pub fn writers<
     Y: Yard + Send + Sync,
     W: Wait + Drop + Send,

@@ -44,7 +44,8 @@ impl Absorb<Addition> for Published {
 /// What a seat has seen, once it was told anything. No value of it is made.
 pub type Sight = Option<Front>;
 
-/// The rule of the copy: it is the book of its history, and what each seat has seen is a beginning of that.
+/// The rule of the copy: it is the book of its history, and what each seat has seen is a beginning
+/// of that.
 pub struct Grows;
 
 impl Protocol<Published, Sight> for Grows {

@@ -1,5 +1,6 @@
 //! The writer's side of the published copy: what is shown, and what is held until there is memory.
-ghost use Rattle.std.specs.Prelude.{◌≡◌, ◌∷◌, ◌++◌, [], ◌<◌, ◌^◌, ◌≤◌, ◌↔◌, length, drop, IsTrue, IfOk, OnOk, MatchResult, Some, None};
+ghost use Rattle.std.specs.Prelude.{◌≡◌, ◌∷◌, ◌++◌, [], ◌<◌, ◌^◌, ◌≤◌, ◌↔◌, length, drop, IsTrue};
+ghost use Rattle.std.specs.Prelude.{IfOk, OnOk, MatchResult, Some, None};
 ghost use Rattle.left_right.specs.Sides.{view};
 ghost use mathlib.Core.List.{IsPrefix};
 ghost use Rattle.bm_lane.specs.Copies.{kept_book, IsBook};
@@ -17,8 +18,8 @@ use std::sync::Wait;
 
 pub type CopyWriter = Writer<Published, Addition, Sight, Grows>;
 
-/// The end of the history, the copy that viewers see, and the addition that the copy had no memory for. It keeps the
-/// runtime, since its drop waits for the viewers that are at a look.
+/// The end of the history, the copy that viewers see, and the addition that the copy had no memory
+/// for. It keeps the runtime, since its drop waits for the viewers that are at a look.
 pub struct Publisher<R: Wait + Drop> {
     pub rt: R,
     copy: CopyWriter,
@@ -34,9 +35,19 @@ impl<R: Wait + Drop> Model for Publisher<R> {
 
     ghost Value = { Showing };
 
-    ghost view = { λ p. record { history = p.copy.desk.shown.value.front.book; shown = p.copy.desk.shown.value.front.log; held = items_of (drop p.copy.behind p.copy.log.items ++ kept_list p.kept); kept = p.copy.desk.shown.value.book } };
+    ghost view = { λ p. record {
+      history = p.copy.desk.shown.value.front.book;
+      shown = p.copy.desk.shown.value.front.log;
+      held = items_of (drop p.copy.behind p.copy.log.items ++ kept_list p.kept);
+      kept = p.copy.desk.shown.value.book;
+    } };
 
-    ghost invariant = { λ p. IsBook p.copy.desk.shown.value × Chain p.copy.desk.shown.value.front (drop p.copy.behind p.copy.log.items ++ kept_list p.kept) × (last_front p.copy.desk.shown.value.front (drop p.copy.behind p.copy.log.items ++ kept_list p.kept) ≡ p.head.all) × (length (drop p.copy.behind p.copy.log.items ++ kept_list p.kept) ≤ 1) };
+    ghost invariant = { λ p. IsBook p.copy.desk.shown.value
+        × Chain p.copy.desk.shown.value.front
+        (drop p.copy.behind p.copy.log.items ++ kept_list p.kept)
+        × (last_front p.copy.desk.shown.value.front
+        (drop p.copy.behind p.copy.log.items ++ kept_list p.kept) ≡ p.head.all)
+        × (length (drop p.copy.behind p.copy.log.items ++ kept_list p.kept) ≤ 1) };
 }
 
 impl<R: Wait + Drop> Drop for Publisher<R> {
@@ -53,8 +64,16 @@ impl<R: Wait + Drop> Drop for Publisher<R> {
 
 /// Shows all that was appended.
 pub fn publish<R: Wait>(copy: CopyWriter, rt: &R) -> (CopyWriter, Result<(), AllocError>)
-    requires { IsBook copy.desk.shown.value × Chain copy.desk.shown.value.front (drop copy.behind copy.log.items) }
-    ensures { MatchResult result.1 (λ _. (view result.0.desk.place ≡ Some result.0.desk.shown.value.front) × IsBook result.0.desk.shown.value × (result.0.desk.shown.value.front ≡ last_front copy.desk.shown.value.front (drop copy.behind copy.log.items)) × (drop result.0.behind result.0.log.items ≡ [])) (λ _. (result.0.desk.shown.value ≡ copy.desk.shown.value) × (drop result.0.behind result.0.log.items ≡ drop copy.behind copy.log.items)) }
+    requires { IsBook copy.desk.shown.value
+        × Chain copy.desk.shown.value.front (drop copy.behind copy.log.items) }
+    ensures { MatchResult result.1
+        (λ _. (view result.0.desk.place ≡ Some result.0.desk.shown.value.front)
+        × IsBook result.0.desk.shown.value
+        × (result.0.desk.shown.value.front
+        ≡ last_front copy.desk.shown.value.front (drop copy.behind copy.log.items))
+        × (drop result.0.behind result.0.log.items ≡ []))
+        (λ _. (result.0.desk.shown.value ≡ copy.desk.shown.value)
+        × (drop result.0.behind result.0.log.items ≡ drop copy.behind copy.log.items)) }
 {
     copy.publish_as::<Sees, R>(rt)
 }
@@ -62,7 +81,8 @@ pub fn publish<R: Wait>(copy: CopyWriter, rt: &R) -> (CopyWriter, Result<(), All
 // Gives the copy the addition that met want of memory.
 fn refill(copy: &mut CopyWriter, kept: &mut Option<Addition>) -> Result<(), AllocError>
     ensures desk { copy.new.desk ≡ copy.old.desk }
-    ensures all { drop copy.new.behind copy.new.log.items ++ kept_list kept.new ≡ drop copy.old.behind copy.old.log.items ++ kept_list kept.old }
+    ensures all { drop copy.new.behind copy.new.log.items ++ kept_list kept.new
+        ≡ drop copy.old.behind copy.old.log.items ++ kept_list kept.old }
     ensures none { OnOk result (kept.new ≡ None) }
 {
     if let Some(op) = kept.take() {
@@ -79,7 +99,12 @@ impl<R: Wait + Drop> Publisher<R> {
     pub fn over(rt: R, copy: CopyWriter, head: Head) -> Publisher<R>
         requires book { IsBook copy.desk.shown.value × (drop copy.behind copy.log.items ≡ []) }
         requires head { head.all ≡ copy.desk.shown.value.front }
-        ensures { result ≡ record { history = head.all.book; shown = head.all.log; held = []; kept = kept_book head.all.log } }
+        ensures { result ≡ record {
+          history = head.all.book;
+          shown = head.all.log;
+          held = [];
+          kept = kept_book head.all.log;
+        } }
     {
         Publisher {
             rt,
@@ -115,7 +140,11 @@ impl<R: Wait + Drop> Publisher<R> {
 
     /// Shows what is held.
     pub fn show(&mut self) -> Result<(), AllocError>
-        ensures { MatchResult result (λ _. self.new ≡ record self.old { shown = self.old.shown ++ self.old.held; held = []; kept = kept_book (self.old.shown ++ self.old.held) }) (λ _. self.new ≡ self.old) }
+        ensures { MatchResult result (λ _. self.new ≡ record self.old {
+          shown = self.old.shown ++ self.old.held;
+          held = [];
+          kept = kept_book (self.old.shown ++ self.old.held);
+        }) (λ _. self.new ≡ self.old) }
     {
         refill(&mut self.copy, &mut self.kept)?;
         replace_with(&mut self.copy, &self.rt, publish::<R>)

@@ -1,9 +1,11 @@
 //! The end of a lane that hears its worker.
-ghost use Rattle.std.specs.Prelude.{◌≡◌, ◌≢◌, ◌≤◌, ◌<◌, ◌^◌, ◌++◌, ◌∷◌, [], length, IfErr, MatchBool, MatchResult, true, false};
+ghost use Rattle.std.specs.Prelude.{◌≡◌, ◌≢◌, ◌≤◌, ◌<◌, ◌^◌, ◌++◌, ◌∷◌, [], length, IfErr};
+ghost use Rattle.std.specs.Prelude.{MatchBool, MatchResult, true, false};
 ghost use Rattle.std.specs.Arc.{arc_value};
 ghost use Rattle.crossbeam_queue.specs.Passes.{IsPassOf, IsSamePass, ruled_capacity};
 ghost use Rattle.bm_session.specs.Session.{IsPlanFor};
-ghost use Rattle.bm_session.specs.Trace.{is_up as up_of, is_cut as cut_of, items, commands, orders, reply, was_taken};
+ghost use Rattle.bm_session.specs.Trace.{is_up as up_of, is_cut as cut_of, items, commands, orders};
+ghost use Rattle.bm_session.specs.Trace.{reply, was_taken};
 ghost use Rattle.bm_lane.specs.Relay.{hand, known};
 ghost use Rattle.bm_lane.specs.Hearing.{Hears};
 
@@ -18,8 +20,8 @@ use std::sync::{Arc, Wait};
 
 /// The reader's end of a lane: it takes events and puts their items into the queue.
 ///
-/// At all times what it put is the items of its trace. Each call answers its event, which then ends the trace; or hands the
-/// event back with the reason, and then nothing has changed.
+/// At all times what it put is the items of its trace. Each call answers its event, which then ends
+/// the trace; or hands the event back with the reason, and then nothing has changed.
 #[derive(Drop)]
 pub struct ReaderEnd<Y: Yard> {
     lane: u64,
@@ -39,9 +41,16 @@ impl<Y: Yard> Model for ReaderEnd<Y> {
 
     ghost Value = { Heard };
 
-    ghost view = { λ r. record { lane = r.lane; capacity = ruled_capacity (arc_value r.queue); trace = r.session.trace; put = (known r.pass).put } };
+    ghost view = { λ r. record {
+      lane = r.lane;
+      capacity = ruled_capacity (arc_value r.queue);
+      trace = r.session.trace;
+      put = (known r.pass).put;
+    } };
 
-    ghost invariant = { λ r. IsPassOf (arc_value r.queue) r.pass × (r.pass.table_id ≡ Y.queue r.lane) × (known r.pass ≡ hand true false (items r.session.trace) []) };
+    ghost invariant = { λ r. IsPassOf (arc_value r.queue) r.pass
+        × (r.pass.table_id ≡ Y.queue r.lane)
+        × (known r.pass ≡ hand true false (items r.session.trace) []) };
 }
 
 // Puts an item into the queue, where it has a place.
@@ -49,7 +58,11 @@ fn put<R: Wait>(rt: &R, queue: &ItemQueue, pass: &mut ItemPass, item: Item) -> b
     requires own { IsPassOf queue.now pass.old }
     requires puts { (known pass.old).puts ≡ true }
     ensures own { IsSamePass pass.old pass.new }
-    ensures put { MatchBool result (known pass.new ≡ hand (known pass.old).puts (known pass.old).takes ((known pass.old).put ++ item ∷ []) (known pass.old).taken) ((known pass.new ≡ known pass.old) × (ruled_capacity queue.now ≤ length (known pass.old).put)) }
+    ensures put { MatchBool result
+        (known pass.new ≡ hand (known pass.old).puts (known pass.old).takes
+        ((known pass.old).put ++ item ∷ []) (known pass.old).taken)
+        ((known pass.new ≡ known pass.old)
+        × (ruled_capacity queue.now ≤ length (known pass.old).put)) }
 {
     match queue.push_as::<Puts, R>(rt, pass, item) {
         Ok(()) => true,
@@ -77,7 +90,12 @@ impl<Y: Yard> ReaderEnd<Y> {
         requires session { session.trace ≡ [] }
         requires queue { IsPassOf (arc_value queue) pass × (pass.table_id ≡ Y.queue lane) }
         requires fresh { known pass ≡ hand true false [] [] }
-        ensures { result ≡ record { lane = lane; capacity = ruled_capacity (arc_value queue); trace = []; put = [] } }
+        ensures { result ≡ record {
+          lane = lane;
+          capacity = ruled_capacity (arc_value queue);
+          trace = [];
+          put = [];
+        } }
     {
         ReaderEnd {
             lane,
@@ -91,7 +109,8 @@ impl<Y: Yard> ReaderEnd<Y> {
     // A plan is readied, its item pushed, and the plan committed; on a full queue it is withdrawn.
     fn take<R: Wait>(&mut self, rt: &R, event: Event) -> Result<Reply, (Event, HearRefusal)>
         ensures taken { Hears self.old event result self.new }
-        ensures spared { event ≡ Event.Down → IfErr result (λ r. r.1 ≢ HearRefusal.Session Refusal.Mem) }
+        ensures spared { event ≡ Event.Down
+            → IfErr result (λ r. r.1 ≢ HearRefusal.Session Refusal.Mem) }
     {
         let mut plan = match self.session.ready(event) {
             Ok(plan) => plan,
@@ -160,7 +179,8 @@ impl<Y: Yard> ReaderEnd<Y> {
         self.session.trace()
     }
 
-    /// Whether the lane is up: a connection of its worker takes messages and orders. It takes constant time.
+    /// Whether the lane is up: a connection of its worker takes messages and orders. It takes
+    /// constant time.
     pub fn is_up(&self) -> bool
         ensures { result ≡ up_of self.now.trace }
     {
@@ -205,7 +225,10 @@ impl<Y: Yard> ReaderEnd<Y> {
         writer: WriterEnd<Y, R>,
     ) -> Result<(Session, Publisher<R>, u64), (ReaderEnd<Y>, WriterEnd<Y, R>)>
         requires { (self.lane ≡ writer.lane) × (writer.held ≡ []) }
-        ensures { MatchResult result (λ s. (s.0.trace ≡ self.trace) × (s.1.shown ≡ items self.trace) × (s.1.held ≡ []) × (s.1.history ≡ Y.copy s.2) × (s.2 ≡ self.lane)) (λ e. (e.0 ≡ self) × (e.1 ≡ writer)) }
+        ensures { MatchResult result
+            (λ s. (s.0.trace ≡ self.trace) × (s.1.shown ≡ items self.trace) × (s.1.held ≡ [])
+            × (s.1.history ≡ Y.copy s.2) × (s.2 ≡ self.lane))
+            (λ e. (e.0 ≡ self) × (e.1 ≡ writer)) }
     {
         let ReaderEnd {
             lane,

@@ -1,5 +1,6 @@
 //! The end of a lane: its ends come together, and what was drained and seen is what was heard.
-ghost use Rattle.std.specs.Prelude.{◌≡◌, ◌↔◌, ◌++◌, ◌≤◌, [], true, IsTrue, take, drop, length, IfOk, IfErr, vec_capacity};
+ghost use Rattle.std.specs.Prelude.{◌≡◌, ◌↔◌, ◌++◌, ◌≤◌, [], true, IsTrue, take, drop, length};
+ghost use Rattle.std.specs.Prelude.{IfOk, IfErr, vec_capacity};
 ghost use mathlib.Core.List.{IsPrefix};
 ghost use Rattle.bm_session.specs.Trace.{items, was_taken};
 ghost use Rattle.bm_store.specs.Book.{book, logs};
@@ -36,7 +37,8 @@ fn count_seen<Y: Yard, R: Wait + Drop>(
     viewers: &[Viewer<Y>],
     seen: &mut Vec<u64>,
 )
-    requires own { (publisher.old.history ≡ Y.copy lane) × (publisher.old.held ≡ []) × AllOf lane viewers.now }
+    requires own { (publisher.old.history ≡ Y.copy lane) × (publisher.old.held ≡ [])
+        × AllOf lane viewers.now }
     requires room { (seen.old.items ≡ []) × (length viewers.now ≤ vec_capacity seen.old) }
     ensures same { publisher.new ≡ publisher.old }
     ensures seen { seen.new.items ≡ seen_counts viewers.now }
@@ -54,7 +56,8 @@ pub fn same_lane<Y: Yard, R: Wait + Drop>(
     writer: &WriterEnd<Y, R>,
     viewers: &[Viewer<Y>],
 ) -> bool
-    ensures { IsTrue result ↔ ((reader.now.lane ≡ writer.now.lane) × AllOf writer.now.lane viewers.now × (length viewers.now ≡ writer.now.viewers)) }
+    ensures { IsTrue result ↔ ((reader.now.lane ≡ writer.now.lane)
+        × AllOf writer.now.lane viewers.now × (length viewers.now ≡ writer.now.viewers)) }
 {
     let lane = writer.lane();
     reader.lane() == lane
@@ -62,8 +65,8 @@ pub fn same_lane<Y: Yard, R: Wait + Drop>(
         && viewers.iter().all(|viewer| viewer.lane() == lane)
 }
 
-/// Drains what is left, and ends the lane: its trace, the book of the whole trace, and how many of the trace's items
-/// each viewer had seen.
+/// Drains what is left, and ends the lane: its trace, the book of the whole trace, and how many of
+/// the trace's items each viewer had seen.
 ///
 /// At want of memory the ends come back, and what was drained stays drained.
 #[tactic(auto, using(crate::proofs::Prefixes::prefix_self))]
@@ -75,9 +78,12 @@ pub fn settle<Y: Yard, W: Wait + Drop, R: Wait>(
     requires { (ends.reader.lane ≡ ends.writer.lane) × AllOf ends.writer.lane ends.viewers.items }
     ensures trace { IfOk result (λ s. s.trace.items ≡ ends.reader.trace) }
     ensures taken { IfOk result (λ s. was_taken s.trace.items ≡ true) }
-    ensures book { IfOk result (λ s. (logs_in s.book ≡ logs ends.reader.trace) × (logs_in s.book ≡ book (items ends.reader.trace))) }
-    ensures seen { IfOk result (λ s. (s.seen.items ≡ seen_counts ends.viewers.items) × AllBegin (items ends.reader.trace) ends.viewers.items) }
-    ensures back { IfErr result (λ e. (e.0.reader ≡ ends.reader) × IsBack ends.writer e.0.writer × (e.0.viewers.items ≡ ends.viewers.items)) }
+    ensures book { IfOk result (λ s. (logs_in s.book ≡ logs ends.reader.trace)
+        × (logs_in s.book ≡ book (items ends.reader.trace))) }
+    ensures seen { IfOk result (λ s. (s.seen.items ≡ seen_counts ends.viewers.items)
+        × AllBegin (items ends.reader.trace) ends.viewers.items) }
+    ensures back { IfErr result (λ e. (e.0.reader ≡ ends.reader) × IsBack ends.writer e.0.writer
+        × (e.0.viewers.items ≡ ends.viewers.items)) }
 {
     let Ends {
         mut reader,

@@ -10,9 +10,11 @@ use bm_store::{Chunk, LogState, ViewRefusal};
 use std::marker::{Model, PhantomData};
 use std::sync::Wait;
 
-/// A viewer of a lane's logs. Contracts see the items that it has seen: they are shown in order, and it never goes back.
+/// A viewer of a lane's logs. Contracts see the items that it has seen: they are shown in order,
+/// and it never goes back.
 ///
-/// A look enters the published copy and leaves it again. It never waits, and nobody waits for it but a drain.
+/// A look enters the published copy and leaves it again. It never waits, and nobody waits for it
+/// but a drain.
 #[derive(Drop)]
 pub struct Viewer<Y: Yard> {
     lane: u64,
@@ -43,11 +45,12 @@ impl<Y: Yard> Viewer<Y> {
         }
     }
 
-    /// The lines at the places from `offset` up to `offset` + `limit` of the log of a command under a name, as far as it
-    /// goes: of the book of what the viewer has then seen, which is no less than before.
+    /// The lines at the places from `offset` up to `offset` + `limit` of the log of a command under
+    /// a name, as far as it goes: of the book of what the viewer has then seen, which is no less
+    /// than before.
     ///
-    /// `NoLog` where that log isn't there. After `Mem` the viewer may have seen more; after `Closed`, where the copy
-    /// couldn't be entered, nothing changed.
+    /// `NoLog` where that log isn't there. After `Mem` the viewer may have seen more; after
+    /// `Closed`, where the copy couldn't be entered, nothing changed.
     pub fn chunk(
         &mut self,
         command: u64,
@@ -69,10 +72,11 @@ impl<Y: Yard> Viewer<Y> {
         }
     }
 
-    /// How many lines the log of a command under a name has, and how the command ended: in the book of what the viewer
-    /// has then seen, which is no less than before.
+    /// How many lines the log of a command under a name has, and how the command ended: in the book
+    /// of what the viewer has then seen, which is no less than before.
     ///
-    /// `NoLog` where that log isn't there. After `Closed`, where the copy couldn't be entered, nothing changed.
+    /// `NoLog` where that log isn't there. After `Closed`, where the copy couldn't be entered,
+    /// nothing changed.
     pub fn state(&mut self, command: u64, name: &str) -> Result<LogState, ViewRefusal>
         ensures { GivesState self.old self.new command name.now result }
     {

@@ -57,12 +57,14 @@ impl Model for Window {
 
     ghost view = { λ w. record { history = w.front.book; seen = w.front.log } };
 
-    ghost invariant = { λ w. (seat_view w.reader.place ≡ Some w.front) × (w.count ≡ length w.front.log) };
+    ghost invariant = { λ w. (seat_view w.reader.place ≡ Some w.front)
+        × (w.count ≡ length w.front.log) };
 }
 
 fn lines_in(seen: &Published, asked: &Asked<'_>) -> Result<Chunk, ViewRefusal>
     requires { seen.now.book ≡ kept_book seen.now.front.log }
-    ensures { Answered (lines_of_book seen.now.front.log asked.now.command asked.now.name.now asked.now.offset asked.now.limit) result }
+    ensures { Answered (lines_of_book seen.now.front.log asked.now.command asked.now.name.now
+        asked.now.offset asked.now.limit) result }
 {
     seen.book
         .slice(asked.command, asked.name, asked.offset, asked.limit)
@@ -82,7 +84,12 @@ fn look_for_lines(
     reader: CopyReader,
     asked: &Asked<'_>,
 ) -> (CopyReader, Option<Sighting<Result<Chunk, ViewRefusal>>>)
-    ensures { MatchOption result.1 (view result.0.place ≡ view reader.place) (λ s. (view result.0.place ≡ Some s.front) × (s.count ≡ length s.front.log) × ((f : History) → view reader.place ≡ Some f → (s.front.book ≡ f.book) × IsPrefix f.log s.front.log) × Answered (lines_of_book s.front.log asked.now.command asked.now.name.now asked.now.offset asked.now.limit) s.answer) }
+    ensures { MatchOption result.1 (view result.0.place ≡ view reader.place)
+        (λ s. (view result.0.place ≡ Some s.front) × (s.count ≡ length s.front.log)
+        × ((f : History) → view reader.place ≡ Some f
+        → (s.front.book ≡ f.book) × IsPrefix f.log s.front.log)
+        × Answered (lines_of_book s.front.log asked.now.command asked.now.name.now
+        asked.now.offset asked.now.limit) s.answer) }
 {
     match reader.enter_as::<Sees>() {
         Ok(reading) => {
@@ -102,7 +109,11 @@ fn look_for_state(
     reader: CopyReader,
     log: &LogOf<'_>,
 ) -> (CopyReader, Option<Sighting<Result<LogState, ViewRefusal>>>)
-    ensures { MatchOption result.1 (view result.0.place ≡ view reader.place) (λ s. (view result.0.place ≡ Some s.front) × (s.count ≡ length s.front.log) × ((f : History) → view reader.place ≡ Some f → (s.front.book ≡ f.book) × IsPrefix f.log s.front.log) × (s.answer ≡ told (state_of_book s.front.log log.now.command log.now.name.now))) }
+    ensures { MatchOption result.1 (view result.0.place ≡ view reader.place)
+        (λ s. (view result.0.place ≡ Some s.front) × (s.count ≡ length s.front.log)
+        × ((f : History) → view reader.place ≡ Some f
+        → (s.front.book ≡ f.book) × IsPrefix f.log s.front.log)
+        × (s.answer ≡ told (state_of_book s.front.log log.now.command log.now.name.now))) }
 {
     match reader.enter_as::<Sees>() {
         Ok(reading) => {
@@ -147,7 +158,11 @@ impl Window {
 
     /// The asked lines of a log, or `None` where the copy could not be entered.
     pub fn lines(&mut self, asked: &Asked<'_>) -> Option<Result<Chunk, ViewRefusal>>
-        ensures { MatchOption result (self.new ≡ self.old) (λ r. (self.new.history ≡ self.old.history) × IsPrefix self.old.seen self.new.seen × Answered (lines_of_book self.new.seen asked.now.command asked.now.name.now asked.now.offset asked.now.limit) r) }
+        ensures { MatchOption result (self.new ≡ self.old)
+            (λ r. (self.new.history ≡ self.old.history)
+            × IsPrefix self.old.seen self.new.seen
+            × Answered (lines_of_book self.new.seen asked.now.command asked.now.name.now
+            asked.now.offset asked.now.limit) r) }
     {
         let Sighting {
             front,
@@ -161,7 +176,10 @@ impl Window {
 
     /// How far a log is, or `None` where the copy could not be entered.
     pub fn state(&mut self, log: &LogOf<'_>) -> Option<Result<LogState, ViewRefusal>>
-        ensures { MatchOption result (self.new ≡ self.old) (λ r. (self.new.history ≡ self.old.history) × IsPrefix self.old.seen self.new.seen × (r ≡ told (state_of_book self.new.seen log.now.command log.now.name.now))) }
+        ensures { MatchOption result (self.new ≡ self.old)
+            (λ r. (self.new.history ≡ self.old.history)
+            × IsPrefix self.old.seen self.new.seen
+            × (r ≡ told (state_of_book self.new.seen log.now.command log.now.name.now))) }
     {
         let Sighting {
             front,

@@ -23,10 +23,11 @@ pub enum Drained {
     Empty,
 }
 
-/// The writer's end of a lane: it takes items out of the queue and shows them to the viewers, one by one.
+/// The writer's end of a lane: it takes items out of the queue and shows them to the viewers, one
+/// by one.
 ///
-/// At all times what it took is what was shown, and then the held item, if any; and the published book is the book of
-/// what was shown. Its drop waits for the viewers that are at a look.
+/// At all times what it took is what was shown, and then the held item, if any; and the published
+/// book is the book of what was shown. Its drop waits for the viewers that are at a look.
 #[derive(Drop)]
 pub struct WriterEnd<Y: Yard, R: Wait + Drop> {
     pub(crate) lane: u64,
@@ -47,9 +48,20 @@ impl<Y: Yard, R: Wait + Drop> Model for WriterEnd<Y, R> {
 
     ghost Value = { Written };
 
-    ghost view = { λ w. record { lane = w.lane; viewers = w.viewers; taken = (known w.pass).taken; shown = w.publisher.shown; held = w.publisher.held; kept = w.publisher.kept } };
+    ghost view = { λ w. record {
+      lane = w.lane;
+      viewers = w.viewers;
+      taken = (known w.pass).taken;
+      shown = w.publisher.shown;
+      held = w.publisher.held;
+      kept = w.publisher.kept;
+    } };
 
-    ghost invariant = { λ w. IsPassOf (arc_value w.queue) w.pass × (w.pass.table_id ≡ Y.queue w.lane) × (known w.pass ≡ hand false true [] (w.publisher.shown ++ w.publisher.held)) × (w.publisher.history ≡ Y.copy w.lane) × (w.publisher.kept ≡ kept_book w.publisher.shown) × (length w.publisher.held ≤ 1) };
+    ghost invariant = { λ w. IsPassOf (arc_value w.queue) w.pass
+        × (w.pass.table_id ≡ Y.queue w.lane)
+        × (known w.pass ≡ hand false true [] (w.publisher.shown ++ w.publisher.held))
+        × (w.publisher.history ≡ Y.copy w.lane) × (w.publisher.kept ≡ kept_book w.publisher.shown)
+        × (length w.publisher.held ≤ 1) };
 }
 
 // The runtime, of which no contract says anything.
@@ -67,8 +79,16 @@ impl<Y: Yard, R: Wait + Drop> WriterEnd<Y, R> {
     ) -> WriterEnd<Y, R>
         requires queue { IsPassOf (arc_value queue) pass × (pass.table_id ≡ Y.queue lane) }
         requires fresh { known pass ≡ hand false true [] [] }
-        requires publisher { (publisher.history ≡ Y.copy lane) × (publisher.shown ≡ []) × (publisher.held ≡ []) × (publisher.kept ≡ []) }
-        ensures { result ≡ record { lane = lane; viewers = viewers; taken = []; shown = []; held = []; kept = [] } }
+        requires publisher { (publisher.history ≡ Y.copy lane) × (publisher.shown ≡ [])
+            × (publisher.held ≡ []) × (publisher.kept ≡ []) }
+        ensures { result ≡ record {
+          lane = lane;
+          viewers = viewers;
+          taken = [];
+          shown = [];
+          held = [];
+          kept = [];
+        } }
     {
         WriterEnd {
             lane,
@@ -82,7 +102,8 @@ impl<Y: Yard, R: Wait + Drop> WriterEnd<Y, R> {
 
     // Whether there is an item to show, which is then held.
     fn ready(&mut self) -> bool
-        ensures ready { MatchBool result (IsReady self.old self.new) ((self.old.held ≡ []) × (self.new ≡ self.old)) }
+        ensures ready { MatchBool result (IsReady self.old self.new)
+            ((self.old.held ≡ []) × (self.new ≡ self.old)) }
         ensures before { IsWritten self.old }
         ensures after { IsWritten self.new }
     {
@@ -101,8 +122,8 @@ impl<Y: Yard, R: Wait + Drop> WriterEnd<Y, R> {
         }
     }
 
-    /// Shows the viewers one item more: the held one, or else the next of the queue. At want of memory the item is held,
-    /// and goes first at the next call.
+    /// Shows the viewers one item more: the held one, or else the next of the queue. At want of
+    /// memory the item is held, and goes first at the next call.
     pub fn drain(&mut self) -> Result<Drained, AllocError>
         ensures drained { Drains self.old self.new result }
         ensures before { IsWritten self.old }

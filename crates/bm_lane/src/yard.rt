@@ -1,8 +1,9 @@
 //! Names for the queues and the copies of lanes.
 use std::marker::Brand;
 
-/// Names the queue and the copy of each lane, by the lane's number. It has no functions: it is picked once for all
-/// lanes, when their blanks are made, and each end's type keeps that its own are those.
+/// Names the queue and the copy of each lane, by the lane's number. It has no functions: it is
+/// picked once for all lanes, when their blanks are made, and each end's type keeps that its own
+/// are those.
 pub trait Yard {
     ghost use Rattle.std.specs.Prelude.{ℕ};
     ghost use Rattle.atomic_table.specs.Seated.{TableId};

@@ -13,7 +13,8 @@ pub record Standing : Type 0 where
   pub idle : ℕ
   pub limit : ℕ
 
--- the table: the state that follows, and what is to be done; `last` says that the limit is reached by one more idle tick
+-- the table: the state that follows, and what is to be done; `last` says that the limit is reached
+-- by one more idle tick
 abbrev pub row : LatentState → LatentEvent → Bool → LatentState × Act
 row Not Want last = (Substantiating, Start)
 row Not Attached last = (Insubstantiating, Stop)

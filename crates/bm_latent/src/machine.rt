@@ -28,7 +28,7 @@ impl Model for Latent {
 }
 
 impl Latent {
-    /// A worker without a process. It is stopped after `limit` idle ticks that no want comes between.
+    /// A worker without a process. It is stopped after `limit` idle ticks with no want between.
     pub fn new(limit: u32) -> Latent
         requires { 1 ≤ limit }
         ensures { result ≡ record { state = LatentState.Not; idle = 0; limit = limit } }
@@ -40,8 +40,9 @@ impl Latent {
         }
     }
 
-    /// Where the worker stands. What follows from an event depends on it: a process that ends is started again where
-    /// the worker is `Waiting`, and its builds are lost where it is `Substantiated` or `Held`.
+    /// Where the worker stands. What follows from an event depends on it: a process that ends is
+    /// started again where the worker is `Waiting`, and its builds are lost where it is
+    /// `Substantiated` or `Held`.
     pub fn state(&self) -> LatentState
         ensures { result ≡ self.now.state }
     {
@@ -71,7 +72,8 @@ impl Latent {
     }
 }
 
-// The table, row by row: the next state and the act. `last` says that an idle tick would be the last one allowed.
+// The table, row by row: the next state and the act. `last` says that an idle tick would be the
+// last one allowed.
 fn find_row(state: LatentState, event: LatentEvent, last: bool) -> (LatentState, Act)
     ensures { result ≡ row state event last }
 {

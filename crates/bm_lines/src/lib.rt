@@ -1,6 +1,7 @@
 //! Lines of command logs, the names of logs, and the parcels of lines that an update carries.
 //!
-//! A log of type `s` in the Buildbot manual is a list of lines, each behind a letter for the stream that it came from.
+//! A log of type `s` in the Buildbot manual is a list of lines, each behind a letter for the stream
+//! that it came from.
 #![tactic(auto)]
 
 mod block;

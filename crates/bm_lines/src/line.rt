@@ -6,7 +6,7 @@ ghost use Rattle.bm_lines.specs.Lines.{letter_code};
 use crate::text::Text;
 use std::alloc::AllocError;
 
-/// The stream that a line came from: standard output, standard error, or the header that the worker adds.
+/// The stream that a line came from: standard output, standard error, or the worker's header.
 #[derive(Clone, Copy, Debug, PartialEq, Eq)]
 pub enum Letter {
     O,

@@ -1,6 +1,6 @@
 //! The name of a log.
 
-ghost use Rattle.std.specs.Prelude.{◌≡◌, IfOk, IfSome, IfNone, bytes_eq};
+ghost use Rattle.std.specs.Prelude.{◌≡◌, ◌≢◌, IfOk, OnErr, IfSome, IfNone, bytes_eq};
 ghost use Rattle.bm_lines.specs.Names.{IsLogName, stdio};
 
 use crate::text::Text;
@@ -44,9 +44,12 @@ impl LogName {
     }
 
     /// The name, or None for a text that is no name.
+    ///
+    /// Memory is wanting for a name alone, and never for `stdio`.
     pub fn new(alloc: Global, name: &str) -> Result<Option<LogName>, AllocError>
         ensures some { IfOk result (λ n. IfSome n (λ n. (n ≡ name.now) × IsLogName name.now)) }
         ensures none { IfOk result (λ n. IfNone n (¬ IsLogName name.now)) }
+        ensures err { OnErr result (IsLogName name.now × (name.now ≢ stdio)) }
     {
         if name == STDIO {
             return Ok(Some(LogName::stdio()));

@@ -10,7 +10,8 @@ use std::collections::BTreeMap;
 /// As many names are looked through faster than a table of them is made.
 pub const FEW_NAMES: usize = 8;
 
-/// The places that names have in a list. A list may have a table beside it once a walk over its names would take long.
+/// The places that names have in a list. A list may have a table beside it once a walk over its
+/// names would take long.
 #[derive(Drop)]
 pub struct NameTable {
     /// In memory of its own, so that a list without a table stays small.

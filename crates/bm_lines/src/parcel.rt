@@ -113,8 +113,8 @@ impl Parcel {
         put(self.alloc, &mut self.parts, name, letter, text)
     }
 
-    /// Appends the lines of a text, where a table tells the places of the parts' names. The one that comes back tells those of
-    /// the new parts.
+    /// Appends the lines of a text, where a table tells the places of the parts' names. The one
+    /// that comes back tells those of the new parts.
     pub(crate) fn add_by_table(
         &mut self,
         places: NameTable,
@@ -180,8 +180,8 @@ fn push(
     parts.push(alloc, Part { name, block })
 }
 
-/// Appends the lines of a text to the part with this name, or to a new part at the end. The table that is given tells the
-/// places of the old parts, the one that comes back those of the new.
+/// Appends the lines of a text to the part with this name, or to a new part at the end. The table
+/// that is given tells the places of the old parts, the one that comes back those of the new.
 fn put_by_table(
     alloc: Global,
     parts: &mut OneOrMany<Part>,

@@ -13,8 +13,8 @@ use crate::text::Text;
 use std::alloc::{AllocError, Global};
 use std::marker::Model;
 
-/// A parcel that is put together, with a table of its names once there are more than a few. The parcel itself has none, so
-/// that it stays small where it is kept.
+/// A parcel that is put together, with a table of its names once there are more than a few. The
+/// parcel itself has none, so that it stays small where it is kept.
 #[derive(Drop)]
 pub struct ParcelBuilder {
     alloc: Global,

@@ -9,8 +9,8 @@ use Rattle.bm_lines.specs.declared.line.Letter.{Letter}
 use Rattle.bm_lines.specs.declared.line.Letter.TheVariants.{O, E, H}
 use Rattle.bm_msg.specs.declared.field.Field.{Field}
 use Rattle.bm_msg.specs.declared.field.Field.TheVariants.{Text, Named, Rc}
-use Rattle.bm_msg.specs.Meaning.{Asked, auth, print, keepalive, get_worker_info, start_command, interrupt_command, shutdown, update, complete, unknown, request, response}
-use Rattle.bm_msg.specs.Limits.{args_depth, IsShortField, AreShortFields, IsShortOption, IsShortRequest}
+use Rattle.bm_msg.specs.Meaning.{Asked, auth, print, keepalive, get_worker_info, start_command, interrupt_command, shutdown, update, complete, unknown, Meaning, request, response}
+use Rattle.bm_msg.specs.Limits.{args_depth, parts_depth, IsShortField, AreShortFields, IsShortOption, IsShortRequest, HasShortParts}
 use Rattle.bm_msg.specs.Trees.{item_of, stream_of, fault_tree, tree_of}
 
 -- ---- depth
@@ -28,7 +28,7 @@ fault_depth : (f : Option (List ℕ)) → depth (fault_tree f) ≡ 0
 fault_depth None = refl
 fault_depth (Some s) = refl
 
-pub request_nests : (n : ℕ) (a : Asked) → args_depth a ≤ 31 → depth (tree_of (request n a)) ≤ 32
+request_nests : (n : ℕ) (a : Asked) → args_depth a ≤ 31 → depth (tree_of (request n a)) ≤ 32
 request_nests n (auth u p None) h = omega arith
 request_nests n (auth u p (Some s)) h = omega arith
 request_nests n (print m) h = omega arith
@@ -41,7 +41,7 @@ request_nests n (update k fs) h = omega (arith, items_depth fs)
 request_nests n (complete k f) h = omega (arith, fault_depth f)
 request_nests n (unknown op) h = omega arith
 
-pub request_nested : (n : ℕ) (a : Asked) → depth (tree_of (request n a)) ≤ 32 → args_depth a ≤ 31
+request_nested : (n : ℕ) (a : Asked) → depth (tree_of (request n a)) ≤ 32 → args_depth a ≤ 31
 request_nested n (start_command k name args) h = omega arith
 request_nested n (auth u p s) h = omega arith
 request_nested n (print m) h = omega arith
@@ -53,13 +53,15 @@ request_nested n (update k fs) h = omega arith
 request_nested n (complete k f) h = omega arith
 request_nested n (unknown op) h = omega arith
 
-pub response_nests : (n : ℕ) (t : Tree) (x : Bool) → depth t ≤ 31 → depth (tree_of (response n t x)) ≤ 32
-response_nests n t true h = omega arith
-response_nests n t false h = omega arith
+pub nests : (m : Meaning) → parts_depth m ≤ 31 → depth (tree_of m) ≤ 32
+nests (request n a) h = request_nests n a h
+nests (response n t true) h = omega arith
+nests (response n t false) h = omega arith
 
-pub response_nested : (n : ℕ) (t : Tree) (x : Bool) → depth (tree_of (response n t x)) ≤ 32 → depth t ≤ 31
-response_nested n t true h = omega arith
-response_nested n t false h = omega arith
+pub nested : (m : Meaning) → depth (tree_of m) ≤ 32 → parts_depth m ≤ 31
+nested (request n a) h = request_nested n a h
+nested (response n t true) h = omega arith
+nested (response n t false) h = omega arith
 
 -- ---- lengths
 
@@ -127,7 +129,7 @@ request_short n (update k fs) h =
 request_short n (complete k f) h = (lit< tt, (lit< tt, tt, (lit< tt, lit< tt, (lit< tt, decimal_short k, (lit< tt, fault_short f h, tt)))))
 request_short n (unknown op) h = (lit< tt, (lit< tt, tt, (lit< tt, h, tt)))
 
-pub short_request : (n : ℕ) (a : Asked) → IsShort (tree_of (request n a)) → IsShortRequest a
+short_request : (n : ℕ) (a : Asked) → IsShort (tree_of (request n a)) → IsShortRequest a
 short_request n (auth u p None) h = (h.1.2.2.1, h.1.2.2.2.1, tt)
 short_request n (auth u p (Some s)) h = (h.1.2.2.1, h.1.2.2.2.1, h.1.2.2.2.2.1)
 short_request n (print m) h = h.1.2.2.1
@@ -142,10 +144,12 @@ short_request n (update k fs) h =
 short_request n (complete k f) h = short_fault f h.1.2.2.2.1
 short_request n (unknown op) h = h.1.2.1
 
-pub response_short : (n : ℕ) (t : Tree) (x : Bool) → IsShort t → IsShort (tree_of (response n t x))
-response_short n t true h = (lit< tt, (lit< tt, tt, (lit< tt, lit< tt, (lit< tt, h, (lit< tt, tt, tt)))))
-response_short n t false h = (lit< tt, (lit< tt, tt, (lit< tt, lit< tt, (lit< tt, h, tt))))
+pub short : (m : Meaning) → HasShortParts m → IsShort (tree_of m)
+short (request n a) h = request_short n a h
+short (response n t true) h = (lit< tt, (lit< tt, tt, (lit< tt, lit< tt, (lit< tt, h, (lit< tt, tt, tt)))))
+short (response n t false) h = (lit< tt, (lit< tt, tt, (lit< tt, lit< tt, (lit< tt, h, tt))))
 
-pub short_response : (n : ℕ) (t : Tree) (x : Bool) → IsShort (tree_of (response n t x)) → IsShort t
-short_response n t true h = h.1.2.2.1
-short_response n t false h = h.1.2.2.1
+pub short_parts : (m : Meaning) → IsShort (tree_of m) → HasShortParts m
+short_parts (request n a) h = short_request n a h
+short_parts (response n t true) h = h.1.2.2.1
+short_parts (response n t false) h = h.1.2.2.1

@@ -7,6 +7,8 @@ use Rattle.bm_msg.specs.declared.request.Request.{Request}
 use Rattle.bm_msg.specs.declared.request.Request.TheVariants.{Auth, Print, Keepalive, GetWorkerInfo, StartCommand, InterruptCommand, Shutdown, Update, Complete, Unknown}
 use Rattle.bm_msg.specs.declared.message.Message.{Message}
 use Rattle.bm_msg.specs.declared.message.Message.TheVariants as message
+use Rattle.bm_msg.specs.declared.message.Numbered.{Numbered}
+use Rattle.bm_msg.specs.declared.message.Response.{Response}
 
 -- what a request asks
 pub data Asked : Type 0 where
@@ -39,6 +41,12 @@ asked (Update command fields) = update command fields
 asked (Complete command fault) = complete command fault
 asked (Unknown op) = unknown op
 
+abbrev pub request_of : Numbered → Meaning
+request_of n = request n.seq (asked n.request)
+
+abbrev pub response_of : Response → Meaning
+response_of r = response r.seq (tree r.result) r.exception
+
 abbrev pub meaning : Message → Meaning
-meaning (message.Request n) = request n.seq (asked n.request)
-meaning (message.Response r) = response r.seq (tree r.result) r.exception
+meaning (message.Request n) = request_of n
+meaning (message.Response r) = response_of r

@@ -2,13 +2,12 @@
 
 ghost use Rattle.std.specs.Prelude.{◌≡◌, ◌<◌, ◌≤◌, ◌^◌, ◌↔◌, IsTrue, length, drop};
 ghost use Rattle.bm_value.specs.Tree.{depth};
-ghost use Rattle.bm_value.specs.View.{tree};
 ghost use Rattle.bm_value.specs.Limits.{IsShort};
 ghost use Rattle.bm_msg.specs.Meaning.{asked};
-ghost use Rattle.bm_msg.specs.Limits.{args_depth, IsShortField, AreShortFields, IsShortOption, IsShortRequest, request_tree, response_tree};
+ghost use Rattle.bm_msg.specs.Limits.{args_depth, parts_depth, IsShortField, AreShortFields, IsShortOption, IsShortRequest, HasShortParts, outgoing, outgoing_tree};
 
 use crate::field::{Field, Fields};
-use crate::message::{Numbered, Response};
+use crate::message::Outgoing;
 use crate::request::Request;
 use bm_lines::Text;
 use bm_value::{is_short, nests_within};
@@ -83,30 +82,35 @@ fn request_is_short(request: &Request) -> bool
     }
 }
 
-/// Whether the request's tree nests no deeper than 32.
-pub fn request_nests(message: &Numbered) -> bool
-    ensures { IsTrue result ↔ (depth (request_tree message.now) ≤ 32) }
+/// Whether the parts of a message nest no deeper than a map with them may.
+fn parts_nest(message: Outgoing) -> bool
+    ensures { IsTrue result ↔ (parts_depth (outgoing message.entry) ≤ 31) }
 {
-    args_nest(&message.request)
+    match message {
+        Outgoing::Request(message) => args_nest(&message.request),
+        Outgoing::Response(message) => nests_within(&message.result, 31),
+    }
 }
 
-/// Whether no part of the request's tree is longer than 2^32-1.
-pub fn is_short_request(message: &Numbered) -> bool
-    ensures { IsTrue result ↔ IsShort (request_tree message.now) }
+fn parts_are_short(message: Outgoing) -> bool
+    ensures { IsTrue result ↔ HasShortParts (outgoing message.entry) }
 {
-    request_is_short(&message.request)
+    match message {
+        Outgoing::Request(message) => request_is_short(&message.request),
+        Outgoing::Response(message) => is_short(&message.result),
+    }
 }
 
-/// Whether the response's tree nests no deeper than 32.
-pub fn response_nests(message: &Response) -> bool
-    ensures { IsTrue result ↔ (depth (response_tree message.now) ≤ 32) }
+/// Whether the message's tree nests no deeper than 32.
+pub fn message_nests(message: Outgoing) -> bool
+    ensures { IsTrue result ↔ (depth (outgoing_tree message.entry) ≤ 32) }
 {
-    nests_within(&message.result, 31)
+    parts_nest(message)
 }
 
-/// Whether no part of the response's tree is longer than 2^32-1.
-pub fn is_short_response(message: &Response) -> bool
-    ensures { IsTrue result ↔ IsShort (response_tree message.now) }
+/// Whether no part of the message's tree is longer than 2^32-1.
+pub fn is_short_message(message: Outgoing) -> bool
+    ensures { IsTrue result ↔ IsShort (outgoing_tree message.entry) }
 {
-    is_short(&message.result)
+    parts_are_short(message)
 }

@@ -30,6 +30,13 @@ pub struct Response {
     pub ghost in_range: { seq < 2 ^ 63 },
 }
 
+/// A message that is to be written, where its owner has it.
+#[derive(Clone, Copy)]
+pub enum Outgoing<'a> {
+    Request(&'a Numbered),
+    Response(&'a Response),
+}
+
 impl Numbered {
     ghost use Rattle.std.specs.Prelude.{◌≡◌, IfOk};
     ghost use Rattle.bm_msg.specs.Meaning.{asked};

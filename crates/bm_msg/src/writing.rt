@@ -7,13 +7,13 @@ ghost use Rattle.bm_value.specs.Limits.{IsShort};
 ghost use Rattle.bm_value.specs.Tree.{depth, str, int, array, dict};
 ghost use Rattle.bm_value.specs.View.{tree, trees_of, pairs_of, pair_tree};
 ghost use Rattle.bm_value.specs.Writing.{written};
-ghost use Rattle.bm_msg.specs.Meaning.{asked, auth, start_command, request, response};
+ghost use Rattle.bm_msg.specs.Meaning.{asked, auth, start_command, response, request_of, response_of};
 ghost use Rattle.bm_msg.specs.Trees.{at, two, item_of, stream_of, op_of, session_key, fault_tree, command_key, keys_of, exception_key, tree_of, answer, answer_bytes};
-ghost use Rattle.bm_msg.specs.Limits.{request_tree, response_tree};
+ghost use Rattle.bm_msg.specs.Limits.{outgoing_tree};
 
 use crate::field::{Field, Fields};
-use crate::limits::{is_short_request, is_short_response, request_nests, response_nests};
-use crate::message::{Numbered, Response};
+use crate::limits::{is_short_message, message_nests};
+use crate::message::{Numbered, Outgoing, Response};
 use crate::request::Request;
 use bm_lines::{Letter, Text};
 use bm_value::{EncodeError, Items, Num, Pair, Pairs, Text as Str, Value, encode};
@@ -189,8 +189,8 @@ fn start_keys(
     name: &Text,
     args: &Value<Global>,
 ) -> Result<(), AllocError>
-    ensures { OnOk result (map pair_tree keys.new.items
-        ≡ map pair_tree keys.old.items ++ keys_of (start_command command name.now (tree args.now))) }
+    ensures { OnOk result (map pair_tree keys.new.items ≡ map pair_tree keys.old.items
+        ++ keys_of (start_command command name.now (tree args.now))) }
 {
     command_key(alloc, keys, command)?;
     text_key(alloc, keys, "command_name", name)?;
@@ -254,9 +254,10 @@ fn written_map(alloc: Global, keys: Vec<Pair<Global>>) -> Result<Vec<u8>, AllocE
     }
 }
 
-fn request_keys(alloc: Global, message: &Numbered) -> Result<Vec<Pair<Global>>, AllocError>
+/// The pairs of a request, in order.
+fn request_pairs(alloc: Global, message: &Numbered) -> Result<Vec<Pair<Global>>, AllocError>
     ensures { IfOk result (λ v. dict (pairs_of (map pair_tree v.items))
-        ≡ request_tree message.now) }
+        ≡ tree_of (request_of message.now)) }
 {
     let mut keys = first_keys(alloc, message.seq, op_of(&message.request))?;
     put_keys(alloc, &mut keys, &message.request)?;
@@ -277,62 +278,47 @@ fn put_exception(
     Ok(())
 }
 
-/// The keys of the response to request `seq`.
-fn result_keys(
-    alloc: Global,
-    seq: u64,
-    answered: Value<Global>,
-    exception: bool,
-) -> Result<Vec<Pair<Global>>, AllocError>
+/// The pairs of a response, in order.
+fn response_pairs(alloc: Global, message: &Response) -> Result<Vec<Pair<Global>>, AllocError>
     ensures { IfOk result (λ v. dict (pairs_of (map pair_tree v.items))
-        ≡ tree_of (response seq (tree answered) exception)) }
+        ≡ tree_of (response_of message.now)) }
 {
-    let mut keys = first_keys(alloc, seq, "response")?;
+    let mut keys = first_keys(alloc, message.seq, "response")?;
+    let answered = message.result.copy_into(alloc)?;
     put(alloc, &mut keys, "result", answered)?;
-    put_exception(alloc, &mut keys, exception)?;
+    put_exception(alloc, &mut keys, message.exception)?;
     Ok(keys)
 }
 
-fn response_keys(alloc: Global, message: &Response) -> Result<Vec<Pair<Global>>, AllocError>
+#[tactic(auto, unfolding(crate::specs::Limits::outgoing_tree))]
+fn message_pairs(alloc: Global, message: Outgoing) -> Result<Vec<Pair<Global>>, AllocError>
     ensures { IfOk result (λ v. dict (pairs_of (map pair_tree v.items))
-        ≡ response_tree message.now) }
+        ≡ outgoing_tree message.entry) }
 {
-    let result = message.result.copy_into(alloc)?;
-    result_keys(alloc, message.seq, result, message.exception)
+    match message {
+        Outgoing::Request(message) => request_pairs(alloc, message),
+        Outgoing::Response(message) => response_pairs(alloc, message),
+    }
 }
 
-fn request_written(alloc: Global, message: &Numbered) -> Result<Vec<u8>, EncodeError>
-    ensures ok { IfOk result (λ v. v.items ≡ written (request_tree message.now)) }
-    ensures back { IfOk result (λ v. IsReadBack (request_tree message.now)) }
-    ensures deep { IsErrOf result EncodeError.TooDeep ↔ (32 < depth (request_tree message.now)) }
+/// The written form of a message: a map of its pairs. What can't be written is told before memory
+/// is taken.
+fn write_message(alloc: Global, message: Outgoing) -> Result<Vec<u8>, EncodeError>
+    ensures ok { IfOk result (λ v. v.items ≡ written (outgoing_tree message.entry)) }
+    ensures back { IfOk result (λ v. IsReadBack (outgoing_tree message.entry)) }
+    ensures deep { IsErrOf result EncodeError.TooDeep
+        ↔ (32 < depth (outgoing_tree message.entry)) }
     ensures long { IsErrOf result EncodeError.TooLong
-        ↔ ((depth (request_tree message.now) ≤ 32) × ¬ IsShort (request_tree message.now)) }
+        ↔ ((depth (outgoing_tree message.entry) ≤ 32) × ¬ IsShort (outgoing_tree message.entry)) }
 {
-    if !request_nests(message) {
+    if !message_nests(message) {
         return Err(EncodeError::TooDeep);
     }
-    if !is_short_request(message) {
+    if !is_short_message(message) {
         return Err(EncodeError::TooLong);
     }
-    let keys = request_keys(alloc, message)?;
-    Ok(written_map(alloc, keys)?)
-}
-
-fn response_written(alloc: Global, message: &Response) -> Result<Vec<u8>, EncodeError>
-    ensures ok { IfOk result (λ v. v.items ≡ written (response_tree message.now)) }
-    ensures back { IfOk result (λ v. IsReadBack (response_tree message.now)) }
-    ensures deep { IsErrOf result EncodeError.TooDeep ↔ (32 < depth (response_tree message.now)) }
-    ensures long { IsErrOf result EncodeError.TooLong
-        ↔ ((depth (response_tree message.now) ≤ 32) × ¬ IsShort (response_tree message.now)) }
-{
-    if !response_nests(message) {
-        return Err(EncodeError::TooDeep);
-    }
-    if !is_short_response(message) {
-        return Err(EncodeError::TooLong);
-    }
-    let keys = response_keys(alloc, message)?;
-    Ok(written_map(alloc, keys)?)
+    let pairs = message_pairs(alloc, message)?;
+    Ok(written_map(alloc, pairs)?)
 }
 
 /// The written form of a request: the number, the operation and its keys in the order of the
@@ -344,17 +330,15 @@ fn response_written(alloc: Global, message: &Response) -> Result<Vec<u8>, Encode
 /// `TooDeep` where the args of a `start_command` nest deeper than 31; `TooLong` where a part is
 /// longer than 2^32-1; `Mem` where memory ran out.
 pub fn write_request(alloc: Global, message: &Numbered) -> Result<Vec<u8>, EncodeError>
-    ensures ok { IfOk result (λ v. v.items
-        ≡ written (tree_of (request message.now.seq (asked message.now.request)))) }
-    ensures back { IfOk result (λ v.
-        IsReadBack (tree_of (request message.now.seq (asked message.now.request)))) }
+    ensures ok { IfOk result (λ v. v.items ≡ written (tree_of (request_of message.now))) }
+    ensures back { IfOk result (λ v. IsReadBack (tree_of (request_of message.now))) }
     ensures deep { IsErrOf result EncodeError.TooDeep
-        ↔ (32 < depth (tree_of (request message.now.seq (asked message.now.request)))) }
+        ↔ (32 < depth (tree_of (request_of message.now))) }
     ensures long { IsErrOf result EncodeError.TooLong
-        ↔ ((depth (tree_of (request message.now.seq (asked message.now.request))) ≤ 32)
-        × ¬ IsShort (tree_of (request message.now.seq (asked message.now.request)))) }
+        ↔ ((depth (tree_of (request_of message.now)) ≤ 32)
+        × ¬ IsShort (tree_of (request_of message.now))) }
 {
-    request_written(alloc, message)
+    write_message(alloc, Outgoing::Request(message))
 }
 
 /// The written form of a response, which is read back, whatever follows it. `is_exception` stands
@@ -365,20 +349,15 @@ pub fn write_request(alloc: Global, message: &Numbered) -> Result<Vec<u8>, Encod
 /// `TooDeep` where the result nests deeper than 31; `TooLong` where a part of it is longer than
 /// 2^32-1; `Mem` where memory ran out.
 pub fn write_response(alloc: Global, message: &Response) -> Result<Vec<u8>, EncodeError>
-    ensures ok { IfOk result (λ v. v.items ≡ written (tree_of
-        (response message.now.seq (tree message.now.result) message.now.exception))) }
-    ensures back { IfOk result (λ v. IsReadBack (tree_of
-        (response message.now.seq (tree message.now.result) message.now.exception))) }
+    ensures ok { IfOk result (λ v. v.items ≡ written (tree_of (response_of message.now))) }
+    ensures back { IfOk result (λ v. IsReadBack (tree_of (response_of message.now))) }
     ensures deep { IsErrOf result EncodeError.TooDeep
-        ↔ (32 < depth (tree_of
-        (response message.now.seq (tree message.now.result) message.now.exception))) }
+        ↔ (32 < depth (tree_of (response_of message.now))) }
     ensures long { IsErrOf result EncodeError.TooLong
-        ↔ ((depth (tree_of
-        (response message.now.seq (tree message.now.result) message.now.exception)) ≤ 32)
-        × ¬ IsShort (tree_of
-        (response message.now.seq (tree message.now.result) message.now.exception))) }
+        ↔ ((depth (tree_of (response_of message.now)) ≤ 32)
+        × ¬ IsShort (tree_of (response_of message.now))) }
 {
-    response_written(alloc, message)
+    write_message(alloc, Outgoing::Response(message))
 }
 
 /// The written form of the response to request `seq` with this result.
@@ -388,13 +367,24 @@ fn result_bytes(
     answered: Value<Global>,
     exception: bool,
 ) -> Result<Vec<u8>, AllocError>
+    requires number { seq < 2 ^ 63 }
     requires nests { depth (tree_of (response seq (tree answered) exception)) ≤ 32 }
     requires short { IsShort (tree_of (response seq (tree answered) exception)) }
-    ensures ok { IfOk result (λ v. v.items ≡ written (tree_of (response seq (tree answered) exception))) }
-    ensures back { IfOk result (λ v. IsReadBack (tree_of (response seq (tree answered) exception))) }
+    ensures ok { IfOk result (λ v. v.items
+        ≡ written (tree_of (response seq (tree answered) exception))) }
+    ensures back { IfOk result (λ v.
+        IsReadBack (tree_of (response seq (tree answered) exception))) }
 {
-    let keys = result_keys(alloc, seq, answered, exception)?;
-    written_map(alloc, keys)
+    let response = Response {
+        seq,
+        result: answered,
+        exception,
+    };
+    match write_response(alloc, &response) {
+        Ok(bytes) => Ok(bytes),
+        Err(EncodeError::Mem) => Err(AllocError),
+        Err(EncodeError::TooDeep | EncodeError::TooLong) => unreachable!("flat and short"),
+    }
 }
 
 /// The written form of the response to request `seq` that is nil, or the exception with this text.

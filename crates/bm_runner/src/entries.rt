@@ -39,8 +39,8 @@ impl Entries {
         self.vec.as_slice()
     }
 
-    /// Makes room for one entry more, so that the next `begin` succeeds: called before a command is started, it leaves no
-    /// command that runs and has no entry. Want of memory changes nothing.
+    /// Makes room for one entry more, so that the next `begin` succeeds: called before a command is
+    /// started, it leaves no command that runs and has no entry. Want of memory changes nothing.
     pub fn reserve(&mut self) -> Result<(), AllocError>
         ensures told { self.new.told ≡ self.old.told }
         ensures room { OnOk result (0 < self.new.room) }
@@ -51,7 +51,7 @@ impl Entries {
         self.vec.reserve(1)
     }
 
-    /// A command was started. Want of memory, which comes only where there is no room, changes nothing.
+    /// A command was started. Want of memory, which comes only without room, changes nothing.
     pub fn begin(&mut self, k: u64) -> Result<(), AllocError>
         ensures ok { OnOk result (self.new.told ≡ self.old.told ++ first_entry k ∷ []) }
         ensures room { OnOk result (self.old.room ≤ self.new.room + 1) }

@@ -1,4 +1,4 @@
-//! The runner of a build's steps, one after the other, over a port to whatever carries out commands.
+//! The runner of a build's steps, one after the other, over a port to what carries out commands.
 #![tactic(auto)]
 
 mod entries;

@@ -37,7 +37,7 @@ pub trait Port {
     /// A start was refused.
     ghost refused: { Self → Bool };
 
-    /// Starts the step's command, and tells its number; None where it can't, for want of memory too.
+    /// Starts the step's command, and tells its number. None where it can't, or without memory.
     fn start(&mut self, step: &StepPlan) -> Option<u64>
         ensures started { IfSome result (λ k. told self.new ≡ told self.old ++ first_entry k ∷ []) }
         ensures stands { IfSome result (λ k. refused self.new ≡ refused self.old) }

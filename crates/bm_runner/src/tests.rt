@@ -7,9 +7,10 @@ use bm_board::{Build, LockUses, StepPlan, StepPlans, Words};
 use bm_lines::Text;
 use bm_session::Results;
 use std::alloc::{AllocError, Global};
+use std::process::Abort;
 use std::test::Fail;
 
-// What a scripted port does next.
+/// What a scripted port does next.
 #[derive(Clone, Copy, Debug)]
 enum Line {
     Refuse,
@@ -30,20 +31,21 @@ const RETRY: Line = Line::Say(Polled::Ended(Results::Retry));
 
 const CANCELLED: Line = Line::Say(Polled::Ended(Results::Cancelled));
 
-// A port over memory. It goes down its script, and says `Running` at its end.
+/// A port over memory. It goes down its script, and says `Running` at its end.
 #[derive(Debug, Drop)]
 struct Scripted {
     entries: Entries,
     refused: bool,
     script: [Line; 4],
     place: usize,
-    // The first letters of the steps that it was to start.
+    /// The first letters of the steps that it was to start.
     letters: Vec<u8>,
     interrupts: u64,
 }
 
 impl Scripted {
-    // Whether there is room for one entry more. Where one request for memory is refused, the second try succeeds.
+    /// Whether there is room for one entry more. Where one request for memory is refused, the second
+    /// try succeeds.
     fn has_room(&mut self) -> bool
         ensures told { self.new.entries.told ≡ self.old.entries.told }
         ensures refused { self.new.refused ≡ self.old.refused }
@@ -111,7 +113,7 @@ fn make_step(
     })
 }
 
-// A build whose first step halts it where it fails, and whose third step always runs.
+/// A build whose first step halts it where it fails, and whose third step always runs.
 fn make_build(alloc: Global, count: usize) -> Result<Build, AllocError> {
     let mut steps = Vec::with_capacity(alloc, 3)?;
     for (place, (name, halts, always)) in [
@@ -155,8 +157,8 @@ fn make_port(alloc: Global, script: [Line; 4]) -> Result<Scripted, AllocError>
     }
 }
 
-// Runs the first steps of the build over the script. Where a request for memory is refused, the port is as it was, and
-// all is tried once more.
+/// Runs the first steps of the build over the script. Where a request for memory is refused, the
+/// port is as it was, and all is tried once more.
 fn run(
     alloc: Global,
     count: usize,
@@ -175,88 +177,172 @@ fn run(
     Ok((report, port))
 }
 
+/// What a run leaves: its outcomes and its result, the first letters of the steps that were to be
+/// started, how often each command was polled, the interrupts, and whether a start was refused.
+struct Left {
+    outcomes: &'static [Results],
+    result: Results,
+    letters: &'static [u8],
+    polls: &'static [u64],
+    interrupts: u64,
+    refused: bool,
+}
+
+/// How many steps the build has, the script of its port, the turns, and what the run leaves.
+type Row = (usize, [Line; 4], u64, Left);
+
+fn is_report(report: &Report, outcomes: &[Results], whole: Results) -> bool {
+    report.outcomes.as_slice() == outcomes && report.result == whole
+}
+
+fn were_polled(entries: &[Told], polls: &[u64]) -> bool {
+    entries.len() == polls.len() && entries.iter().zip(polls).all(|(a, b)| a.polls == *b)
+}
+
+impl Left {
+    /// Whether the port was left so.
+    fn is_in(&self, port: &Scripted) -> bool {
+        port.letters.as_slice() == self.letters
+            && were_polled(port.entries.as_slice(), self.polls)
+            && port.interrupts == self.interrupts
+            && port.refused == self.refused
+    }
+}
+
+/// Each row's run leaves what the row says; rows count from 0.
+fn leave(rt: &(impl AllocGlobal + Abort), rows: &[Row]) -> Result<(), Fail> {
+    for (n, (count, script, turns, left)) in rows.iter().enumerate() {
+        let (report, port) = run(rt.alloc(), *count, *script, *turns)?;
+        let is_right = is_report(&report, left.outcomes, left.result) && left.is_in(&port);
+        assert!(rt; is_right, "row {n}");
+    }
+    Ok(())
+}
+
 #[test]
 fn outcomes_are_those_of_the_port(rt: HostRuntime) -> Result<(), Fail> {
-    for (count, script, outcomes, result, letters) in [
+    static ROWS: [Row; 3] = [
         (
             3,
             [FAILURE, SUCCESS, RUNNING, RUNNING],
-            [Results::Failure, Results::Skipped, Results::Success].as_slice(),
-            Results::Failure,
-            b"ha".as_slice(),
+            9,
+            Left {
+                outcomes: &[Results::Failure, Results::Skipped, Results::Success],
+                result: Results::Failure,
+                letters: b"ha",
+                polls: &[1, 1],
+                interrupts: 0,
+                refused: false,
+            },
         ),
         (
             3,
             [RETRY, RUNNING, RUNNING, RUNNING],
-            [Results::Retry, Results::Skipped, Results::Skipped].as_slice(),
-            Results::Retry,
-            b"h".as_slice(),
+            9,
+            Left {
+                outcomes: &[Results::Retry, Results::Skipped, Results::Skipped],
+                result: Results::Retry,
+                letters: b"h",
+                polls: &[1],
+                interrupts: 0,
+                refused: false,
+            },
         ),
         (
             0,
             [RUNNING; 4],
-            [].as_slice(),
-            Results::Success,
-            b"".as_slice(),
+            9,
+            Left {
+                outcomes: &[],
+                result: Results::Success,
+                letters: b"",
+                polls: &[],
+                interrupts: 0,
+                refused: false,
+            },
         ),
-    ] {
-        let (report, port) = run(rt.alloc(), count, script, 9)?;
-        assert_eq!(rt; report.outcomes.as_slice(), outcomes);
-        assert_eq!(rt; report.result, result);
-        assert_eq!(rt; port.letters.as_slice(), letters);
-        assert_eq!(rt; port.entries.as_slice().len(), letters.len());
-        assert_eq!(rt; port.interrupts, 0);
-        assert!(rt; !port.refused);
-    }
-    Ok(())
+    ];
+    leave(&rt, &ROWS)
 }
 
 #[test]
 fn one_step_ends_by_what_its_port_says(rt: HostRuntime) -> Result<(), Fail> {
-    for (script, turns, outcome, polls, interrupts) in [
+    static ROWS: [Row; 3] = [
         (
+            1,
             [CANCEL, CANCEL, CANCELLED, RUNNING],
             9,
-            Results::Cancelled,
-            3,
-            1,
+            Left {
+                outcomes: &[Results::Cancelled],
+                result: Results::Cancelled,
+                letters: b"h",
+                polls: &[3],
+                interrupts: 1,
+                refused: false,
+            },
         ),
-        ([RUNNING; 4], 3, Results::Exception, 3, 1),
         (
+            1,
+            [RUNNING; 4],
+            3,
+            Left {
+                outcomes: &[Results::Exception],
+                result: Results::Exception,
+                letters: b"h",
+                polls: &[3],
+                interrupts: 1,
+                refused: false,
+            },
+        ),
+        (
+            1,
             [SKIPPED, RUNNING, RUNNING, RUNNING],
             9,
-            Results::Exception,
-            1,
-            0,
+            Left {
+                outcomes: &[Results::Exception],
+                result: Results::Exception,
+                letters: b"h",
+                polls: &[1],
+                interrupts: 0,
+                refused: false,
+            },
         ),
-    ] {
-        let (report, port) = run(rt.alloc(), 1, script, turns)?;
-        assert_eq!(rt; report.outcomes.as_slice(), [outcome].as_slice());
-        assert_eq!(rt; report.result, outcome);
-        assert_eq!(rt; port.entries.as_slice().len(), 1);
-        assert_eq!(rt; port.entries.as_slice()[0].polls, polls);
-        assert_eq!(rt; port.interrupts, interrupts);
-        assert!(rt; !port.refused);
-    }
-    Ok(())
+    ];
+    leave(&rt, &ROWS)
 }
 
+/// In the second row the worker is lost between two steps.
 #[test]
 fn refused_start_is_retried_by_no_later_step(rt: HostRuntime) -> Result<(), Fail> {
-    let refuse = Line::Refuse;
-    let (report, port) = run(rt.alloc(), 1, [refuse; 4], 9)?;
-    assert_eq!(rt; report.outcomes.as_slice(), [Results::Retry].as_slice());
-    assert_eq!(rt; report.result, Results::Retry);
-    assert_eq!(rt; port.entries.as_slice().len(), 0);
-    assert!(rt; port.refused);
-    // The worker is lost between two steps.
-    let (report, port) = run(rt.alloc(), 3, [SUCCESS, refuse, refuse, refuse], 9)?;
-    let outcomes = [Results::Success, Results::Retry, Results::Skipped];
-    assert_eq!(rt; report.outcomes.as_slice(), outcomes.as_slice());
-    assert_eq!(rt; report.result, Results::Retry);
-    assert_eq!(rt; port.entries.as_slice().len(), 1);
-    assert!(rt; port.refused);
-    Ok(())
+    static ROWS: [Row; 2] = [
+        (
+            1,
+            [Line::Refuse; 4],
+            9,
+            Left {
+                outcomes: &[Results::Retry],
+                result: Results::Retry,
+                letters: b"h",
+                polls: &[],
+                interrupts: 0,
+                refused: true,
+            },
+        ),
+        (
+            3,
+            [SUCCESS, Line::Refuse, Line::Refuse, Line::Refuse],
+            9,
+            Left {
+                outcomes: &[Results::Success, Results::Retry, Results::Skipped],
+                result: Results::Retry,
+                letters: b"hp",
+                polls: &[1],
+                interrupts: 0,
+                refused: true,
+            },
+        ),
+    ];
+    leave(&rt, &ROWS)
 }
 
 #[test]
@@ -266,8 +352,7 @@ fn report_is_copied_whole(rt: HostRuntime) -> Result<(), Fail> {
         Err(_) => report.copy()?,
         Ok(copy) => copy,
     };
-    assert_eq!(rt; copy.outcomes.as_slice(), [Results::Failure].as_slice());
-    assert_eq!(rt; copy.result, Results::Failure);
+    assert!(rt; is_report(&copy, &[Results::Failure], Results::Failure));
     Ok(())
 }
 

@@ -200,64 +200,67 @@ fn withdrawn_event_comes_back(rt: HostRuntime) -> Result<(), AllocError> {
     Ok(())
 }
 
-/// The parcel of a copy of the event, where that is update 3 of command 0.
-fn copied_update(event: &Event) -> Result<Option<Parcel>, AllocError> {
-    match event.copy()? {
-        Event::In(
-            3,
-            Body::Update {
-                command: 0,
-                parcel,
-                rc: None,
-            },
-        ) => Ok(Some(parcel)),
-        _ => Ok(None),
-    }
-}
-
-/// The item of a copy of what a run did, where the reply is silent.
-fn copied_ran(ran: &Ran) -> Result<Option<Item>, AllocError> {
-    match ran.copy()? {
-        Ran::Done(Reply::Silent, item) => Ok(item),
-        _ => Ok(None),
-    }
-}
-
-/// The parcel of a copy of the item, where that has lines of command 0.
-fn copied_item(item: &Item) -> Result<Option<Parcel>, AllocError> {
-    match item.copy()? {
-        Item::Lines(0, parcel) => Ok(Some(parcel)),
-        _ => Ok(None),
-    }
-}
-
-/// The parcel of an update after copies of its event, of what a run did with it, and of the item.
-fn copies(alloc: Global) -> Result<Option<Parcel>, AllocError> {
-    let event = event(alloc, Script::In(3, Ask::Named("l", "x\ny\n")))?;
-    let Some(parcel) = copied_update(&event)? else {
-        return Ok(None);
+/// Whether the parcel has these lines under the name `l`.
+fn are_lines(alloc: Global, parcel: &Parcel, lines: &str) -> bool {
+    let Some(block) = parcel.of("l") else {
+        return false;
     };
-    let ran = Ran::Done(Reply::Silent, Some(Item::Lines(0, parcel.copy()?)));
-    match copied_ran(&ran)? {
-        Some(item) => copied_item(&item),
-        None => Ok(None),
+    match content(alloc, block.lines()) {
+        Ok(text) => text.as_str() == lines,
+        Err(_) => false,
     }
 }
 
-/// Whether the parcel after the copies has the lines of the update.
-fn are_copied(alloc: Global) -> Result<bool, AllocError> {
-    let Some(parcel) = copies(alloc)? else {
-        return Ok(false);
-    };
-    match parcel.of("l") {
-        Some(block) => Ok(content(alloc, block.lines())?.as_str() == "ox\noy\n"),
-        None => Ok(false),
+/// Whether a copy of the item has these lines of command 0.
+fn is_copied_item(alloc: Global, item: &Item, lines: &str) -> bool {
+    match item.copy() {
+        Ok(Item::Lines(0, parcel)) => are_lines(alloc, &parcel, lines),
+        _ => false,
+    }
+}
+
+/// Whether a copy of what a run did is a silent reply and an item with these lines of command 0.
+fn is_copied_ran(alloc: Global, ran: &Ran, lines: &str) -> bool {
+    match ran.copy() {
+        Ok(Ran::Done(Reply::Silent, Some(item))) => is_copied_item(alloc, &item, lines),
+        _ => false,
+    }
+}
+
+/// Whether a parcel has these lines after copies of what a run did with it, and of the item.
+fn is_copied_parcel(alloc: Global, parcel: Parcel, lines: &str) -> bool {
+    let ran = Ran::Done(Reply::Silent, Some(Item::Lines(0, parcel)));
+    is_copied_ran(alloc, &ran, lines)
+}
+
+/// Whether a copy of the event is update 3 of command 0 with these lines, also after copies of what comes of it.
+fn is_copied_event(alloc: Global, event: &Event, lines: &str) -> bool {
+    match event.copy() {
+        Ok(
+            Event::In(
+                3,
+                Body::Update {
+                    command: 0,
+                    parcel,
+                    rc: None,
+                },
+            ),
+        ) => is_copied_parcel(alloc, parcel, lines),
+        _ => false,
+    }
+}
+
+/// Whether the lines of an update come through all copies.
+fn are_copied(alloc: Global) -> bool {
+    match event(alloc, Script::In(3, Ask::Named("l", "x\ny\n"))) {
+        Ok(event) => is_copied_event(alloc, &event, "ox\noy\n"),
+        Err(_) => false,
     }
 }
 
 #[test]
-fn copies_are_equal(rt: HostRuntime) -> Result<(), AllocError> {
+fn copies_are_equal(rt: HostRuntime) {
     let alloc = rt.alloc();
-    assert!(rt; again(|| are_copied(alloc))?);
-    Ok(())
+    // Once more, where memory was wanting.
+    assert!(rt; are_copied(alloc) || are_copied(alloc));
 }

@@ -72,8 +72,8 @@ impl Book {
         }
     }
 
-    /// Takes an item. One that doesn't count changes nothing: an `Open` whose number isn't that of the next command,
-    /// `Lines` and an `End` of a command that isn't open.
+    /// Takes an item. One that doesn't count changes nothing: an `Open` whose number isn't that of
+    /// the next command, `Lines` and an `End` of a command that isn't open.
     ///
     /// Out of memory, nothing has changed.
     pub fn apply(&mut self, item: &Item) -> Result<(), AllocError>
@@ -102,7 +102,8 @@ impl Book {
         self.commands.len() as u64
     }
 
-    /// How many lines the logs `stdio` of all commands have together, those that have ended too; 2^64-1 where they have more.
+    /// How many lines the logs `stdio` of all commands have together, those that have ended too;
+    /// 2^64-1 where they have more.
     pub fn stdio_lines(&self) -> u64
         ensures { result ≡ stdio_lines_in (logs_in self.now) }
     {
@@ -120,8 +121,8 @@ impl Book {
         self.commands.as_slice().get(k as usize)
     }
 
-    /// The blocks of a log with their places, or None where the log isn't there: `stdio` is there from the start of its
-    /// command, another one from its first block.
+    /// The blocks of a log with their places, or None where the log isn't there: `stdio` is there
+    /// from the start of its command, another one from its first block.
     pub fn blocks(&self, k: u64, name: &str) -> Option<&[Placed]>
         ensures { option_copied result ≡ placed_in (logs_in self.now) k name.now }
     {
@@ -141,8 +142,8 @@ impl Book {
         }
     }
 
-    /// The lines of a log from the place `offset` on, `limit` at most, as far as the log goes: a place at or behind its
-    /// end gives none. `NoLog` where the log isn't there.
+    /// The lines of a log from the place `offset` on, `limit` at most, as far as the log goes: a
+    /// place at or behind its end gives none. `NoLog` where the log isn't there.
     pub fn slice(&self, k: u64, name: &str, offset: u64, limit: u64) -> Result<Chunk, ViewRefusal>
         ensures { MatchOption (chunk_in (logs_in self.now) k name.now offset limit) (result ≡ Err ViewRefusal.NoLog) (λ lines. (result ≡ Ok (chunk_of offset lines)) ⊎ (result ≡ Err ViewRefusal.Mem)) }
     {

@@ -160,7 +160,8 @@ fn add_by_table(
     Ok(places)
 }
 
-/// Adds the blocks of all parts, or of none, by a table of the logs. The one that comes back has the new logs too.
+/// Adds the blocks of all parts, or of none, by a table of the logs. The one that comes back has
+/// the new logs too.
 fn add_all_by_table(
     logs: &mut Vec<NamedLog>,
     places: NameTable,
@@ -208,7 +209,7 @@ impl CommandLogs {
         }
     }
 
-    /// The blocks of a log with their places: `stdio` is always there, another log from its first block.
+    /// The blocks of a log with their places: `stdio` is always there, another from its first block.
     pub fn blocks(&self, name: &str) -> Option<&[Placed]>
         ensures { option_copied result ≡ placed_log name.now (logs_kept self.now) }
     {
@@ -266,7 +267,7 @@ impl CommandLogs {
         self.add_by_table(parts)
     }
 
-    /// Adds the blocks of parts to an open command by a table of its logs, where walks would take long.
+    /// Adds the blocks of parts to an open command by a table, where walks would take long.
     ///
     /// After want of memory there is no table; the next call makes it.
     fn add_by_table(&mut self, parts: &[Part]) -> Result<(), AllocError>

@@ -12,8 +12,8 @@ use crate::placed::Placed;
 use bm_lines::{Line, Text, append_content};
 use std::alloc::{AllocError, Global};
 
-/// The place of the last block that begins at or before the line `offset` (0 where there is none), and how many of
-/// its lines stand before that line.
+/// The place of the last block that begins at or before the line `offset` (0 where there is none),
+/// and how many of its lines stand before that line.
 fn seek(blocks: &[Placed], offset: u64) -> (usize, u64)
     requires { blocks.now ≡ placed (map block_at blocks.now) }
     ensures inside { result.0 ≤ length blocks.now }
@@ -46,7 +46,8 @@ fn window(lines: &[Line], skip: u64, limit: u64) -> &[Line]
     &rest[..count]
 }
 
-/// Appends the content of the lines of all blocks behind the first `skip`, of `limit` lines at most, and counts them.
+/// Appends the content of the lines of all blocks behind the first `skip`, of `limit` lines at
+/// most, and counts them.
 fn gather(out: &mut String, blocks: &[Placed], skip: u64, limit: u64) -> Result<u64, AllocError>
     ensures content { IfOk result (λ n. string_bytes out.new ≡ string_bytes out.old ++ content_of (slice (joined (map block_at blocks.now)) skip limit)) }
     ensures count { IfOk result (λ n. n ≡ length (slice (joined (map block_at blocks.now)) skip limit)) }

@@ -1,4 +1,5 @@
-//! Books of logs: what a lane's items make of the logs of its commands, and the slices that viewers ask for.
+//! Books of logs: what a lane's items make of the logs of its commands, and the slices that viewers
+//! ask for.
 #![tactic(auto)]
 
 mod book;

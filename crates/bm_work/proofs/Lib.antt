@@ -8,4 +8,6 @@ mod Unanswered
 mod Cores
 mod Examples
 mod Sizes
+mod TextUpdates
+mod Crossing
 mod Walks

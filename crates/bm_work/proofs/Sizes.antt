@@ -1,29 +1,17 @@
 -- What a worker sends is flat and short.
-use Rattle.std.proofs.Common.{ℕ, ◌<◌, ◌≤◌, ◌^◌, List, [], ◌∷◌, length, Option, Some, None, true, false, lit<, lit≤, arith}
+use Rattle.std.proofs.Common.{ℕ, ◌<◌, ◌≤◌, ◌^◌, List, [], ◌∷◌, length, Option, Some, None, false, lit<, lit≤, arith}
 use Rattle.std.specs.Fmt.{decimal}
 use Rattle.std.proofs.lemmas.Fmt.{length-decimal-le}
-use Rattle.bm_lines.specs.declared.line.Letter.{Letter}
-use Rattle.bm_lines.specs.declared.line.Letter.TheVariants.{O, E, H}
 use Rattle.bm_value.specs.Tree.{Tree, depth}
 use Rattle.bm_value.specs.Limits.{IsShort}
 use Rattle.bm_msg.specs.declared.field.Field.{Field}
 use Rattle.bm_msg.specs.declared.field.Field.TheVariants.{Text, Named, Rc}
 use Rattle.bm_msg.specs.Meaning.{update, complete, request, response}
-use Rattle.bm_msg.specs.Trees.{tree_of, item_of, stream_of, fault_tree}
-use Rattle.bm_work.specs.declared.answer.Answer.{Answer}
-use Rattle.bm_work.specs.declared.answer.Answer.TheVariants.{Done, Info, BadArguments, NoSuchCommandName, AlreadyRuns, TooManyCommands, NoSuchCommand, NoSuchOperation}
-use Rattle.bm_work.specs.Answers.{result_of, is_exception}
+use Rattle.bm_msg.specs.Trees.{tree_of, item_of, fault_tree}
+use Rattle.bm_work.specs.Answers.{info}
 
 decimal-short : (k : ℕ) → k < 2 ^ 64 → length (decimal k) < 2 ^ 32
 decimal-short k h = let few : length (decimal k) ≤ 20 = length-decimal-le 20 k (lit< tt) (omega arith) h in omega arith
-
-stream_of-short : (letter : Letter) → length (stream_of letter) < 2 ^ 32
-stream_of-short O = lit< tt
-stream_of-short E = lit< tt
-stream_of-short H = lit< tt
-
-pub text-short : (letter : Letter) (t : List ℕ) → length t < 2 ^ 32 → IsShort (item_of (Text letter t))
-text-short letter t h = (lit< tt, (stream_of-short letter, (h, tt)))
 
 pub update-flat : (n k : ℕ) (f : Field) → depth (tree_of (request n (update k (f ∷ [])))) ≤ 32
 update-flat n k (Text letter t) = lit≤ tt
@@ -42,30 +30,10 @@ pub complete-short : (n k : ℕ) (fault : Option (List ℕ)) → k < 2 ^ 64 → 
 complete-short n k fault h short =
     (lit< tt, (lit< tt, tt, (lit< tt, lit< tt, (lit< tt, decimal-short k h, (lit< tt, short, tt)))))
 
-pub reply-flat : (n : ℕ) (a : Answer) → depth (tree_of (response n (result_of a) (is_exception a))) ≤ 32
-reply-flat n Done = lit≤ tt
-reply-flat n Info = lit≤ tt
-reply-flat n BadArguments = lit≤ tt
-reply-flat n NoSuchCommandName = lit≤ tt
-reply-flat n AlreadyRuns = lit≤ tt
-reply-flat n TooManyCommands = lit≤ tt
-reply-flat n NoSuchCommand = lit≤ tt
-reply-flat n NoSuchOperation = lit≤ tt
+pub told-flat : (n : ℕ) → depth (tree_of (response n info false)) ≤ 32
+told-flat n = lit≤ tt
 
-fault-short : (n : ℕ) (t : Tree) → IsShort t → IsShort (tree_of (response n t true))
-fault-short n t short = (lit< tt, (lit< tt, tt, (lit< tt, lit< tt, (lit< tt, short, (lit< tt, tt, tt)))))
+pub told-short : (n : ℕ) → IsShort (tree_of (response n info false))
+told-short n = (lit< tt, (lit< tt, tt, (lit< tt, lit< tt, (lit< tt, (lit< tt, (lit< tt, lit< tt, tt)), tt))))
 
-value-short : (n : ℕ) (t : Tree) → IsShort t → IsShort (tree_of (response n t false))
-value-short n t short = (lit< tt, (lit< tt, tt, (lit< tt, lit< tt, (lit< tt, short, tt))))
-
-pub reply-short : (n : ℕ) (a : Answer) → IsShort (tree_of (response n (result_of a) (is_exception a)))
-reply-short n Done = value-short n (result_of Done) tt
-reply-short n Info = value-short n (result_of Info) (lit< tt, (lit< tt, lit< tt, tt))
-reply-short n BadArguments = fault-short n (result_of BadArguments) (lit< tt)
-reply-short n NoSuchCommandName = fault-short n (result_of NoSuchCommandName) (lit< tt)
-reply-short n AlreadyRuns = fault-short n (result_of AlreadyRuns) (lit< tt)
-reply-short n TooManyCommands = fault-short n (result_of TooManyCommands) (lit< tt)
-reply-short n NoSuchCommand = fault-short n (result_of NoSuchCommand) (lit< tt)
-reply-short n NoSuchOperation = fault-short n (result_of NoSuchOperation) (lit< tt)
-
-pub ruleset sizes = (text-short, update-flat, update-short, complete-flat, complete-short, reply-flat, reply-short)
+pub ruleset sizes = (update-flat, update-short, complete-flat, complete-short, told-flat, told-short)

@@ -1,7 +1,10 @@
 //! Answers of a worker to the requests of its master.
 
-ghost use Rattle.std.specs.Prelude.{◌≡◌, IfOk};
+ghost use Rattle.std.specs.Prelude.{◌≡◌, ◌≢◌, ℕ, ◌<◌, ◌^◌, length, IfOk, IfSome};
+ghost use Rattle.std.specs.Option.{option_copied};
 ghost use Rattle.bm_value.specs.View.{tree};
+ghost use Rattle.bm_msg.specs.Meaning.{response};
+ghost use Rattle.bm_msg.specs.Trees.{answer as nil_or_exception};
 ghost use Rattle.bm_work.specs.Answers.{result_of, is_done, is_exception, info};
 
 use bm_value::{Pair, Pairs, Value};
@@ -29,31 +32,28 @@ impl Answer {
         matches!(self, Answer::Done)
     }
 
-    pub(crate) fn is_exception(self) -> bool
-        ensures { result ≡ is_exception self }
-    {
-        !matches!(self, Answer::Done | Answer::Info)
-    }
-
-    /// The result of the response.
-    pub(crate) fn result(self, alloc: Global) -> Result<Value<Global>, AllocError>
-        ensures { IfOk result (λ v. tree v ≡ result_of self) }
+    /// The text of the exception that is the response, or None where the response is nil.
+    pub(crate) fn exception(self) -> Option<&'static str>
+        requires { self ≢ Answer.Info }
+        ensures response { (n : ℕ) → nil_or_exception n (option_copied result)
+            ≡ response n (result_of self) (is_exception self) }
+        ensures short { IfSome result (λ text. length text.now < 2 ^ 32) }
     {
         match self {
-            Answer::Done => Ok(Value::Nil),
-            Answer::Info => info(alloc),
-            Answer::BadArguments => Value::from_str(alloc, "bad arguments"),
-            Answer::NoSuchCommandName => Value::from_str(alloc, "no such command name"),
-            Answer::AlreadyRuns => Value::from_str(alloc, "command already runs"),
-            Answer::TooManyCommands => Value::from_str(alloc, "too many commands"),
-            Answer::NoSuchCommand => Value::from_str(alloc, "no such command"),
-            Answer::NoSuchOperation => Value::from_str(alloc, "no such operation"),
+            Answer::Done => None,
+            Answer::Info => unreachable!("told in a map"),
+            Answer::BadArguments => Some("bad arguments"),
+            Answer::NoSuchCommandName => Some("no such command name"),
+            Answer::AlreadyRuns => Some("command already runs"),
+            Answer::TooManyCommands => Some("too many commands"),
+            Answer::NoSuchCommand => Some("no such command"),
+            Answer::NoSuchOperation => Some("no such operation"),
         }
     }
 }
 
 /// What the worker tells of itself.
-fn info(alloc: Global) -> Result<Value<Global>, AllocError>
+pub(crate) fn info(alloc: Global) -> Result<Value<Global>, AllocError>
     ensures { IfOk result (λ v. tree v ≡ info) }
 {
     let mut vec = Vec::new(alloc);

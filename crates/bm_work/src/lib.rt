@@ -11,6 +11,7 @@ mod hearing;
 mod history;
 pub mod laws;
 mod sent;
+mod text_update;
 mod wire;
 mod worker;
 

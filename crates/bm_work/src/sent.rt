@@ -7,6 +7,7 @@ ghost use Rattle.bm_work.specs.Reports.{reports_of, fault_of};
 ghost use Rattle.bm_value.specs.Limits.{IsShort};
 ghost use Rattle.bm_msg.specs.Trees.{item_of};
 
+use crate::text_update::text_update;
 use crate::wire::numbered;
 use bm_lines::{Letter, Text};
 use bm_msg::{Field, Fields, Request};
@@ -65,7 +66,6 @@ pub(crate) fn copies(alloc: Global, requests: &[Sent]) -> Result<Vec<Sent>, Allo
 }
 
 /// The update with one text of the command.
-#[tactic(auto, using(crate::proofs::Sizes::sizes))]
 pub(crate) fn said(
     alloc: Global,
     seq: u64,
@@ -77,8 +77,11 @@ pub(crate) fn said(
     requires short { length text.now < 2 ^ 32 }
     ensures { IfOk result (λ s. s ≡ sent seq (text_of command letter text.now)) }
 {
-    let text = Text::from_str(alloc, text)?;
-    update(alloc, seq, command, Field::Text(letter, text))
+    let bytes = text_update(alloc, seq, command, letter, text)?;
+    Ok(Sent {
+        seq,
+        bytes: Bytes::from_vec(bytes),
+    })
 }
 
 /// The update with one item.

@@ -1,16 +1,17 @@
 //! Laws of what viewers see, as contracts.
 
-ghost use Rattle.bm_world.specs.Laws.{VisibleLogsGrow, DrainedLogsAreWhole, LooksNeverShrink, RefusalsAreNotMemory};
+ghost use Rattle.bm_world.specs.Laws.{VisibleLogsGrow, DrainedLogsAreWhole, LooksNeverShrink};
+ghost use Rattle.bm_world.specs.Laws.{RefusalsAreNotMemory};
 
-/// What viewers see of a log is a prefix of what they see after more drains; once everything is drained it is the
-/// whole log.
+/// What viewers see of a log is a prefix of what they see after more drains; once everything is
+/// drained it is the whole log.
 pub fn visible_logs_grow()
     ensures grows { VisibleLogsGrow }
     ensures whole { DrainedLogsAreWhole }
 {}
 
-/// Whatever steps follow other steps, a log that viewers see is a prefix of what they see later, and that is a prefix of
-/// the log of all events that were taken.
+/// Whatever steps follow other steps, a log that viewers see is a prefix of what they see later,
+/// and that is a prefix of the log of all events that were taken.
 pub fn looks_never_shrink()
     ensures { LooksNeverShrink }
 {}

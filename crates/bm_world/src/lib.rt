@@ -1,5 +1,5 @@
-//! The core of a lane over every interleaving of its steps: a session, the queue of what its events do to the logs, and
-//! the book that viewers look at.
+//! The core of a lane over every interleaving of its steps: a session, the queue of what its events
+//! do to the logs, and the book that viewers look at.
 #![tactic(auto)]
 
 mod answer;

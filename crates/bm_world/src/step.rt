@@ -12,7 +12,8 @@ pub enum Step {
     Hear(Event),
     /// The writer takes one item out of the queue into the book.
     Drain,
-    /// A viewer asks for lines of the log of a command under a name: from a place on, so many at most.
+    /// A viewer asks for lines of the log of a command under a name: from a place on, so many at
+    /// most.
     Look(u64, Text, u64, u64),
 }
 

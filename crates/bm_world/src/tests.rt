@@ -9,6 +9,7 @@ mod says;
 mod script;
 
 use super::*;
+use bm_session::{Results, Session};
 use says::Says;
 use script::{Script, step};
 use std::alloc::{AllocError, Global};
@@ -45,22 +46,25 @@ fn new_world(alloc: Global, capacity: usize) -> Result<World, AllocError>
     Err(AllocError)
 }
 
-/// Does the step. After want of memory no event was taken, and the step that came back is tried again.
+/// Does the step. After want of memory no event was taken, and the step that came back is tried
+/// again.
 fn answer(world: &mut World, step: Step) -> Result<Answer, AllocError> {
-    let mut step = step;
-    for _ in 0..TRIES {
-        let before = world.session().trace().len();
-        match world.step(step) {
-            Ok(answer) => return Ok(answer),
-            Err((back, error)) => {
-                if world.session().trace().len() != before {
-                    return Err(error);
-                }
-                step = back;
-            }
-        }
+    let before = world.session().trace().len();
+    match world.step(step) {
+        Ok(answer) => Ok(answer),
+        Err((back, _)) => answer_again(world, back, before),
     }
-    Err(AllocError)
+}
+
+/// Does the step that came back, where there are as many events as before.
+fn answer_again(world: &mut World, step: Step, before: usize) -> Result<Answer, AllocError> {
+    if world.session().trace().len() != before {
+        return Err(AllocError);
+    }
+    match world.step(step) {
+        Ok(answer) => Ok(answer),
+        Err((_, error)) => Err(error),
+    }
 }
 
 /// The answer to the step of a script.
@@ -75,10 +79,24 @@ fn copied_answer_to(
     world: &mut World,
     script: Script,
 ) -> Result<Answer, AllocError> {
-    let step = again(|| step(alloc, script))?;
-    let step = again(|| step.copy())?;
-    let answer = answer(world, step)?;
-    again(|| answer.copy())
+    match copied_step(alloc, script) {
+        Ok(step) => copied_answer(world, step),
+        Err(error) => Err(error),
+    }
+}
+
+fn copied_step(alloc: Global, script: Script) -> Result<Step, AllocError> {
+    match again(|| step(alloc, script)) {
+        Ok(step) => again(|| step.copy()),
+        Err(error) => Err(error),
+    }
+}
+
+fn copied_answer(world: &mut World, step: Step) -> Result<Answer, AllocError> {
+    match answer(world, step) {
+        Ok(answer) => again(|| answer.copy()),
+        Err(error) => Err(error),
+    }
 }
 
 /// The answer is that of its row; rows count from 0.
@@ -97,6 +115,36 @@ fn played(rt: &(impl AllocGlobal + Abort), capacity: usize, rows: &[Row]) -> Res
         assert_says(rt, n, says, &answer);
     }
     Ok(world)
+}
+
+/// Whether the commands, from the first on, ended so.
+fn have_ended(session: &Session, outcomes: &[Option<Results>]) -> bool {
+    for (k, outcome) in outcomes.iter().enumerate() {
+        if session.outcome(k as u64) != *outcome {
+            return false;
+        }
+    }
+    true
+}
+
+/// A world plays the rows, each of which has its answer. Then its commands, from the first on,
+/// ended so.
+fn plays(
+    rt: &(impl AllocGlobal + Abort),
+    capacity: usize,
+    rows: &[Row],
+    outcomes: &[Option<Results>],
+) -> Result<(), Fail>
+    requires some { 1 ≤ capacity }
+    requires few { capacity ≤ 65536 }
+{
+    match played(rt, capacity, rows) {
+        Ok(world) => {
+            assert!(rt; have_ended(world.session(), outcomes));
+            Ok(())
+        }
+        Err(fail) => Err(fail),
+    }
 }
 
 /// Plays the rows by copies of their steps and of the answers.
@@ -118,13 +166,22 @@ fn try_run(alloc: Global, rows: &[Row]) -> Result<Vec<Answer>, AllocError> {
     World::run(alloc, steps, 1)
 }
 
-/// A run of the steps of the rows gives their answers.
-fn run(rt: &(impl AllocGlobal + Abort), rows: &[Row]) -> Result<(), Fail> {
-    let alloc = rt.alloc();
-    let answers = again(|| try_run(alloc, rows))?;
-    assert_eq!(rt; answers.len(), rows.len());
+/// The answers are those of the rows.
+fn assert_all(rt: &impl Abort, rows: &[Row], answers: &[Answer]) {
+    assert!(rt; answers.len() == rows.len());
     for (n, (answer, (_, says))) in answers.iter().zip(rows).enumerate() {
         assert_says(rt, n, says, answer);
     }
-    Ok(())
+}
+
+/// A run of the steps of the rows gives their answers.
+fn run(rt: &(impl AllocGlobal + Abort), rows: &[Row]) -> Result<(), Fail> {
+    let alloc = rt.alloc();
+    match again(|| try_run(alloc, rows)) {
+        Ok(answers) => {
+            assert_all(rt, rows, answers.as_slice());
+            Ok(())
+        }
+        Err(error) => Err(Fail::from(error)),
+    }
 }

@@ -1,8 +1,11 @@
 //! A lane as one value, and its steps.
-ghost use Rattle.std.specs.Prelude.{◌≡◌, ◌≤◌, ◌<◌, ◌++◌, ◌∷◌, [], None, true, IfOk, IfErr, OnOk, OnErr};
+ghost use Rattle.std.specs.Prelude.{◌≡◌, ◌≤◌, ◌<◌, ◌++◌, ◌∷◌, [], None, true, IfOk, IfErr, OnOk};
+ghost use Rattle.std.specs.Prelude.{OnErr};
 ghost use Rattle.bm_session.specs.Session.{IsPlanFor};
-ghost use Rattle.bm_session.specs.Trace.{refusal as refusal_of, reply as reply_of, has_log, productive, visible};
-ghost use Rattle.bm_world.specs.World.{start, stepped, heard, drained, seen, answers_of, TakesMemory};
+ghost use Rattle.bm_session.specs.Trace.{refusal as refusal_of, reply as reply_of, has_log};
+ghost use Rattle.bm_session.specs.Trace.{productive, visible};
+ghost use Rattle.bm_world.specs.World.{start, stepped, heard, drained, seen, answers_of};
+ghost use Rattle.bm_world.specs.World.{TakesMemory};
 
 use crate::answer::Answer;
 use crate::step::Step;
@@ -13,7 +16,8 @@ use std::alloc::{AllocError, Global};
 use std::collections::VecDeque;
 use std::marker::Model;
 
-/// A lane, one step at a time: the reader's session, the items that wait, and the book of those that were drained.
+/// A lane, one step at a time: the reader's session, the items that wait, and the book of those
+/// that were drained.
 ///
 /// Contracts see its capacity, its trace, and how many of the trace's items viewers see.
 #[derive(Drop)]
@@ -32,7 +36,11 @@ impl Model for World {
 
     ghost Value = { Lane };
 
-    ghost view = { λ w. record { capacity = w.capacity; trace = w.session.trace; shown = productive w.session.trace - length w.queue.items } };
+    ghost view = { λ w. record {
+      capacity = w.capacity;
+      trace = w.session.trace;
+      shown = productive w.session.trace - length w.queue.items;
+    } };
 
     ghost invariant = { λ w. IsKept w.session.trace w.queue.items w.book };
 }
@@ -69,9 +77,9 @@ impl World {
         &self.session
     }
 
-    /// Does one step. Out of memory, the step comes back and nothing has changed; that is never so for an event that is
-    /// refused, a drain that finds no item, or a look at a log that isn't there. It may be so where the queue is full, since
-    /// a plan takes its memory first.
+    /// Does one step. Out of memory, the step comes back and nothing has changed; that is never so
+    /// for an event that is refused, a drain that finds no item, or a look at a log that isn't
+    /// there. It may be so where the queue is full, since a plan takes its memory first.
     pub fn step(&mut self, step: Step) -> Result<Answer, (Step, AllocError)>
         ensures answer { IfOk result (λ a. a ≡ (stepped self.old step).0) }
         ensures after { OnOk result (self.new ≡ (stepped self.old step).1) }
@@ -97,8 +105,10 @@ impl World {
 
     /// Takes an event whose item has room. Out of memory, the event comes back.
     fn hear(&mut self, event: Event) -> Result<Answer, Event>
-        ensures answer { IfOk result (λ a. a ≡ (heard self.old event (refusal_of self.old.trace event)).0) }
-        ensures after { OnOk result (self.new ≡ (heard self.old event (refusal_of self.old.trace event)).1) }
+        ensures answer { IfOk result (λ a. a
+            ≡ (heard self.old event (refusal_of self.old.trace event)).0) }
+        ensures after { OnOk result (self.new
+            ≡ (heard self.old event (refusal_of self.old.trace event)).1) }
         ensures back { IfErr result (λ e. e ≡ event) }
         ensures unchanged { OnErr result (self.new ≡ self.old) }
         ensures wanting { OnErr result (refusal_of self.old.trace event ≡ None) }
@@ -143,7 +153,8 @@ impl World {
     /// The asked lines of what viewers see.
     fn look(&self, k: u64, name: &Text, offset: u64, limit: u64) -> Result<Answer, AllocError>
         ensures answer { IfOk result (λ a. a ≡ seen self.now k name.now offset limit) }
-        ensures wanting { OnErr result (has_log (visible self.now.trace self.now.shown) k name.now ≡ true) }
+        ensures wanting { OnErr result (has_log (visible self.now.trace self.now.shown) k name.now
+            ≡ true) }
     {
         match self.book.slice(k, name.as_str(), offset, limit) {
             Ok(chunk) => Ok(Answer::Chunk(chunk)),

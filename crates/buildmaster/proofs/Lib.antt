@@ -18,5 +18,6 @@ mod Resumptions
 mod ResumedExamples
 mod Bytes
 mod HeardBytes
+mod WireExamples
 mod SmallNumbers
 mod Lines

@@ -7,7 +7,8 @@ use std::alloc::Global;
 use std::io;
 use std::io::Write;
 
-/// Writes what a lane answered to a step: `silent` where an event was taken that nothing is sent for.
+/// Writes what a lane answered to a step: `silent` where an event was taken that nothing is sent
+/// for.
 pub fn write_answer<W: Write>(output: &mut W, answer: Answer, silent: &str) -> io::Result<()> {
     match answer {
         Answer::Heard(reply) => write_reply(output, reply, silent),
@@ -37,7 +38,8 @@ fn write_reply<W: Write>(output: &mut W, reply: Reply, silent: &str) -> io::Resu
     }
 }
 
-/// Writes how many lines a command's log has and how the command ended, if it did, and then the lines.
+/// Writes how many lines a command's log has and how the command ended, if it did, and then the
+/// lines.
 pub fn write_log<W: Write>(
     alloc: Global,
     output: &mut W,

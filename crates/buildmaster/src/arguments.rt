@@ -40,8 +40,8 @@ pub enum Job {
     Replay { capacity: Capacity },
 }
 
-/// Reads the words of the command line, of which the first is the program's name. The answer is None
-/// where they ask for nothing that the program does.
+/// Reads the words of the command line, of which the first is the program's name. The answer is
+/// None where they ask for nothing that the program does.
 pub fn read_job(words: &[String]) -> Option<Job> {
     match words {
         [_, job] if job.as_str() == "replay" => Some(Job::Replay {

@@ -59,15 +59,16 @@ fn read_hex<A: Allocator + Copy>(alloc: A, text: &[u8]) -> Result<Vec<u8, A>, Un
     }
 }
 
-/// Reads the event that hex digits record. The bytes and the tree of the message lie in the arena, and
-/// are gone when the call returns; what stays is copied out of it.
+/// Reads the event that hex digits record. The bytes and the tree of the message lie in the arena,
+/// and are gone when the call returns; what stays is copied out of it.
 pub fn read_event(alloc: Global, arena: &Bump, digits: &[u8]) -> Result<Event, Unread> {
     let bytes = read_hex(arena, digits)?;
     event_of(alloc, arena, bytes.as_slice())
 }
 
-/// The event that the bytes of a message are. Its tree lies in the arena, and is gone when the call returns.
-/// For the bytes of each request that a worker can say it is the event that schedules deliver, or want of memory.
+/// The event that the bytes of a message are. Its tree lies in the arena, and is gone when the call
+/// returns. For the bytes of each request that a worker can say it is the event that schedules
+/// deliver, or want of memory.
 fn event_of(alloc: Global, arena: &Bump, bytes: &[u8]) -> Result<Event, Unread>
     ensures { HearsRequests bytes.now result }
 {

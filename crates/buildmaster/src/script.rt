@@ -1,6 +1,7 @@
 //! A replay's script, and its lines.
 
-ghost use Rattle.std.specs.Prelude.{◌≡◌, ◌≢◌, ◌≤◌, ◌++◌, ◌∷◌, IfSome, IfNone, IfOk, OnOk, EachIndex, slice_index, vec_len};
+ghost use Rattle.std.specs.Prelude.{◌≡◌, ◌≢◌, ◌≤◌, ◌++◌, ◌∷◌, IfSome, IfNone, IfOk, OnOk};
+ghost use Rattle.std.specs.Prelude.{EachIndex, slice_index, vec_len};
 ghost use Rattle.std.specs.Io.KnownBytes.{Consumes, IsAtEnd};
 
 use crate::numbers::read_number;
@@ -76,8 +77,8 @@ pub fn read_script<R: Read>(alloc: Global, input: &mut R) -> io::Result<Vec<u8>>
 ///
 /// # Errors
 ///
-/// A read that failed, one that was interrupted too; `FileTooLarge` where there are more than `most`
-/// bytes; and `OutOfMemory`.
+/// A read that failed, one that was interrupted too; `FileTooLarge` where there are more than
+/// `most` bytes; and `OutOfMemory`.
 pub fn read_up_to<R: Read>(most: usize, alloc: Global, input: &mut R) -> io::Result<Vec<u8>>
     ensures read { IfOk result (λ script.
         Consumes (R.remaining input.old) (R.remaining input.new) script.items) }

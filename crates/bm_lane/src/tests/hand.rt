@@ -66,6 +66,14 @@ pub fn blank<W: Wait + Copy + Drop>(
     open(rt, alloc, capacity, viewers)
 }
 
+/// Two lanes of four places and one viewer that aren't named yet.
+pub fn two_blanks<W: Wait + Copy + Drop>(rt: W, alloc: Global) -> Option<(Blank<W>, Blank<W>)> {
+    match (blank(rt, alloc, 4, 1), blank(rt, alloc, 4, 1)) {
+        (Ok(first), Ok(second)) => Some((first, second)),
+        _ => None,
+    }
+}
+
 // What the reader's end says to the event, which comes back where memory is wanting.
 fn try_hear<Y: Yard, R: Wait>(
     rt: &R,
@@ -280,6 +288,21 @@ fn try_settled<Y: Yard, W: Wait + Drop, R: Wait>(
     }
 }
 
+// What is left of a lane whose ends are all there, or none where they aren't or memory is wanting.
+fn left<Y: Yard, W: Wait + Drop, R: Wait>(
+    rt: &R,
+    alloc: Global,
+    ends: Ends<Y, W>,
+) -> Option<Settled> {
+    match try_settled(rt, alloc, ends) {
+        Ok(settled) => Some(settled),
+        Err(ends) => match try_settled(rt, alloc, ends) {
+            Ok(settled) => Some(settled),
+            Err(_) => None,
+        },
+    }
+}
+
 /// What is left of a lane whose ends are all there.
 pub fn settled<Y: Yard, W: Wait + Drop, R: Wait + Abort>(
     rt: &R,
@@ -287,23 +310,35 @@ pub fn settled<Y: Yard, W: Wait + Drop, R: Wait + Abort>(
     ends: Ends<Y, W>,
 ) -> Result<Settled, Fail> {
     assert!(rt; same_lane(&ends.reader, &ends.writer, ends.viewers.as_slice()));
-    match try_settled(rt, alloc, ends) {
-        Ok(settled) => Ok(settled),
-        Err(ends) => match try_settled(rt, alloc, ends) {
-            Ok(settled) => Ok(settled),
-            Err(_) => Err(Fail::from(AllocError)),
-        },
+    match left(rt, alloc, ends) {
+        Some(settled) => Ok(settled),
+        None => Err(Fail::from(AllocError)),
     }
 }
 
 /// Whether the book that is left of a lane has these lines of command 0, so many.
-pub fn leaves<Y: Yard, W: Wait + Drop, R: Wait + Abort>(
+fn leaves<Y: Yard, W: Wait + Drop, R: Wait>(
     rt: &R,
     alloc: Global,
     ends: Ends<Y, W>,
-    lines: u64,
-    text: &str,
-) -> Result<bool, Fail> {
-    let settled = settled(rt, alloc, ends)?;
-    Ok(has_lines(&settled.book, lines, text))
+    log: (u64, &str),
+) -> bool {
+    match left(rt, alloc, ends) {
+        Some(settled) => has_lines(&settled.book, log.0, log.1),
+        None => false,
+    }
+}
+
+/// Whether the books that are left of two lanes have these lines of their commands 0, so many.
+pub fn both_leave<Y: Yard, W: Wait + Drop, R: Wait>(
+    rt: &R,
+    alloc: Global,
+    one: Ends<Y, W>,
+    two: Ends<Y, W>,
+    ours: (u64, &str),
+    theirs: (u64, &str),
+) -> bool {
+    let is_first_left = leaves(rt, alloc, one, ours);
+    let is_second_left = leaves(rt, alloc, two, theirs);
+    is_first_left && is_second_left
 }

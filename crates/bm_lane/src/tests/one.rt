@@ -9,7 +9,6 @@ use crate::*;
 use bm_session::{Refusal, Results};
 use std::alloc::Global;
 use std::marker::Brand;
-use std::process::Abort;
 use std::sync::Wait;
 use std::test::Fail;
 
@@ -77,12 +76,13 @@ fn each_call_of_the_reader_is_taken(rt: HostRuntime) -> Result<(), Fail> {
 
 #[test]
 fn lanes_settle_with_their_own_ends(rt: HostRuntime) -> Result<(), Fail> {
-    let first = blank(&rt, rt.alloc(), 4, 1).ok().ok_or("no lane")?;
-    let second = blank(&rt, rt.alloc(), 4, 1).ok().ok_or("no lane")?;
-    two_lanes::<Brand, _, _>(&rt, rt.alloc(), first, second)
+    let (first, second) = two_blanks(&rt, rt.alloc()).ok_or("no lanes")?;
+    assert!(rt; two_lanes::<Brand, _, _>(&rt, rt.alloc(), first, second));
+    Ok(())
 }
 
-// Whether the ends of the first lane are known as its own, and are not with an end of the other or without a viewer.
+// Whether the ends of the first lane are known as its own, and are not with an end of the other or
+// without a viewer.
 fn are_apart<Y: Yard, W: Wait + Drop>(one: &Ends<Y, W>, two: &Ends<Y, W>) -> bool {
     let (ours, theirs) = (one.viewers.as_slice(), two.viewers.as_slice());
     same_lane(&one.reader, &one.writer, ours)
@@ -92,18 +92,28 @@ fn are_apart<Y: Yard, W: Wait + Drop>(one: &Ends<Y, W>, two: &Ends<Y, W>) -> boo
         && !same_lane(&one.reader, &one.writer, &ours[..0])
 }
 
-fn two_lanes<Y: Yard, W: Wait + Drop, R: Wait + Abort>(
+// Whether the lanes are known apart, and each is left with its own lines.
+fn are_settled_apart<Y: Yard, W: Wait + Drop, R: Wait>(
+    rt: &R,
+    alloc: Global,
+    one: Ends<Y, W>,
+    two: Ends<Y, W>,
+) -> bool {
+    let are_apart = are_apart(&one, &two) && are_apart(&two, &one);
+    both_leave(rt, alloc, one, two, (1, "oa\n"), (2, "ob\noc\n")) && are_apart
+}
+
+fn two_lanes<Y: Yard, W: Wait + Drop, R: Wait>(
     rt: &R,
     alloc: Global,
     first: Blank<W>,
     second: Blank<W>,
-) -> Result<(), Fail>
+) -> bool
     requires first { (first.queue ≡ Y.queue 0) × (first.copy ≡ Y.copy 0) }
     requires second { (second.queue ≡ Y.queue 1) × (second.copy ≡ Y.copy 1) }
 {
-    let (one, two) = both_heard::<Y, W, R>(rt, alloc, first, second, &["a\n"], &["b\n", "c\n"])?;
-    assert!(rt; are_apart(&one, &two) && are_apart(&two, &one));
-    assert!(rt; leaves(rt, alloc, one, 1, "oa\n")?);
-    assert!(rt; leaves(rt, alloc, two, 2, "ob\noc\n")?);
-    Ok(())
+    match both_heard::<Y, W, R>(rt, alloc, first, second, &["a\n"], &["b\n", "c\n"]) {
+        Ok((one, two)) => are_settled_apart(rt, alloc, one, two),
+        Err(_) => false,
+    }
 }

@@ -5,15 +5,14 @@ use super::hand::*;
 use crate::*;
 use std::alloc::{AllocError, Global};
 use std::marker::Brand;
-use std::process::Abort;
 use std::sync::atomic::{AtomicU64, Ordering};
 use std::sync::{Mutex, Wait};
 use std::test::Fail;
 use std::thread;
 use std::thread::Threads;
 
-/// What a gate was asked and told: how many passes, how many drains there were, how many of them took an item, and how
-/// many met want of memory.
+/// What a gate was asked and told: how many passes, how many drains there were, how many of them
+/// took an item, and how many met want of memory.
 #[derive(Clone, Copy)]
 struct Told {
     asked: u64,
@@ -22,7 +21,8 @@ struct Told {
     refused: u64,
 }
 
-/// A gate with one answer for each lane, which counts what it is asked, and what it is told of the lanes that it lets.
+/// A gate with one answer for each lane, which counts what it is asked, and what it is told of the
+/// lanes that it lets.
 #[derive(Drop)]
 struct Always {
     answers: [Pass; 2],
@@ -134,7 +134,8 @@ fn writer_of<Y: Yard, W: Wait + Drop, R: Wait>(
     Ok(writer)
 }
 
-// The report of so many threads that drain lanes with these texts; None where a thread or memory was refused.
+// The report of so many threads that drain lanes with these texts; None where a thread or memory
+// was refused.
 fn pooled<
     Y: Yard + Send + Sync,
     W: Wait + Drop + Send + Sync,
@@ -149,16 +150,22 @@ fn pooled<
     gate: &G,
     threads: usize,
     turns: u64,
-) -> Result<Option<PoolReport>, Fail>
+) -> Option<PoolReport>
     requires first { (first.queue ≡ Y.queue 0) × (first.copy ≡ Y.copy 0) }
     requires second { (second.queue ≡ Y.queue 1) × (second.copy ≡ Y.copy 1) }
 {
-    let one = writer_of::<Y, W, R>(rt, alloc, first, 0, texts)?;
-    let two = writer_of::<Y, W, R>(rt, alloc, second, 1, texts)?;
-    let mut lanes = room_for_two(alloc)?;
+    let Ok(one) = writer_of::<Y, W, R>(rt, alloc, first, 0, texts) else {
+        return None;
+    };
+    let Ok(two) = writer_of::<Y, W, R>(rt, alloc, second, 1, texts) else {
+        return None;
+    };
+    let Ok(mut lanes) = room_for_two(alloc) else {
+        return None;
+    };
     lanes.push_reserved(Mutex::new(one));
     lanes.push_reserved(Mutex::new(two));
-    Ok(writers(rt, alloc, lanes.as_slice(), gate, threads, turns).ok())
+    writers(rt, alloc, lanes.as_slice(), gate, threads, turns).ok()
 }
 
 fn pool_on_two<G: Gate + Sync, R: Threads + Wait + Sync>(
@@ -168,13 +175,13 @@ fn pool_on_two<G: Gate + Sync, R: Threads + Wait + Sync>(
     gate: &G,
     threads: usize,
     turns: u64,
-) -> Result<Option<PoolReport>, Fail> {
-    let first = blank(rt, alloc, 4, 1).ok().ok_or("no lane")?;
-    let second = blank(rt, alloc, 4, 1).ok().ok_or("no lane")?;
+) -> Option<PoolReport> {
+    let (first, second) = two_blanks(rt, alloc)?;
     pooled::<Brand, _, _, _>(rt, alloc, first, second, texts, gate, threads, turns)
 }
 
-// A pool that was refused a thread may have drained, so each row begins anew with lanes and a gate of its own.
+// A pool that was refused a thread may have drained, so each row begins anew with lanes and a gate
+// of its own.
 
 #[test]
 fn workers_of_a_pool_meet(rt: HostRuntime) -> Result<(), Fail> {
@@ -184,7 +191,7 @@ fn workers_of_a_pool_meet(rt: HostRuntime) -> Result<(), Fail> {
             second: AtomicU64::new(0),
             met: AtomicU64::new(0),
         };
-        if let Some(report) = pool_on_two(&rt, rt.alloc(), &[], &gate, 2, 5)? {
+        if let Some(report) = pool_on_two(&rt, rt.alloc(), &[], &gate, 2, 5) {
             assert!(rt; gate.met.load(Ordering::SeqCst) == 2 && report.took == 2);
             return Ok(());
         }
@@ -192,27 +199,39 @@ fn workers_of_a_pool_meet(rt: HostRuntime) -> Result<(), Fail> {
     Err(Fail::from("no pool"))
 }
 
-// What a pool on two lanes with two items each took where nothing was refused, and what its gate was asked and told.
+// What a pool on two lanes with two items each took where nothing was refused, and what its gate
+// was asked and told.
 fn taken<R: Threads + Wait + Sync>(
     rt: &R,
     alloc: Global,
     answers: [Pass; 2],
     threads: usize,
-) -> Result<(u128, Told), Fail> {
+) -> Option<(u128, Told)> {
     for _ in 0..TRIES {
         let gate = Always::new(answers);
-        let report = pool_on_two(rt, alloc, &["n\n"], &gate, threads, 1_000)?;
+        let report = pool_on_two(rt, alloc, &["n\n"], &gate, threads, 1_000);
         if let Some(PoolReport { took, refused: 0 }) = report {
-            return Ok((took, gate.told()));
+            return Some((took, gate.told()));
         }
     }
-    Err(Fail::from("no pool"))
+    None
+}
+
+/// The answers for both lanes and the threads, and what was taken, asked and drained.
+type Row = (Pass, Pass, usize, u128, u64, u64);
+
+// Whether a pool takes, asks and drains as the row says.
+fn is_drained_as<R: Threads + Wait + Sync>(rt: &R, alloc: Global, row: &Row) -> bool {
+    let (first, second, threads, took, asked, drains) = row;
+    match taken(rt, alloc, [*first, *second], *threads) {
+        Some((items, told)) => items == *took && told.asked == *asked && told.drains == *drains,
+        None => false,
+    }
 }
 
 #[test]
-fn pool_drains_the_lanes_that_its_gate_lets_it(rt: HostRuntime) -> Result<(), Fail> {
-    // The answers for both lanes and the threads, and what was taken, asked and drained.
-    static ROWS: [(Pass, Pass, usize, u128, u64, u64); 7] = [
+fn pool_drains_the_lanes_that_its_gate_lets_it(rt: HostRuntime) {
+    static ROWS: [Row; 7] = [
         (Pass::Go, Pass::Go, 2, 4, 2_000, 2_000),
         (Pass::Go, Pass::Go, 1, 4, 1_000, 1_000),
         (Pass::Go, Pass::Skip, 2, 2, 2_000, 1_000),
@@ -221,19 +240,13 @@ fn pool_drains_the_lanes_that_its_gate_lets_it(rt: HostRuntime) -> Result<(), Fa
         (Pass::Go, Pass::Stop, 1, 1, 2, 1),
         (Pass::Stop, Pass::Stop, 2, 0, 2, 0),
     ];
-    for (first, second, threads, took, asked, drains) in &ROWS {
-        let (items, told) = taken(&rt, rt.alloc(), [*first, *second], *threads)?;
-        let is_told = told.asked == *asked && told.drains == *drains;
-        assert!(rt;
-            items == *took && is_told,
-            "{first:?} and {second:?}, {threads} threads"
-        );
+    for (n, row) in ROWS.iter().enumerate() {
+        assert!(rt; is_drained_as(&rt, rt.alloc(), row), "row {n}");
     }
-    Ok(())
 }
 
-/// The report of a pool that ran to its end, and what its gate was told before: by the workers of a call that was
-/// refused a thread. What those drained stays drained, and no report counts it.
+/// The report of a pool that ran to its end, and what its gate was told before: by the workers of a
+/// call that was refused a thread. What those drained stays drained, and no report counts it.
 #[derive(Clone, Copy)]
 struct Ran {
     report: PoolReport,
@@ -252,9 +265,9 @@ impl Ran {
 #[test]
 fn pool_loses_nothing_where_memory_is_wanting(rt: HostRuntime) -> Result<(), Fail> {
     let gate = Always::new([Pass::Go, Pass::Go]);
-    let first = blank(&rt, rt.alloc(), 4, 1).ok().ok_or("no lane")?;
-    let second = blank(&rt, rt.alloc(), 4, 1).ok().ok_or("no lane")?;
-    let ran = under_pressure::<Brand, _, _>(&rt, rt.alloc(), first, second, &gate)?;
+    let (first, second) = two_blanks(&rt, rt.alloc()).ok_or("no lanes")?;
+    let ran = under_pressure::<Brand, _, _>(&rt, rt.alloc(), first, second, &gate);
+    let ran = ran.ok_or("no pool, or lines are lost")?;
     let told = gate.told();
     // One request at most is refused, so one drain at most met that.
     assert!(rt; told.took == 4 && told.refused <= 1 && ran.counts_up_to(told));
@@ -267,8 +280,8 @@ fn pool_loses_nothing_where_memory_is_wanting(rt: HostRuntime) -> Result<(), Fai
     Ok(())
 }
 
-// Two threads drain these lanes, once more where a thread or memory was refused. None where they drained without memory
-// for their handles, or were refused again.
+// Two threads drain these lanes, once more where a thread or memory was refused. None where they
+// drained without memory for their handles, or were refused again.
 fn pool<Y: Yard + Send + Sync, W: Wait + Drop + Send + Sync, R: Threads + Wait + Sync>(
     rt: &R,
     alloc: Global,
@@ -327,18 +340,34 @@ fn after_pool<Y: Yard + Send + Sync, W: Wait + Drop + Send + Sync, R: Threads + 
     Some((one, two, ran))
 }
 
-// A pool drains two lanes, which are then settled: a held item has gone first, so each book is whole and in order.
-fn under_pressure<
-    Y: Yard + Send + Sync,
-    W: Wait + Drop + Send + Sync,
-    R: Threads + Wait + Abort + Sync,
->(rt: &R, alloc: Global, first: Blank<W>, second: Blank<W>, gate: &Always) -> Result<Ran, Fail>
+// A pool drains two lanes, which are then settled: a held item has gone first, so each book is
+// whole and in order.
+fn under_pressure<Y: Yard + Send + Sync, W: Wait + Drop + Send + Sync, R: Threads + Wait + Sync>(
+    rt: &R,
+    alloc: Global,
+    first: Blank<W>,
+    second: Blank<W>,
+    gate: &Always,
+) -> Option<Ran>
     requires first { (first.queue ≡ Y.queue 0) × (first.copy ≡ Y.copy 0) }
     requires second { (second.queue ≡ Y.queue 1) × (second.copy ≡ Y.copy 1) }
 {
-    let (one, two) = both_heard::<Y, W, R>(rt, alloc, first, second, &["a\n"], &["b\n"])?;
-    let (one, two, ran) = after_pool(rt, alloc, one, two, gate).ok_or("no pool")?;
-    assert!(rt; leaves(rt, alloc, one, 1, "oa\n")?);
-    assert!(rt; leaves(rt, alloc, two, 1, "ob\n")?);
-    Ok(ran)
+    match both_heard::<Y, W, R>(rt, alloc, first, second, &["a\n"], &["b\n"]) {
+        Ok((one, two)) => settled_after_pool(rt, alloc, one, two, gate),
+        Err(_) => None,
+    }
+}
+
+// The report of a pool of both lanes, where each is left with its lines.
+fn settled_after_pool<
+    Y: Yard + Send + Sync,
+    W: Wait + Drop + Send + Sync,
+    R: Threads + Wait + Sync,
+>(rt: &R, alloc: Global, one: Ends<Y, W>, two: Ends<Y, W>, gate: &Always) -> Option<Ran> {
+    let (one, two, ran) = after_pool(rt, alloc, one, two, gate)?;
+    if both_leave(rt, alloc, one, two, (1, "oa\n"), (1, "ob\n")) {
+        Some(ran)
+    } else {
+        None
+    }
 }

@@ -1,7 +1,8 @@
 //! Calls that meet want of memory change nothing, and answer when they are made again.
 //!
-//! These are made for `tests/refused_memory`, which runs each once for each of its requests, with that one refused. In the
-//! gate no request is refused, so what is asserted behind an error doesn't run there; what the calls make is asserted.
+//! These are made for `tests/refused_memory`, which runs each once for each of its requests, with
+//! that one refused. In the gate no request is refused, so what is asserted behind an error doesn't
+//! run there; what the calls make is asserted.
 
 use crate::{
     Block, Letter, Line, LogName, Parcel, ParcelBuilder, Text, append_content, content, cut,
@@ -75,7 +76,7 @@ fn refused_parcel_keeps_its_parts(rt: HostRuntime) -> Result<(), Fail> {
     Ok(())
 }
 
-/// Adds the text to the parcel, once more where memory was refused and the parcel must be as before.
+/// Adds the text to the parcel, again where memory was refused and the parcel must be as before.
 fn give(
     rt: &impl Abort,
     alloc: Global,

@@ -1,5 +1,6 @@
-//! Made for `tests/refused_memory`, which refuses each request for memory in turn: a call that meets want of memory
-//! changes nothing, and answers when it's made again. In the gate no request is refused, and no call is made twice.
+//! Made for `tests/refused_memory`, which refuses each request for memory in turn: a call that
+//! meets want of memory changes nothing, and answers when it's made again. In the gate no request
+//! is refused, and no call is made twice.
 
 use super::{
     AUTH_OF_A_SESSION, COMPLETE_ONE, EXCEPTION_ONE, NAMED_UPDATE, START_ZERO, UPDATE_OF_A_BAD_ITEM,
@@ -47,7 +48,8 @@ fn is_copied_again(alloc: Global, message: &Message, want: &[u8]) -> bool {
     }
 }
 
-/// Whether the message and its copy are written as these bytes, with one refused request at the most.
+/// Whether the message and its copy are written as these bytes, with one refused request at the
+/// most.
 fn stands_refusal(alloc: Global, bytes: &[u8]) -> bool {
     match message_again(alloc, bytes) {
         Ok(message) => {

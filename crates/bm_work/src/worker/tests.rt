@@ -1,5 +1,6 @@
 //! Worked turns of a worker, and random ones.
 
+mod apart;
 mod gives;
 mod random;
 mod rows;

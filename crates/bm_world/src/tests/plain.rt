@@ -2,12 +2,13 @@
 
 use super::super::*;
 use super::script::{Script, event};
-use bm_lines::{Text, content};
+use bm_lines::{Block, Text, content};
 use bm_session::{Event, Refusal, Reply, Session};
 use bm_store::Chunk;
 use std::alloc::{AllocError, Global};
 
-/// The events that were taken, how many of them stood when each item came, and how many items viewers see.
+/// The events that were taken, how many of them stood when each item came, and how many items
+/// viewers see.
 #[derive(Drop)]
 pub struct Plain {
     capacity: usize,
@@ -24,6 +25,37 @@ fn take(session: &mut Session, event: Event) -> Result<(), AllocError> {
     };
     let _ = session.commit(plan);
     Ok(())
+}
+
+/// Takes the first events, so many.
+fn take_all(
+    alloc: Global,
+    session: &mut Session,
+    scripts: &[Script],
+    count: usize,
+) -> Result<(), AllocError> {
+    for script in scripts.iter().take(count) {
+        if let Some(event) = event(alloc, *script)? {
+            take(session, event)?;
+        }
+    }
+    Ok(())
+}
+
+/// The asked lines of a log.
+fn part(alloc: Global, block: &Block, offset: u64, limit: u64) -> Result<Answer, AllocError> {
+    let lines = block.lines();
+    let from = lines.len().min(offset as usize);
+    let rest = &lines[from..];
+    let asked = &rest[..rest.len().min(limit as usize)];
+    match content(alloc, asked) {
+        Ok(text) => Ok(Answer::Chunk(Chunk {
+            first_line: offset,
+            lines: asked.len() as u64,
+            content: Text::from_string(text),
+        })),
+        Err(error) => Err(error),
+    }
 }
 
 impl Plain {
@@ -91,12 +123,17 @@ impl Plain {
             shown => self.productive.get(shown - 1).copied().unwrap_or(0),
         };
         let mut session = Session::new(alloc)?;
-        for script in self.taken.iter().take(count) {
-            if let Some(event) = event(alloc, *script)? {
-                take(&mut session, event)?;
-            }
+        match take_all(alloc, &mut session, self.taken.as_slice(), count) {
+            Ok(()) => Ok(session),
+            Err(error) => Err(error),
         }
-        Ok(session)
+    }
+
+    fn visible_log(&self, alloc: Global, k: u64, name: &str) -> Result<Option<Block>, AllocError> {
+        match self.visible(alloc) {
+            Ok(session) => session.log(alloc, k, name),
+            Err(error) => Err(error),
+        }
     }
 
     fn look(
@@ -107,17 +144,10 @@ impl Plain {
         offset: u64,
         limit: u64,
     ) -> Result<Answer, AllocError> {
-        let Some(block) = self.visible(alloc)?.log(alloc, k, name)? else {
-            return Ok(Answer::NoLog);
-        };
-        let lines = block.lines();
-        let from = lines.len().min(offset as usize);
-        let rest = &lines[from..];
-        let asked = &rest[..rest.len().min(limit as usize)];
-        Ok(Answer::Chunk(Chunk {
-            first_line: offset,
-            lines: asked.len() as u64,
-            content: Text::from_string(content(alloc, asked)?),
-        }))
+        match self.visible_log(alloc, k, name) {
+            Ok(Some(block)) => part(alloc, &block, offset, limit),
+            Ok(None) => Ok(Answer::NoLog),
+            Err(error) => Err(error),
+        }
     }
 }

@@ -2,7 +2,7 @@
 
 use super::says::Says::*;
 use super::script::Script::*;
-use super::{Row, play_copies, played, run};
+use super::{Row, play_copies, played, plays, run};
 use bm_lines::Letter::{E, H, O};
 use bm_session::{Refusal, Results};
 use std::test::Fail;
@@ -14,8 +14,7 @@ fn nothing_is_there_at_first(rt: HostRuntime) -> Result<(), Fail> {
         (Stop(0), Refused(Refusal::NotUp)),
         (Drain, Empty),
     ];
-    played(&rt, 4, &ROWS)?;
-    Ok(())
+    plays(&rt, 4, &ROWS, &[])
 }
 
 #[test]
@@ -31,8 +30,7 @@ fn lines_are_seen_once_drained(rt: HostRuntime) -> Result<(), Fail> {
         (Look(0, "stdio", 0, 10), Lines(0, 1, "oa\n")),
         (Drain, Empty),
     ];
-    played(&rt, 4, &ROWS)?;
-    Ok(())
+    plays(&rt, 4, &ROWS, &[])
 }
 
 #[test]
@@ -64,7 +62,7 @@ fn busy_lane_takes_after_drain(rt: HostRuntime) -> Result<(), Fail> {
         (Look(0, "stdio", 0, 9), Lines(0, 0, "")),
     ];
     let world = played(&rt, 4, &ROWS)?;
-    assert_eq!(rt; world.session().trace().len(), 7);
+    assert!(rt; world.session().trace().len() == 7);
     Ok(())
 }
 
@@ -89,10 +87,7 @@ fn numbers_start_afresh_after_a_loss(rt: HostRuntime) -> Result<(), Fail> {
         (Look(1, "stdio", 0, 9), Lines(0, 1, "on\n")),
         (Drain, Empty),
     ];
-    let world = played(&rt, 8, &ROWS)?;
-    assert_eq!(rt; world.session().outcome(0), Some(Results::Retry));
-    assert_eq!(rt; world.session().outcome(1), None);
-    Ok(())
+    plays(&rt, 8, &ROWS, &[Some(Results::Retry), None])
 }
 
 #[test]
@@ -109,9 +104,7 @@ fn update_after_complete_is_not_kept(rt: HostRuntime) -> Result<(), Fail> {
         (Drain, Empty),
         (Look(0, "stdio", 0, 9), Lines(0, 0, "")),
     ];
-    let world = played(&rt, 4, &ROWS)?;
-    assert_eq!(rt; world.session().outcome(0), Some(Results::Cancelled));
-    Ok(())
+    plays(&rt, 4, &ROWS, &[Some(Results::Cancelled)])
 }
 
 #[test]
@@ -125,8 +118,7 @@ fn four_commands_are_open_at_most(rt: HostRuntime) -> Result<(), Fail> {
         (Go, Start(3, 3)),
         (Go, Refused(Refusal::TooManyOpen)),
     ];
-    played(&rt, 8, &ROWS)?;
-    Ok(())
+    plays(&rt, 8, &ROWS, &[])
 }
 
 #[test]
@@ -142,8 +134,7 @@ fn named_log_is_seen_under_its_name(rt: HostRuntime) -> Result<(), Fail> {
         (Look(0, "stdio", 0, 9), Lines(0, 0, "")),
         (Look(0, "m", 0, 10), NoLog),
     ];
-    played(&rt, 4, &ROWS)?;
-    Ok(())
+    plays(&rt, 4, &ROWS, &[])
 }
 
 #[test]
@@ -164,9 +155,7 @@ fn resumed_session_doubles_no_line(rt: HostRuntime) -> Result<(), Fail> {
         (Drain, Empty),
         (Look(0, "stdio", 0, 9), Lines(0, 3, "oa\nob\noc\n")),
     ];
-    let world = played(&rt, 8, &ROWS)?;
-    assert_eq!(rt; world.session().outcome(0), None);
-    Ok(())
+    plays(&rt, 8, &ROWS, &[None])
 }
 
 #[test]
@@ -184,9 +173,7 @@ fn cut_session_is_resumed_or_given_up(rt: HostRuntime) -> Result<(), Fail> {
         (Up, Silent),
         (Go, Start(0, 2)),
     ];
-    let world = played(&rt, 8, &ROWS)?;
-    assert_eq!(rt; world.session().outcome(0), Some(Results::Retry));
-    Ok(())
+    plays(&rt, 8, &ROWS, &[Some(Results::Retry)])
 }
 
 #[test]
@@ -207,8 +194,7 @@ fn lines_are_seen_from_a_place_on(rt: HostRuntime) -> Result<(), Fail> {
         (Look(0, "stdio", 7, 9), Lines(7, 0, "")),
         (Look(0, "stdio", 1, 0), Lines(1, 0, "")),
     ];
-    played(&rt, 4, &ROWS)?;
-    Ok(())
+    plays(&rt, 4, &ROWS, &[])
 }
 
 #[test]
@@ -220,9 +206,7 @@ fn refused_start_ends_its_command(rt: HostRuntime) -> Result<(), Fail> {
         (Update(0, 0, "stdio", O, "a\n"), NoCommand(0)),
         (Stop(0), Refused(Refusal::NoSuchCommand)),
     ];
-    let world = played(&rt, 4, &ROWS)?;
-    assert_eq!(rt; world.session().outcome(0), Some(Results::Exception));
-    Ok(())
+    plays(&rt, 4, &ROWS, &[Some(Results::Exception)])
 }
 
 #[test]

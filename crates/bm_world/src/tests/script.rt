@@ -25,12 +25,24 @@ pub enum Script {
 }
 
 fn parcel(alloc: Global, name: &str, letter: Letter, text: &str) -> Result<Parcel, AllocError> {
+    match LogName::new(alloc, name) {
+        Ok(Some(name)) => one_part(alloc, &name, letter, text),
+        Ok(None) => Err(AllocError),
+        Err(error) => Err(error),
+    }
+}
+
+fn one_part(
+    alloc: Global,
+    name: &LogName,
+    letter: Letter,
+    text: &str,
+) -> Result<Parcel, AllocError> {
     let mut parcel = Parcel::new(alloc);
-    let Some(name) = LogName::new(alloc, name)? else {
-        return Err(AllocError);
-    };
-    parcel.add(&name, letter, text)?;
-    Ok(parcel)
+    match parcel.add(name, letter, text) {
+        Ok(()) => Ok(parcel),
+        Err(error) => Err(error),
+    }
 }
 
 /// The event that is heard, or None where the step is no hearing.

@@ -131,7 +131,8 @@ fn text_that_is_no_utf8_is_passed_over_in_a_comment_alone(rt: HostRuntime) -> Re
     Ok(())
 }
 
-/// Whether a read that fails after these bytes ends the replay with status 1, and nothing is answered or told.
+/// Whether a read that fails after these bytes ends the replay with status 1, and nothing is
+/// answered or told.
 fn is_unanswered(alloc: Global, bytes: &[u8], kind: io::ErrorKind) -> Result<bool, Fail> {
     Ok(replay_from(alloc, FailingReader { bytes, kind })?.is(1, "", ""))
 }
@@ -215,7 +216,8 @@ fn input_with_a_byte_too_many_is_refused(rt: HostRuntime) {
     }
 }
 
-/// The status of a replay of 13 bytes of answers where the output has room for so many, or none where a fault is told.
+/// The status of a replay of 13 bytes of answers where the output has room for so many, or none
+/// where a fault is told.
 fn status_in_room(alloc: Global, room: usize) -> Option<u8> {
     let input: &[u8] = b"up\ngo\n";
     let mut faults = Vec::new(alloc);

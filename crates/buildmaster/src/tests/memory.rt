@@ -1,4 +1,5 @@
-//! Replays whose requests for memory may be refused. In the gate none is; `tests/refused_memory` refuses each in turn.
+//! Replays whose requests for memory may be refused. In the gate none is; `tests/refused_memory`
+//! refuses each in turn.
 
 ghost use Rattle.std.specs.Prelude.{◌≤◌};
 
@@ -22,8 +23,8 @@ fn stopped(replayed: &Replayed, answers: &str) -> bool {
         && answers.starts_with(replayed.output.as_str())
 }
 
-/// Whether the replay answers all. Where one of its requests for memory is refused it is to end with status 1 after its first
-/// answers, and to answer all when it is made again.
+/// Whether the replay answers all. Where one of its requests for memory is refused it is to end
+/// with status 1 after its first answers, and to answer all when it is made again.
 fn is_answered(
     rt: &HostRuntime,
     capacity: u32,

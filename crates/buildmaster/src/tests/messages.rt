@@ -40,7 +40,8 @@ pub const NEXT_COMMAND_ONE: &str =
 pub const NEXT_COMMAND_ZERO: &str =
     "84aa7365715f6e756d62657200a26f70a6757064617465aa636f6d6d616e645f6964a131a4617267739192a67374646f7574a27a0a";
 
-/// Update 0 of command 0: standard output `a`, `b` without a line end, a header and an empty standard error.
+/// Update 0 of command 0: standard output `a`, `b` without a line end, a header and an empty
+/// standard error.
 pub const UPDATE_MIXED: &str =
     "84aa7365715f6e756d62657200a26f70a6757064617465aa636f6d6d616e645f6964a130a4617267739392a67374646f7574a3610a6292a6686561646572a2680a92a6737464657272a0";
 

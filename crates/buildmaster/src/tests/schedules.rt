@@ -1,5 +1,6 @@
-//! What is said is what is logged: random schedules drive a worker and a lane by the bytes that they send, through losses, repeats,
-//! cuts, resendings and full queues, and compare each log with what was said.
+//! What is said is what is logged: random schedules drive a worker and a lane by the bytes that
+//! they send, through losses, repeats, cuts, resendings and full queues, and compare each log with
+//! what was said.
 
 ghost use Rattle.std.specs.Prelude.{◌≤◌};
 
@@ -62,6 +63,14 @@ fn play(alloc: Global, seed: u64, capacity: usize, counts: Counts) -> Result<Cou
     requires few { capacity ≤ 65536 }
 {
     let mut schedule = Schedule::new(alloc, seed, capacity, counts)?;
+    match play_whole(&mut schedule) {
+        Ok(()) => Ok(schedule.counts),
+        Err(wrong) => Err(wrong),
+    }
+}
+
+/// Makes the moves of a schedule, and compares what stands between them and at the end.
+fn play_whole(schedule: &mut Schedule) -> Result<(), Wrong> {
     for turn in 0..MOVES {
         schedule.play()?;
         if turn % BETWEEN == 0 {
@@ -69,8 +78,7 @@ fn play(alloc: Global, seed: u64, capacity: usize, counts: Counts) -> Result<Cou
         }
     }
     schedule.settle()?;
-    schedule.compare_whole()?;
-    Ok(schedule.counts)
+    schedule.compare_whole()
 }
 
 /// Plays all schedules over queues of that capacity.

@@ -1,6 +1,6 @@
-use Rattle.bm_msg.specs.Limits.{request_tree}
+use Rattle.bm_msg.specs.Limits.{outgoing_tree}
 use Rattle.bm_msg.proofs.writing.write_request.Goals as goal
 
 pub returns : goal.returns
-unfolding request_tree
-returns c = c.request_written.ensures
+unfolding outgoing_tree
+returns c = c.write_message.ensures

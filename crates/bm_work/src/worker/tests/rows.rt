@@ -11,11 +11,11 @@ use bm_lines::Letter::{E, O};
 use std::test::Fail;
 
 /// The first update, of command 0, with standard output `a\n`.
-const UPDATE_ZERO: &[u8] =
+pub const UPDATE_ZERO: &[u8] =
     b"\x84\xaaseq_number\x00\xa2op\xa6update\xaacommand_id\xa10\xa4args\x91\x92\xa6stdout\xa2a\n";
 
 /// The second update, with standard error `b\n`.
-const UPDATE_ONE: &[u8] =
+pub const UPDATE_ONE: &[u8] =
     b"\x84\xaaseq_number\x01\xa2op\xa6update\xaacommand_id\xa10\xa4args\x91\x92\xa6stderr\xa2b\n";
 
 /// The update of number 64, with standard output `x\n`.
@@ -48,7 +48,7 @@ const START_ZERO: &[u8] =
 const INTERRUPT_OF_ONE: &[u8] =
     b"\x84\xaaseq_number\x01\xa2op\xb1interrupt_command\xaacommand_id\xa11\xa3why\xa4stop";
 
-const INTERRUPT_OF_ZERO: &[u8] =
+pub const INTERRUPT_OF_ZERO: &[u8] =
     b"\x84\xaaseq_number\x02\xa2op\xb1interrupt_command\xaacommand_id\xa10\xa3why\xa4stop";
 
 const QUESTION_THREE: &[u8] = b"\x82\xaaseq_number\x03\xa2op\xafget_worker_info";
@@ -85,7 +85,7 @@ const DONE_SIX: &[u8] = b"\x83\xaaseq_number\x06\xa2op\xa8response\xa6result\xc0
 
 const DONE_THREE: &[u8] = b"\x83\xaaseq_number\x03\xa2op\xa8response\xa6result\xc0";
 
-const DONE_TWO: &[u8] = b"\x83\xaaseq_number\x02\xa2op\xa8response\xa6result\xc0";
+pub const DONE_TWO: &[u8] = b"\x83\xaaseq_number\x02\xa2op\xa8response\xa6result\xc0";
 
 const NO_SUCH_COMMAND_NAME_ZERO: &[u8] =
     b"\x84\xaaseq_number\x00\xa2op\xa8response\xa6result\xb4no such command name\xacis_exception\xc3";

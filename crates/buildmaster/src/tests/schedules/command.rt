@@ -14,7 +14,8 @@ pub enum Words {
     List,
     /// A line for the shell.
     Line,
-    /// Arguments that a worker refuses: they name no word, there are none, or the command's name is another.
+    /// Arguments that a worker refuses: they name no word, there are none, or the command's name is
+    /// another.
     NoWord,
     NoArgs,
     OtherName,
@@ -81,8 +82,8 @@ impl Command {
         self.end.is_none()
     }
 
-    /// Notes the lines of a text that was said, and answers how many they are. A text is cut at `\n` alone, and what follows
-    /// the last one is a line unless it is empty.
+    /// Notes the lines of a text that was said, and answers how many they are. A text is cut at
+    /// `\n` alone, and what follows the last one is a line unless it is empty.
     pub fn say(&mut self, letter: Letter, text: &str) -> Result<usize, AllocError> {
         let mut lines = 0;
         let mut begins = true;

@@ -101,7 +101,8 @@ impl Ledger {
         }
     }
 
-    /// What a worker sends again is its requests without an answer, oldest first, with their numbers and bytes.
+    /// What a worker sends again is its requests without an answer, oldest first, with their
+    /// numbers and bytes.
     pub fn sends_again(&self, again: &[Sent]) -> Result<(), Wrong> {
         let mut rest = again.iter();
         for (number, said) in self.requests.iter().enumerate() {
@@ -229,8 +230,8 @@ impl Ledger {
 
     // The worker's end.
 
-    /// An order was heard, with this act and this response. One that comes once more leads to nothing and has the first one's
-    /// response.
+    /// An order was heard, with this act and this response. One that comes once more leads to
+    /// nothing and has the first one's response.
     pub fn obey(
         &mut self,
         number: u64,
@@ -368,8 +369,8 @@ impl Ledger {
 
     // What is compared.
 
-    /// The log is what was said for the command as far as it was taken, there is none of another name, and the command ended
-    /// as the master heard.
+    /// The log is what was said for the command as far as it was taken, there is none of another
+    /// name, and the command ended as the master heard.
     pub fn compare(&self, session: &Session, place: usize) -> Result<(), Wrong> {
         let Some(command) = self.commands.get(place) else {
             return Ok(());

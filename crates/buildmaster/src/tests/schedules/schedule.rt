@@ -33,6 +33,22 @@ enum Connection {
     Cut,
 }
 
+/// How a connection begins or ends.
+#[derive(Clone, Copy)]
+enum Turn {
+    Up,
+    Cut,
+    Down,
+}
+
+/// What the lane says to an event.
+#[derive(Clone, Copy)]
+enum Said {
+    Heard(Reply),
+    Refused(Refusal),
+    Busy,
+}
+
 #[derive(Drop)]
 pub struct Schedule {
     alloc: Global,
@@ -111,7 +127,7 @@ impl Schedule {
             Connection::Up => Some(Refusal::AlreadyUp),
             _ => None,
         };
-        if self.is_refused(Event::Up, refusal)? {
+        if self.is_refused(Turn::Up, refusal)? {
             return Ok(());
         }
         self.connection = Connection::Up;
@@ -146,7 +162,7 @@ impl Schedule {
             Connection::Up => None,
             _ => Some(Refusal::NotUp),
         };
-        if self.is_refused(Event::Cut, refusal)? {
+        if self.is_refused(Turn::Cut, refusal)? {
             return Ok(());
         }
         self.counts.add(Kind::Cut);
@@ -164,7 +180,7 @@ impl Schedule {
             Connection::Cut => (Kind::GivenUp, None),
             Connection::Down => (Kind::RefusedEvent, Some(Refusal::NotUp)),
         };
-        if self.is_refused(Event::Down, refusal)? {
+        if self.is_refused(Turn::Down, refusal)? {
             return Ok(());
         }
         self.counts.add(kind);
@@ -180,29 +196,47 @@ impl Schedule {
         self.kept = None;
     }
 
-    /// Whether the event is refused, which it has to be for that reason. A full queue is drained, and then takes it.
-    fn is_refused(&mut self, event: Event, refusal: Option<Refusal>) -> Result<bool, Wrong> {
-        for _ in 0..2 {
-            match (self.step(Step::Hear(event.copy()?))?, refusal) {
-                (Answer::Heard(Reply::Silent), None) => return Ok(false),
-                (Answer::Busy, None) => {
-                    self.counts.add(Kind::Busy);
-                    self.drain()?;
-                }
-                (answer, refusal) => return self.is_refusal(&answer, refusal),
-            }
+    /// Whether the connection's turn is refused, which it has to be for that reason. A full queue
+    /// is drained, and then takes it.
+    fn is_refused(&mut self, turn: Turn, refusal: Option<Refusal>) -> Result<bool, Wrong> {
+        let mut said = self.turn(turn)?;
+        if matches!(said, Said::Busy) && refusal.is_none() {
+            self.counts.add(Kind::Busy);
+            self.drain()?;
+            said = self.turn(turn)?;
         }
-        Err(Wrong::Differs("a drained queue is full"))
+        match (said, refusal) {
+            (Said::Heard(Reply::Silent), None) => Ok(false),
+            (said, refusal) => self.is_refusal(said, refusal),
+        }
     }
 
-    /// The answer is that refusal.
-    fn is_refusal(&mut self, answer: &Answer, refusal: Option<Refusal>) -> Result<bool, Wrong> {
-        match (answer, refusal) {
-            (Answer::Refused(reason), Some(wanted)) if *reason == wanted => {
+    fn turn(&mut self, turn: Turn) -> Result<Said, Wrong> {
+        self.tell(match turn {
+            Turn::Up => Event::Up,
+            Turn::Cut => Event::Cut,
+            Turn::Down => Event::Down,
+        })
+    }
+
+    /// The lane said that refusal.
+    fn is_refusal(&mut self, said: Said, refusal: Option<Refusal>) -> Result<bool, Wrong> {
+        match (said, refusal) {
+            (Said::Refused(reason), Some(wanted)) if reason == wanted => {
                 self.counts.add(Kind::RefusedEvent);
                 Ok(true)
             }
             _ => Err(Wrong::Differs("an event is answered otherwise")),
+        }
+    }
+
+    fn tell(&mut self, event: Event) -> Result<Said, Wrong> {
+        match self.step(Step::Hear(event)) {
+            Ok(Answer::Heard(reply)) => Ok(Said::Heard(reply)),
+            Ok(Answer::Refused(reason)) => Ok(Said::Refused(reason)),
+            Ok(Answer::Busy) => Ok(Said::Busy),
+            Ok(_) => Err(Wrong::Differs("an event is answered otherwise")),
+            Err(wrong) => Err(wrong),
         }
     }
 
@@ -221,14 +255,14 @@ impl Schedule {
             Connection::Up => self.ledger.refusal_to_start(),
             _ => Some(Refusal::NotUp),
         };
-        match (self.step(Step::Hear(Event::Go))?, refusal) {
-            (Answer::Heard(Reply::Start(number, command)), None) => self.start(number, command),
-            (Answer::Busy, None) => {
+        match (self.tell(Event::Go)?, refusal) {
+            (Said::Heard(Reply::Start(number, command)), None) => self.start(number, command),
+            (Said::Busy, None) => {
                 self.counts.add(Kind::Busy);
                 Ok(())
             }
-            (answer, refusal) => {
-                let _ = self.is_refusal(&answer, refusal)?;
+            (said, refusal) => {
+                let _ = self.is_refusal(said, refusal)?;
                 Ok(())
             }
         }
@@ -257,13 +291,13 @@ impl Schedule {
             Connection::Up => Some(Refusal::NoSuchCommand),
             _ => Some(Refusal::NotUp),
         };
-        match (self.step(Step::Hear(Event::Stop(place)))?, refusal) {
-            (Answer::Heard(Reply::Interrupt(number, command)), None) => {
+        match (self.tell(Event::Stop(place))?, refusal) {
+            (Said::Heard(Reply::Interrupt(number, command)), None) => {
                 holds(command == place, "another command is stopped")?;
                 self.interrupt(number, command)
             }
-            (answer, refusal) => {
-                let _ = self.is_refusal(&answer, refusal)?;
+            (said, refusal) => {
+                let _ = self.is_refusal(said, refusal)?;
                 Ok(())
             }
         }
@@ -323,14 +357,22 @@ impl Schedule {
 
     /// The master takes the message, or keeps it where the queue is full.
     fn hear(&mut self, event: Event) -> Result<(), Wrong> {
-        match self.step(Step::Hear(event.copy()?))? {
-            Answer::Heard(reply) => self.note_taken(&event, reply),
-            Answer::Busy => {
+        match self.tell_copy(&event) {
+            Ok(Said::Heard(reply)) => self.note_taken(&event, reply),
+            Ok(Said::Busy) => {
                 self.counts.add(Kind::Busy);
                 self.kept = Some(event);
                 Ok(())
             }
-            _ => Err(Wrong::Differs("a message is refused")),
+            Ok(Said::Refused(_)) => Err(Wrong::Differs("a message is refused")),
+            Err(wrong) => Err(wrong),
+        }
+    }
+
+    fn tell_copy(&mut self, event: &Event) -> Result<Said, Wrong> {
+        match event.copy() {
+            Ok(copy) => self.tell(copy),
+            Err(_) => Err(Wrong::OutOfMemory),
         }
     }
 
@@ -375,11 +417,14 @@ impl Schedule {
     }
 
     fn obey_bytes(&mut self, bytes: &[u8]) -> Result<(), Wrong> {
-        let message = wire::message(self.alloc, bytes)?;
-        let number = match &message {
-            Message::Request(request) => request.seq,
-            Message::Response(response) => response.seq,
-        };
+        match wire::message(self.alloc, bytes) {
+            Ok(message) => self.obey(message),
+            Err(wrong) => Err(wrong),
+        }
+    }
+
+    fn obey(&mut self, message: Message) -> Result<(), Wrong> {
+        let number = wire::number(&message);
         let Ok((act, response)) = self.worker.hear(message) else {
             return Err(Wrong::OutOfMemory);
         };
@@ -565,7 +610,8 @@ impl Schedule {
         self.step(Step::Look(place as u64, name, offset, limit))
     }
 
-    /// Each log is what was said for its command as far as it was taken, and what viewers see is a front of it.
+    /// Each log is what was said for its command as far as it was taken, and what viewers see is a
+    /// front of it.
     pub fn compare(&mut self) -> Result<(), Wrong> {
         for place in 0..self.ledger.commands.len() {
             self.ledger.compare(self.world.session(), place)?;
@@ -597,7 +643,8 @@ impl Schedule {
         self.to_master.is_empty() && self.to_worker.is_empty() && self.kept.is_none()
     }
 
-    /// Resumes a session that is cut, ends most commands, and lets all arrive that is in flight. What waits is drained.
+    /// Resumes a session that is cut, ends most commands, and lets all arrive that is in flight.
+    /// What waits is drained.
     pub fn settle(&mut self) -> Result<(), Wrong> {
         if self.connection == Connection::Cut {
             self.up()?;
@@ -640,8 +687,9 @@ impl Schedule {
         Err(Wrong::Differs("a queue is never empty"))
     }
 
-    /// Once all has arrived and is drained, each log of the last session, and of the earlier ones of which every request
-    /// was taken, is all that was said; viewers see it whole, and each command of the last session ended as the worker told.
+    /// Once all has arrived and is drained, each log of the last session, and of the earlier ones
+    /// of which every request was taken, is all that was said; viewers see it whole, and each
+    /// command of the last session ended as the worker told.
     pub fn compare_whole(&mut self) -> Result<(), Wrong> {
         self.compare()?;
         let is_up = self.connection == Connection::Up;

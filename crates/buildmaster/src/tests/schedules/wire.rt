@@ -19,12 +19,28 @@ pub fn message(alloc: Global, bytes: &[u8]) -> Result<Message, Wrong> {
     Ok(read(alloc, &tree)?)
 }
 
+/// The number of the request, or of the one that a response answers.
+pub fn number(message: &Message) -> u64 {
+    match message {
+        Message::Request(request) => request.seq,
+        Message::Response(response) => response.seq,
+    }
+}
+
 /// The bytes of the request with that number.
 pub fn request(alloc: Global, seq: u64, request: Request) -> Result<Vec<u8>, Wrong> {
-    if seq >= NUMBERS {
-        return Err(Wrong::Differs("a request's number is too great"));
+    if seq < NUMBERS {
+        numbered(alloc, &Numbered { seq, request })
+    } else {
+        Err(Wrong::Differs("a request's number is too great"))
     }
-    Ok(write_request(alloc, &Numbered { seq, request })?)
+}
+
+fn numbered(alloc: Global, request: &Numbered) -> Result<Vec<u8>, Wrong> {
+    match write_request(alloc, request) {
+        Ok(bytes) => Ok(bytes),
+        Err(error) => Err(Wrong::from(error)),
+    }
 }
 
 /// The bytes of the master's response to the request with that number.
