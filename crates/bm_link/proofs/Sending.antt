@@ -1,0 +1,27 @@
+-- Orders that are sent one after the other.
+use Rattle.std.proofs.Common.{◌≡◌, refl, subst, ℕ, ◌+◌, ◌<◌, List, [], ◌∷◌, ◌++◌, length, take, get_or, Option, Result, Ok, Err, OnOk}
+use Rattle.std.proofs.lemmas.List.{take_more}
+use Rattle.tungstenite.specs.Connection.{write_step}
+use Rattle.tungstenite.specs.Content.{binary}
+use Rattle.tungstenite.specs.Socket.{Socket, Writes}
+use Rattle.bm_work.specs.declared.sent.Sent.{Sent}
+use Rattle.bm_link.specs.declared.attaching.Attached.{Attached}
+use Rattle.bm_link.specs.declared.fault.LinkFault.{LinkFault}
+use Rattle.bm_link.specs.Attaching.{SendsAll, SendsAttached, login_bytes}
+
+module _ {S : Type 0} (contents : S → Option (List ℕ)) where
+  sends-one : (os : List Sent) (o : Sent) (old mid new : Socket S) → SendsAll contents old os mid
+      → Writes contents mid new (write_step mid.conn (binary o.bytes)) → SendsAll contents old (os ++ o ∷ []) new
+  sends-one [] o old mid new h w = (new, subst (λ (s : Socket S). Writes contents s new (write_step s.conn (binary o.bytes))) h w, refl)
+  sends-one (x ∷ os) o old mid new h w = (h.0, h.1, sends-one os o h.0 mid new h.2 w)
+
+  -- the first orders were sent, and then the next one
+  pub sends_more : (os : List Sent) (i : ℕ) (d : Sent) (old mid new : Socket S) → i < length os → SendsAll contents old (take i os) mid
+      → Writes contents mid new (write_step mid.conn (binary (get_or os i d).bytes)) → SendsAll contents old (take (i + 1) os) new
+  sends_more os i d old mid new lt h w = rw (take_more os i d lt) (sends-one (take i os) (get_or os i d) old mid new h w)
+
+  -- the answer was sent, and then the orders, if that went well
+  pub sends_attached : (n : ℕ) (a : Attached) (os : List Sent) (old mid new : Socket S) (bytes : List ℕ) (r : Result (Unit {0}) LinkFault) → bytes ≡ login_bytes n a
+      → Writes contents old mid (write_step old.conn (binary bytes)) → OnOk r (SendsAll contents mid os new) → OnOk r (SendsAttached contents old n a os new)
+  sends_attached n a os old mid new bytes (Ok _) e w h = (mid, subst (λ (bs : List ℕ). Writes contents old mid (write_step old.conn (binary bs))) e w, h)
+  sends_attached n a os old mid new bytes (Err f) e w h = tt

@@ -1,0 +1,14 @@
+use Rattle.std.proofs.Common.{◌∙◌, refl, sym, ap, List, ℕ}
+use Rattle.bm_link.specs.Users.{place_of}
+use Rattle.bm_link.proofs.login.admit.Goals as goal
+
+-- the user is that of the login that was read
+pub returns-in-Some : goal.returns-in-Some
+returns-in-Some g c = (
+  c.in-Ok.credentials,
+  c.in-Ok.ensures,
+  ap (λ (name : List ℕ). place_of c.args.users.now name c.in-Ok.credentials.password) (sym c.as_str-username.ensures)
+      ∙ (ap (λ (password : List ℕ). place_of c.args.users.now c.as_str-username.result.now password) (sym c.as_str.ensures)
+      ∙ (sym c.place_of.ensures ∙ c.in-Some.is)),
+  refl,
+)

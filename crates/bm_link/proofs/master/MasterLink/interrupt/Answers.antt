@@ -1,0 +1,32 @@
+use Rattle.std.proofs.Common.{◌≡◌, ◌∙◌, ap, subst, inr, ℕ}
+use Rattle.tungstenite.specs.Connection.{write_step}
+use Rattle.tungstenite.specs.Content.{Content, binary}
+use Rattle.tungstenite.specs.Failure.{WriteFails}
+use Rattle.tungstenite.specs.declared.error.Error.{Error}
+use Rattle.bm_link.specs.Faults.{fault_of}
+use Rattle.bm_session.specs.declared.event.Event.TheVariants.{Stop}
+use Rattle.bm_lane.specs.Hearing.{with_event}
+use Rattle.bm_link.specs.Carries.{with_order, may_cut}
+use Rattle.bm_link.specs.Orders.{interrupt_bytes}
+use Rattle.bm_link.proofs.Stages.{ends_at, interrupt_fails}
+use Rattle.bm_link.proofs.master.MasterLink.interrupt.Goals as goal
+
+-- the lane took the order, and the link failed
+pub returns-in-Err-send_message-clause-interrupted : goal.returns-in-Err-send_message-clause-interrupted
+returns-in-Err-send_message-clause-interrupted g c =
+    rw (← c.self.view_is) (
+    interrupt_fails g.S.Write.contents c.args.command
+    (record { socket = c.self.inside.socket; stage = c.self.inside.stage; login = c.self.inside.login; kept = c.self.inside.kept })
+    c.args.reader.now c.args.carry.now c.in-Err-send_message.fault c.end.new.self c.end.new.reader c.interrupt_order.new.carry
+    c.in-Up.is
+    (c.in-Ok.ensures.ok.1 ∙ ap (λ (n : ℕ). with_order c.args.carry.now (record { seq = n; bytes = interrupt_bytes n c.args.command })) c.next_order.ensures.number) (
+      inr (
+          subst (λ (w : Content). (x : Error) × WriteFails (write_step c.self.inside.socket.conn w) x × (c.in-Err-send_message.fault ≡ fault_of x))
+          (c.in-Ok.ensures.ok.0 ∙ ap (λ (n : ℕ). binary (interrupt_bytes n c.args.command)) c.next_order.ensures.number) c.in-Err-send_message.ensures.unsent
+          ),
+      ends_at c.may_cut.result (may_cut c.interrupt_order.new.carry c.in-Err-send_message.fault) c.stop.new.self
+          (with_event c.args.reader.now (Stop c.args.command)) c.end.new.reader c.end.result c.end.new.self.stage
+          c.may_cut.ensures c.in_default-stop.ensures.0 c.end.ensures.ended c.end.ensures.stage,
+      c.end.ensures.kept,
+    )
+    )

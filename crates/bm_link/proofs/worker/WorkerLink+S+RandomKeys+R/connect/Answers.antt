@@ -1,0 +1,9 @@
+use Rattle.std.proofs.Common.{rules}
+use Rattle.bm_link.specs.Accepting.{Limit}
+use Rattle.bm_link.proofs.worker.WorkerLink+S+RandomKeys+R.connect.Goals as goal
+
+-- the socket that the handshake gave, with its limits
+pub returns-in-Ok-greet-clause-login : goal.returns-in-Ok-greet-clause-login
+returns-in-Ok-greet-clause-login g c =
+    let limit : Limit c.set_config.new.self.conn.config = search rules in
+    (c.set_config.new.self, limit, c.in-Ok-greet.ensures)

@@ -1,0 +1,20 @@
+-- What a new link is.
+use Rattle.std.specs.Prelude.{◌≡◌, ℕ, false, Some, None}
+use Rattle.tungstenite.specs.declared.protocol.WebSocketConfig.{WebSocketConfig}
+use Rattle.websocket.specs.declared.protocol.config.WebSocketConfig.{WebSocketConfig as Limits}
+use Rattle.bm_link.specs.declared.parts.Stage.TheVariants as stage
+use Rattle.bm_link.specs.Link.{LinkState}
+
+-- no message and no frame is longer than this, and no frame of a worker comes unmasked
+abbrev pub most_bytes : ℕ
+most_bytes = 1048576
+
+abbrev pub IsLimited : WebSocketConfig → Type 0
+IsLimited c = (c.max_message_size ≡ Some most_bytes) × (c.max_frame_size ≡ Some most_bytes) × (c.accept_unmasked_frames ≡ false)
+
+abbrev pub Limit : Limits → Type 0
+Limit c = (c.max_message_size ≡ Some most_bytes) × (c.max_frame_size ≡ Some most_bytes) × (c.accept_unmasked_frames ≡ false)
+
+-- a link on which no login was read
+abbrev pub IsAccepted : {S : Type 0} → LinkState S → Type 0
+IsAccepted l = (l.stage ≡ stage.Open) × (l.login ≡ None) × (l.kept ≡ None) × Limit l.socket.conn.config

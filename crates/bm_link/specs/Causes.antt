@@ -1,0 +1,34 @@
+-- Why a link fails.
+use Rattle.std.specs.Prelude.{◌≡◌, ◌⊎◌, ℕ, List, Option, Ok, Err}
+use Rattle.tungstenite.specs.Connection.{write_step, Connection}
+use Rattle.tungstenite.specs.Content.{binary}
+use Rattle.tungstenite.specs.Failure.{WriteFails}
+use Rattle.tungstenite.specs.Socket.{Socket, Reads, content_of}
+use Rattle.tungstenite.specs.declared.error.Error.{Error}
+use Rattle.tungstenite.specs.declared.message.Message.{Message}
+use Rattle.tungstenite.specs.declared.message.Message.TheVariants as message
+use Rattle.bm_session.specs.declared.event.Event.{Event}
+use Rattle.bm_link.specs.declared.fault.LinkFault.{LinkFault}
+use Rattle.bm_link.specs.declared.fault.LinkFault.TheVariants.{Closed, BadMessage, Arena, Mem}
+use Rattle.bm_link.specs.Faults.{fault_of}
+use Rattle.bm_link.specs.Incoming.{IsEventOf}
+
+abbrev pub IsCloseFrame : Message → Type 0
+IsCloseFrame (message.Close reason) = Unit {0}
+IsCloseFrame _ = ⊥
+
+-- the bytes are no event, memory is wanting, or the arena refuses its reset
+abbrev pub GivesNoEvent : List ℕ → LinkFault → Type 0
+GivesNoEvent bytes f = ((f ≡ BadMessage) × ((e : Event) → ¬ IsEventOf bytes e)) ⊎ ((f ≡ Mem) ⊎ (f ≡ Arena))
+
+-- a message is not sent: memory is wanting, or the socket fails
+abbrev pub IsUnsent : Connection → List ℕ → LinkFault → Type 0
+IsUnsent conn bytes f = (f ≡ Mem) ⊎ ((x : Error) × WriteFails (write_step conn (binary bytes)) x × (f ≡ fault_of x))
+
+module _ {S : Type 0} where
+  -- no event is read: the socket fails, a close frame comes, or a binary message that gives none
+  abbrev pub FailsToRead : (S → Option (List ℕ)) → Socket S → LinkFault → Type 0
+  FailsToRead remaining old f =
+      ((x : Error) × (new : Socket S) × Reads remaining old new (Err x) × (f ≡ fault_of x))
+      ⊎ (((m : Message) × (new : Socket S) × Reads remaining old new (Ok m) × IsCloseFrame m × (f ≡ Closed))
+      ⊎ ((bs : List ℕ) × (m : Message) × (new : Socket S) × Reads remaining old new (Ok m) × (content_of m ≡ binary bs) × GivesNoEvent bs f))

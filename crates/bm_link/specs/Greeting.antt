@@ -1,0 +1,58 @@
+-- How a worker logs in, and what its master answers.
+use Rattle.std.specs.Prelude.{◌≡◌, ◌≤◌, ◌⊎◌, ℕ, true, false, List, Option, Ok, Err, Result}
+use Rattle.tungstenite.specs.Connection.{write_step}
+use Rattle.tungstenite.specs.Content.{binary}
+use Rattle.tungstenite.specs.Socket.{Socket, Reads, Writes, content_of}
+use Rattle.tungstenite.specs.declared.message.Message.{Message}
+use Rattle.bm_value.specs.Spelling.{Spells}
+use Rattle.bm_value.specs.Tree.{Tree, depth}
+use Rattle.bm_value.specs.Writing.{written}
+use Rattle.bm_msg.specs.Meaning.{Meaning, request, response, auth}
+use Rattle.bm_msg.specs.Messages.{IsMessage}
+use Rattle.bm_msg.specs.Trees.{tree_of}
+use Rattle.bm_link.specs.declared.attaching.Attached.{Attached}
+use Rattle.bm_link.specs.Attaching.{IsAttached}
+use Rattle.bm_link.specs.declared.fault.LinkFault.{LinkFault}
+use Rattle.bm_link.specs.declared.fault.LinkFault.TheVariants.{BadLogin, BadMessage, Closed, Mem}
+use Rattle.bm_link.specs.Faults.{fault_of}
+use Rattle.tungstenite.specs.declared.error.Error.{Error}
+
+-- the bytes of the login, which is request 0
+unfoldable pub auth_bytes : List ℕ → List ℕ → Option (List ℕ) → List ℕ
+auth_bytes name password session = written (tree_of (request 0 (auth name password session)))
+
+-- the message is the response to request 0, and tells this
+abbrev pub IsAnswerOf : Meaning → Attached → Type 0
+IsAnswerOf m a = (t : Tree) × (m ≡ response 0 t false) × IsAttached t a
+
+-- the message is an exception to request 0
+abbrev pub IsRefused : Meaning → Type 0
+IsRefused (response n result exception) = (n ≡ 0) × (exception ≡ true)
+IsRefused _ = ⊥
+
+-- why a message is no answer: it is an exception to the login, or it is no response to it
+abbrev pub IsNoAnswer : Meaning → LinkFault → Type 0
+IsNoAnswer m f = (f ≡ BadMessage) ⊎ ((f ≡ BadLogin) × IsRefused m)
+
+-- the bytes spell such a message
+abbrev pub AreAnswer : List ℕ → Attached → Type 0
+AreAnswer bytes a = (t : Tree) × (m : Meaning) × Spells bytes t × (depth t ≤ 32) × IsMessage t m × IsAnswerOf m a
+
+-- the bytes spell an exception to the login
+abbrev pub AreRefusal : List ℕ → Type 0
+AreRefusal bytes = (t : Tree) × (m : Meaning) × Spells bytes t × (depth t ≤ 32) × IsMessage t m × IsRefused m
+
+-- why bytes are no answer to the login: memory is wanting, they refuse it, or they say something else
+abbrev pub AreNoAnswer : List ℕ → LinkFault → Type 0
+AreNoAnswer bytes f = (f ≡ Mem) ⊎ (f ≡ BadMessage) ⊎ ((f ≡ BadLogin) × AreRefusal bytes)
+
+module _ {S : Type 0} where
+  -- a binary message was read, and its bytes are that answer
+  abbrev pub ReadsAnswer : (S → Option (List ℕ)) → Socket S → Socket S → Attached → Type 0
+  ReadsAnswer remaining old new a =
+      (bs : List ℕ) × (m : Message) × Reads remaining old new (Ok m) × (content_of m ≡ binary bs) × AreAnswer bs a
+
+  -- the login was sent, and the answer was read
+  abbrev pub Greets : (S → Option (List ℕ)) → (S → Option (List ℕ)) → List ℕ → List ℕ → Option (List ℕ) → Socket S → Socket S → Attached → Type 0
+  Greets remaining contents name password session old new a =
+      (mid : Socket S) × Writes contents old mid (write_step old.conn (binary (auth_bytes name password session))) × ReadsAnswer remaining mid new a

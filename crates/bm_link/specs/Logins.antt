@@ -1,0 +1,53 @@
+-- What the first message of a connection says, the worker's login, and what comes of it.
+use Rattle.std.specs.Prelude.{◌≡◌, ◌≤◌, ℕ, List, Option, Some, None, Result, Ok, Err}
+use Rattle.tungstenite.specs.Content.{binary}
+use Rattle.tungstenite.specs.Socket.{Socket, Reads, content_of}
+use Rattle.tungstenite.specs.declared.message.Message.{Message}
+use Rattle.bm_value.specs.Spelling.{Spells}
+use Rattle.bm_value.specs.Tree.{Tree, depth}
+use Rattle.bm_msg.specs.Meaning.{request, auth}
+use Rattle.bm_msg.specs.Messages.{IsMessage}
+use Rattle.bm_link.specs.declared.credentials.Credentials.{Credentials}
+use Rattle.bm_link.specs.declared.credentials.Named.{Named}
+use Rattle.bm_link.specs.declared.fault.LinkFault.{LinkFault}
+use Rattle.bm_link.specs.declared.fault.LinkFault.TheVariants.{Closed}
+use Rattle.bm_link.specs.declared.parts.Stage.{Stage}
+use Rattle.bm_link.specs.declared.parts.Stage.TheVariants as stage
+use Rattle.bm_link.specs.declared.user.User.{User}
+use Rattle.bm_link.specs.Link.{LinkState}
+use Rattle.bm_link.specs.Users.{place_of}
+
+-- the tree is an `auth` with this number, name, password and session
+abbrev pub IsLoginOf : Tree → Credentials → Type 0
+IsLoginOf t l = IsMessage t (request l.named.seq (auth l.username l.password l.named.session))
+
+-- the bytes spell such a tree
+abbrev pub AreLogin : List ℕ → Credentials → Type 0
+AreLogin bytes l = (t : Tree) × Spells bytes t × (depth t ≤ 32) × IsLoginOf t l
+
+module _ {S : Type 0} where
+  -- a binary message was read, and its bytes are this login
+  abbrev pub ReadsLogin : (S → Option (List ℕ)) → Socket S → Socket S → Credentials → Type 0
+  ReadsLogin remaining old new l =
+      (bs : List ℕ) × (m : Message) × Reads remaining old new (Ok m) × (content_of m ≡ binary bs) × AreLogin bs l
+
+  -- the login that was read is that of the user at this place
+  abbrev pub Admits : (S → Option (List ℕ)) → List User → Socket S → ℕ → Named → Socket S → Type 0
+  Admits remaining users old place named new =
+      (l : Credentials) × ReadsLogin remaining old new l × (place_of users l.username l.password ≡ Some place) × (named ≡ l.named)
+
+  -- that, or the link fails
+  abbrev pub AdmitsOrFails : (S → Option (List ℕ)) → List User → Socket S → Result (ℕ × Named) LinkFault → Socket S → Type 0
+  AdmitsOrFails remaining users old (Ok r) new = Admits remaining users old r.0 r.1 new
+  AdmitsOrFails remaining users old (Err f) new = Unit {0}
+
+  -- the login of a link on which none was read: it waits for its lane, or the link has failed
+  abbrev pub LogsIn : (S → Option (List ℕ)) → List User → LinkState S → Result ℕ LinkFault → LinkState S → Type 0
+  LogsIn remaining users old (Ok place) new =
+      (named : Named) × Admits remaining users old.socket place named new.socket × (new.login ≡ Some named) × (new.stage ≡ stage.Open)
+  LogsIn remaining users old (Err f) new = (new.stage ≡ stage.Failed) × (new.login ≡ None)
+
+  -- a login: after another, or on a link that is not open, it does nothing
+  abbrev pub LogsInAt : (S → Option (List ℕ)) → List User → Stage → Option Named → LinkState S → Result ℕ LinkFault → LinkState S → Type 0
+  LogsInAt remaining users stage.Open None old r new = LogsIn remaining users old r new
+  LogsInAt remaining users s l old r new = (r ≡ Err Closed) × (new ≡ old)

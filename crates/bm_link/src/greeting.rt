@@ -1,0 +1,155 @@
+//! A worker logs in, and reads how its master answers.
+
+ghost use Rattle.std.specs.Prelude.{◌≡◌, IfOk, IfErr};
+ghost use Rattle.std.specs.Option.{option_copied};
+ghost use Rattle.bm_value.specs.View.{tree};
+ghost use Rattle.bm_msg.specs.Meaning.{meaning};
+ghost use Rattle.bm_link.specs.Greeting.{auth_bytes, IsAnswerOf, IsNoAnswer, AreAnswer, AreNoAnswer, ReadsAnswer, Greets};
+ghost use Rattle.bm_link.specs.Attaching.{IsAttached};
+
+use crate::attaching::Attached;
+use crate::fault::{LinkFault, fault_of};
+use crate::parts::send;
+use bm_lines::Text;
+use bm_msg::{Message, MsgError, Numbered, Request, Response, read, write_request};
+use bm_value::{DecodeError, Value, decode_whole};
+use std::alloc::{AllocError, Global};
+use std::io::{Read, Write};
+use tungstenite::{MaskKeys, Message as Frame, WebSocket};
+
+fn text_of(alloc: Global, text: Option<&str>) -> Result<Option<Text>, AllocError>
+    ensures { IfOk result (λ t. t ≡ option_copied text.entry) }
+{
+    match text {
+        Some(text) => Ok(Some(Text::from_str(alloc, text)?)),
+        None => Ok(None),
+    }
+}
+
+/// The bytes of the login, which is request 0.
+#[tactic(auto, unfolding(crate::specs::Greeting::auth_bytes))]
+fn auth_bytes(
+    alloc: Global,
+    name: &str,
+    password: &str,
+    session: Option<&str>,
+) -> Result<Vec<u8>, AllocError>
+    ensures { IfOk result (λ v. v.items ≡ auth_bytes name.now password.now (option_copied session.entry)) }
+{
+    let request = Request::Auth {
+        username: Text::from_str(alloc, name)?,
+        password: Text::from_str(alloc, password)?,
+        session: text_of(alloc, session)?,
+    };
+    match write_request(alloc, &Numbered { seq: 0, request }) {
+        Ok(bytes) => Ok(bytes),
+        Err(_) => Err(AllocError),
+    }
+}
+
+/// How the value of a response says that the login was taken.
+fn attached_in(value: &Value<Global>) -> Result<Attached, LinkFault>
+    ensures attached { IfOk result (IsAttached (tree value.now)) }
+    ensures fault { IfErr result (λ f. f ≡ LinkFault.BadMessage) }
+{
+    match value {
+        Value::Bool(true) => Ok(Attached::Plain),
+        Value::Str(text) => {
+            let text = text.as_str();
+            if text == "new" {
+                Ok(Attached::New)
+            } else if text == "resumed" {
+                Ok(Attached::Resumed)
+            } else {
+                Err(LinkFault::BadMessage)
+            }
+        }
+        _ => Err(LinkFault::BadMessage),
+    }
+}
+
+/// How a message answers the login.
+fn answered(message: &Message) -> Result<Attached, LinkFault>
+    ensures answer { IfOk result (IsAnswerOf (meaning message.now)) }
+    ensures fault { IfErr result (IsNoAnswer (meaning message.now)) }
+{
+    let Message::Response(
+        Response {
+            seq: 0,
+            result: value,
+            exception,
+            ..
+        },
+    ) = message
+    else {
+        return Err(LinkFault::BadMessage);
+    };
+    if *exception {
+        return Err(LinkFault::BadLogin);
+    }
+    match attached_in(value) {
+        Ok(attached) => Ok(attached),
+        Err(fault) => Err(fault),
+    }
+}
+
+/// How the bytes of a message answer the login.
+fn answer_of_bytes(alloc: Global, bytes: &[u8]) -> Result<Attached, LinkFault>
+    ensures answer { IfOk result (AreAnswer bytes.now) }
+    ensures fault { IfErr result (AreNoAnswer bytes.now) }
+{
+    let tree = match decode_whole(alloc, bytes) {
+        Ok(tree) => tree,
+        Err(DecodeError::Mem) => return Err(LinkFault::Mem),
+        Err(_) => return Err(LinkFault::BadMessage),
+    };
+    match read(alloc, &tree) {
+        Ok(message) => match answered(&message) {
+            Ok(attached) => Ok(attached),
+            Err(fault) => Err(fault),
+        },
+        Err(MsgError::Mem) => Err(LinkFault::Mem),
+        Err(_) => Err(LinkFault::BadMessage),
+    }
+}
+
+/// Reads the answer to the login, which is to be the first message.
+fn read_answer<S: Read + Write + Drop, K: MaskKeys + Drop>(
+    alloc: Global,
+    socket: &mut WebSocket<S, K>,
+) -> Result<Attached, LinkFault>
+    ensures { IfOk result (ReadsAnswer S.remaining socket.old socket.new) }
+{
+    match socket.read() {
+        Ok(Frame::Binary(bytes)) => match answer_of_bytes(alloc, bytes.as_slice()) {
+            Ok(attached) => Ok(attached),
+            Err(fault) => Err(fault),
+        },
+        Ok(Frame::Close(_)) => Err(LinkFault::Closed),
+        Ok(_) => Err(LinkFault::BadMessage),
+        Err(error) => Err(fault_of(&error)),
+    }
+}
+
+/// Sends the login, and reads its answer.
+pub(crate) fn greet<S: Read + Write + Drop, K: MaskKeys + Drop>(
+    alloc: Global,
+    socket: &mut WebSocket<S, K>,
+    name: &str,
+    password: &str,
+    session: Option<&str>,
+) -> Result<Attached, LinkFault>
+    ensures { IfOk result (Greets S.remaining S.contents name.now password.now (option_copied session.entry) socket.old socket.new) }
+{
+    let Ok(bytes) = auth_bytes(alloc, name, password, session) else {
+        return Err(LinkFault::Mem);
+    };
+    match send(alloc, socket, bytes.as_slice()) {
+        Ok(()) => {}
+        Err(fault) => return Err(fault),
+    }
+    match read_answer(alloc, socket) {
+        Ok(attached) => Ok(attached),
+        Err(fault) => Err(fault),
+    }
+}

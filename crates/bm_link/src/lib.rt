@@ -1,0 +1,39 @@
+//! The ends of a WebSocket between a build master and a worker.
+//!
+//! A master's link reads one message a turn, gives its event to the reader's end of a lane, and
+//! writes the answer. A worker's link gives the message to the worker's core, and writes the
+//! response.
+//!
+//! What a master's lane carries from one link of its worker to the next lets a session be resumed:
+//! a link that fails then cuts its lane, and the next one that names the same session takes it up
+//! again and sends the orders without an answer again.
+#![tactic(auto)]
+
+mod asked;
+mod asks;
+mod attaching;
+mod carry;
+mod credentials;
+mod fault;
+mod greeting;
+mod incoming;
+pub mod laws;
+mod limits;
+mod login;
+mod master;
+mod orders;
+mod parts;
+#[cfg(test)]
+mod tests;
+mod user;
+mod worker;
+
+pub use asks::Ask;
+pub use attaching::Attached;
+pub use carry::Carry;
+pub use fault::LinkFault;
+pub use limits::MOST_BYTES;
+pub use master::MasterLink;
+pub use parts::Turn;
+pub use user::User;
+pub use worker::WorkerLink;

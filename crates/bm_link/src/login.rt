@@ -1,0 +1,111 @@
+//! The first message of a connection: the worker's login.
+
+ghost use Rattle.std.specs.Prelude.{IfOk};
+ghost use Rattle.bm_value.specs.View.{tree};
+ghost use Rattle.bm_link.specs.Logins.{IsLoginOf, AreLogin, ReadsLogin, AdmitsOrFails};
+
+use crate::attaching::send_refusal;
+use crate::credentials::{Credentials, Named};
+use crate::fault::{LinkFault, fault_of};
+use crate::user::{User, place_of};
+use bm_msg::{Message, MsgError, Numbered, Request, read};
+use bm_value::{DecodeError, Value, decode_whole};
+use bumpalo::Bump;
+use std::alloc::Global;
+use std::io::{Read, Write};
+use tungstenite::{Message as Frame, NoMask, WebSocket};
+
+/// The login that a tree is. What stays is copied, so the tree may be dropped afterwards.
+fn login_in(alloc: Global, message: &Value<&Bump>) -> Result<Credentials, LinkFault>
+    ensures login { IfOk result (IsLoginOf (tree message.now)) }
+{
+    match read(alloc, message) {
+        Ok(
+            Message::Request(
+                Numbered {
+                    seq,
+                    request: Request::Auth {
+                        username,
+                        password,
+                        session,
+                    },
+                },
+            ),
+        ) => Ok(Credentials {
+            username,
+            password,
+            named: Named { seq, session },
+        }),
+        Ok(_) => Err(LinkFault::BadMessage),
+        Err(MsgError::Mem) => Err(LinkFault::Mem),
+        Err(_) => Err(LinkFault::BadMessage),
+    }
+}
+
+/// The login that bytes are, by a tree in the arena that is gone when the call returns.
+fn login_from(alloc: Global, arena: &Bump, bytes: &[u8]) -> Result<Credentials, LinkFault>
+    ensures login { IfOk result (AreLogin bytes.now) }
+{
+    match decode_whole(arena, bytes) {
+        Ok(tree) => login_in(alloc, &tree),
+        Err(DecodeError::Mem) => Err(LinkFault::Mem),
+        Err(_) => Err(LinkFault::BadMessage),
+    }
+}
+
+/// The login that bytes are. The arena holds the tree during the call, and is reset at its end.
+fn login_of_bytes(alloc: Global, arena: &mut Bump, bytes: &[u8]) -> Result<Credentials, LinkFault>
+    ensures login { IfOk result (AreLogin bytes.now) }
+{
+    let login = login_from(alloc, arena, bytes);
+    match arena.reset() {
+        Ok(()) => login,
+        Err(_) => Err(LinkFault::Arena),
+    }
+}
+
+/// Reads the first message, which is to be a login.
+fn read_login<S: Read + Write + Drop>(
+    alloc: Global,
+    arena: &mut Bump,
+    socket: &mut WebSocket<S, NoMask>,
+) -> Result<Credentials, LinkFault>
+    ensures { IfOk result (ReadsLogin S.remaining socket.old socket.new) }
+{
+    match socket.read() {
+        Ok(Frame::Binary(bytes)) => match login_of_bytes(alloc, arena, bytes.as_slice()) {
+            Ok(login) => Ok(login),
+            Err(fault) => Err(fault),
+        },
+        Ok(Frame::Close(_)) => {
+            // The answer to the close may not leave, since the link ends all the same.
+            let _ = socket.flush();
+            Err(LinkFault::Closed)
+        }
+        Ok(_) => Err(LinkFault::BadMessage),
+        Err(error) => Err(fault_of(&error)),
+    }
+}
+
+/// Reads the login, and finds its user. A login of no user is told so.
+pub(crate) fn admit<S: Read + Write + Drop>(
+    alloc: Global,
+    arena: &mut Bump,
+    socket: &mut WebSocket<S, NoMask>,
+    users: &[User],
+) -> Result<(usize, Named), LinkFault>
+    ensures { AdmitsOrFails S.remaining users.now socket.old result socket.new }
+{
+    let credentials = match read_login(alloc, arena, socket) {
+        Ok(credentials) => credentials,
+        Err(fault) => return Err(fault),
+    };
+    let username = credentials.username.as_str();
+    match place_of(users, username, credentials.password.as_str()) {
+        Some(place) => Ok((place, credentials.named)),
+        None => {
+            send_refusal(alloc, socket, credentials.named.seq, "bad login");
+            Err(LinkFault::BadLogin)
+        }
+    }
+}

@@ -1,0 +1,143 @@
+//! A worker's link over memory.
+
+use super::{AGREED, AUTH, BAD_LOGIN, CLOSE, DONE, ORDER, Script, TEXT, TRUE, script_of};
+use crate::*;
+use bm_lines::Letter;
+use bm_work::{WorkAct, Worker};
+use bumpalo::Bump;
+use std::alloc::{AllocError, Global};
+use std::io;
+use std::random::RandomSource;
+use std::test::Fail;
+use tungstenite::RandomKeys;
+
+/// A source of zeros.
+#[derive(Drop)]
+pub(crate) struct Zeros {}
+
+impl RandomSource for Zeros {
+    fn fill_bytes(&self, buf: &mut [u8]) -> io::Result<()> {
+        buf.fill(0);
+        Ok(())
+    }
+}
+
+type Link = WorkerLink<Script, RandomKeys<Zeros>>;
+
+/// A worker, its link, and the arena of its messages.
+#[derive(Drop)]
+pub(crate) struct Bench {
+    alloc: Global,
+    link: Link,
+    attached: Attached,
+    arena: Bump,
+    core: Worker,
+}
+
+impl Bench {
+    /// A worker whose link reads these messages after the handshake.
+    pub fn new(alloc: Global, messages: &[&[u8]]) -> Result<Bench, LinkFault> {
+        let Ok(stream) = script_of(alloc, AGREED, messages) else {
+            return Err(LinkFault::Mem);
+        };
+        match WorkerLink::connect(alloc, Zeros {}, stream, "w0", "p", None) {
+            Ok((link, attached)) => Ok(Bench {
+                alloc,
+                link,
+                attached,
+                arena: Bump::new(alloc),
+                core: Worker::new(alloc),
+            }),
+            Err(fault) => Err(fault),
+        }
+    }
+
+    /// The worker logged in plainly, and this is the last that it wrote.
+    fn is_plain(&self) -> bool {
+        self.attached == Attached::Plain && self.wrote(AUTH)
+    }
+
+    fn wrote(&self, bytes: &[u8]) -> bool {
+        self.link.stream().output.ends_with(bytes)
+    }
+
+    /// A turn whose order runs command 0.
+    pub fn runs(&mut self) -> bool {
+        match self.link.turn(self.alloc, &mut self.arena, &mut self.core) {
+            Ok((Turn::Heard, WorkAct::Run { command: 0, .. })) => true,
+            _ => false,
+        }
+    }
+
+    /// A turn that says that the link is closed.
+    fn ends(&mut self) -> bool {
+        match self.link.turn(self.alloc, &mut self.arena, &mut self.core) {
+            Err(LinkFault::Closed) => true,
+            _ => false,
+        }
+    }
+
+    /// The worker says a line of command 0.
+    pub fn says(&mut self) -> bool {
+        match self.core.say(0, Letter::O, "a\n") {
+            Ok(sent) => self.link.send(self.alloc, &sent).is_ok(),
+            Err(_) => false,
+        }
+    }
+
+    /// All that it wrote.
+    pub fn output(&self) -> Result<Vec<u8>, AllocError> {
+        Vec::from_slice(self.alloc, &self.link.stream().output)
+    }
+}
+
+/// How a worker is refused that is answered so.
+fn refusal(alloc: Global, messages: &[&[u8]]) -> Option<LinkFault> {
+    match Bench::new(alloc, messages) {
+        Ok(_) => None,
+        Err(fault) => Some(fault),
+    }
+}
+
+#[test]
+fn answers_to_a_login(rt: HostRuntime) -> Result<(), Fail> {
+    static ANSWERS: [(&[&[u8]], LinkFault); 5] = [
+        (&[BAD_LOGIN], LinkFault::BadLogin),
+        (&[TEXT], LinkFault::BadMessage),
+        (&[ORDER], LinkFault::BadMessage),
+        (&[CLOSE], LinkFault::Closed),
+        (&[], LinkFault::Closed),
+    ];
+    for (messages, fault) in &ANSWERS {
+        assert!(rt; refusal(rt.alloc(), messages) == Some(*fault), "{fault}");
+    }
+    Ok(())
+}
+
+/// Whether a worker that runs an order ends where these messages come last, and was told a close
+/// frame or not.
+fn is_closed_by(alloc: Global, last: &[u8], closed: bool) -> bool {
+    match Bench::new(alloc, &[TRUE, ORDER, last]) {
+        Ok(mut bench) => bench.ends_as(closed),
+        Err(_) => false,
+    }
+}
+
+impl Bench {
+    fn ends_as(&mut self, closed: bool) -> bool {
+        self.is_plain()
+            && self.runs()
+            && self.wrote(DONE)
+            && !self.link.closed()
+            && self.ends()
+            && self.ends()
+            && self.link.closed() == closed
+    }
+}
+
+#[test]
+fn a_close_frame_is_told(rt: HostRuntime) -> Result<(), Fail> {
+    assert!(rt; is_closed_by(rt.alloc(), CLOSE, true));
+    assert!(rt; is_closed_by(rt.alloc(), b"".as_slice(), false));
+    Ok(())
+}

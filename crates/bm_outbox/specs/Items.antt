@@ -1,0 +1,50 @@
+-- What waits to be told, and what telling it does to the worker's core.
+use Rattle.std.specs.Prelude.{◌≡◌, ◌==◌, ℕ, ℤ, not, List, [], ◌∷◌, ◌++◌, length, filter, codes, Some, Result, Ok, Err}
+use Rattle.std.specs.declared.alloc.AllocError.{AllocError}
+use Rattle.bm_work.specs.Core.{Core, next_number, refusal, with_reports, without_command}
+use Rattle.bm_work.specs.Reports.{reports_of}
+use Rattle.bm_work.specs.Stream.{Report, text, stream_from}
+use Rattle.bm_work.specs.declared.act.WorkRefusal.TheVariants.{NoSuchCommand, Window}
+use Rattle.bm_work.specs.declared.sent.Finish.{Finish}
+use Rattle.bm_work.specs.declared.sent.Finish.TheVariants.{Rc, Fault}
+use Rattle.bm_outbox.specs.declared.ending.Ending.{Ending}
+use Rattle.bm_outbox.specs.declared.ending.Ending.TheVariants as ending
+use Rattle.bm_outbox.specs.declared.item.Item.{Item}
+use Rattle.bm_outbox.specs.declared.item.Item.TheVariants as item
+use Rattle.bm_outbox.specs.declared.outbox.Told.{Told}
+use Rattle.bm_outbox.specs.declared.outbox.Told.TheVariants as told
+
+-- what a master is told of an end: an exit code, or the text of a fault
+abbrev pub finish_of : Ending → Finish
+finish_of (ending.Code z) = Rc z
+finish_of ending.CannotStart = Fault (codes "cannot start")
+finish_of ending.Interrupted = Fault (codes "interrupted")
+finish_of ending.NoMemory = Fault (codes "out of memory")
+
+abbrev pub command_of : Item → ℕ
+command_of (item.Text k said) = k
+command_of (item.End k e) = k
+
+-- what the worker reports of it
+abbrev pub reports_in : Item → List Report
+reports_in (item.Text k said) = text k said.letter said.text ∷ []
+reports_in (item.End k e) = reports_of k (finish_of e)
+
+-- the core that has reported it: after its end a command runs no more
+abbrev pub told_core : Item → Core → Core
+told_core (item.Text k said) c = with_reports (text k said.letter said.text ∷ []) c
+told_core (item.End k e) c = without_command k (with_reports (reports_of k (finish_of e)) c)
+
+-- telling an item: its requests have the next numbers; or the window lacks the places, or its command runs no more,
+-- and nothing changed
+abbrev pub Tells : Item → Core → Result Told AllocError → Core → Type 0
+Tells i c (Ok (told.Text s)) c2 = (s ∷ [] ≡ stream_from (next_number c) (reports_in i)) × (c2 ≡ told_core i c)
+Tells i c (Ok (told.End v)) c2 = (v.items ≡ stream_from (next_number c) (reports_in i)) × (c2 ≡ told_core i c)
+Tells i c (Ok told.Full) c2 = (refusal c (command_of i) (length (reports_in i)) ≡ Some Window) × (c2 ≡ c)
+Tells i c (Ok told.Passed) c2 = (refusal c (command_of i) (length (reports_in i)) ≡ Some NoSuchCommand) × (c2 ≡ c)
+Tells i c (Ok told.Nothing) c2 = ⊥
+Tells i c (Err e) c2 = c2 ≡ c
+
+-- what waits of the other commands
+abbrev pub without : ℕ → List Item → List Item
+without k waiting = filter (λ i. not (command_of i == k)) waiting

@@ -1,0 +1,6 @@
+pub mod Items
+pub mod Telling
+pub mod Joining
+pub mod Headers
+pub mod Pipes
+pub mod Pieces

@@ -1,0 +1,26 @@
+//! What a worker tells its master of its commands, and in which order: the texts of their pipes, joined,
+//! and their ends. Nothing here knows sockets, processes or threads.
+#![tactic(auto)]
+
+mod ending;
+mod item;
+mod joining;
+mod outbox;
+mod pipe_texts;
+mod pipes;
+mod said;
+mod session;
+#[cfg(test)]
+mod tests;
+mod tries;
+mod words;
+
+pub use ending::Ending;
+pub use item::Item;
+pub use outbox::{Outbox, Told};
+pub use pipe_texts::PipeTexts;
+pub use pipes::Pipes;
+pub use said::{MOST_BYTES, Said};
+pub use session::begin;
+pub use tries::Tries;
+pub use words::{exit_line, words_line};

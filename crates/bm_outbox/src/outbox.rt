@@ -1,0 +1,143 @@
+//! What waits to be told, in its order.
+
+ghost use Rattle.std.specs.Prelude.{◌≡◌, ◌==◌, ◌∷◌, ◌++◌, [], length, OnOk, OnErr};
+ghost use Rattle.bm_outbox.specs.Items.{without, Tells};
+ghost use Rattle.bm_outbox.specs.Telling.{TellsNext};
+
+use crate::ending::Ending;
+use crate::item::Item;
+use bm_work::{Sent, WorkRefusal, Worker};
+use std::alloc::{AllocError, Global};
+use std::collections::VecDeque;
+use std::marker::Model;
+
+/// What comes of telling what waits first.
+#[derive(Drop)]
+pub enum Told {
+    /// Nothing waits.
+    Nothing,
+    /// The window lacks the places: it waits on.
+    Full,
+    /// Its command runs no more: it is passed over.
+    Passed,
+    /// The request that says a text.
+    Text(Sent),
+    /// The requests that tell of an end.
+    End(Vec<Sent>),
+}
+
+/// What waits to be told of all commands, oldest first.
+#[derive(Drop)]
+pub struct Outbox {
+    waiting: VecDeque<Item>,
+}
+
+impl Model for Outbox {
+    ghost use Rattle.std.specs.Prelude.{List};
+    ghost use Rattle.bm_outbox.specs.declared.item.Item.{Item as Waiting};
+
+    ghost Value = { List Waiting };
+
+    ghost view = { λ o. o.waiting.items };
+}
+
+impl Outbox {
+    /// Nothing waits.
+    pub fn new(alloc: Global) -> Outbox
+        ensures { result ≡ [] }
+    {
+        Outbox {
+            waiting: VecDeque::new(alloc),
+        }
+    }
+
+    /// Whether nothing waits.
+    pub fn is_empty(&self) -> bool
+        ensures { result ≡ (length self.now == 0) }
+    {
+        self.waiting.is_empty()
+    }
+
+    /// Puts an item behind the others. Want of memory changes nothing.
+    pub fn push(&mut self, item: Item) -> Result<(), AllocError>
+        ensures ok { OnOk result (self.new ≡ self.old ++ item ∷ []) }
+        ensures err { OnErr result (self.new ≡ self.old) }
+    {
+        match self.waiting.push_back(item) {
+            Ok(()) => Ok(()),
+            Err(_) => Err(AllocError),
+        }
+    }
+
+    /// Ends a command at once: what waits of it is given up, and how it ended waits behind the others. At want of
+    /// memory its end doesn't wait.
+    pub fn cut_short(&mut self, command: u64, ending: Ending) -> Result<(), AllocError>
+        ensures ok { OnOk result (self.new ≡ without command self.old ++ Item.End command ending ∷ []) }
+        ensures err { OnErr result (self.new ≡ without command self.old) }
+    {
+        give_up(&mut self.waiting, command);
+        match self.waiting.push_back(Item::End { command, ending }) {
+            Ok(()) => Ok(()),
+            Err(_) => Err(AllocError),
+        }
+    }
+
+    /// Forgets all that waits.
+    pub fn clear(&mut self)
+        ensures { self.new ≡ [] }
+    {
+        self.waiting.clear();
+    }
+
+    /// Tells what waits first, by the worker's core. What can't be told yet waits on.
+    ///
+    /// # Errors
+    ///
+    /// Want of memory. Nothing was changed.
+    pub fn tell(&mut self, alloc: Global, worker: &mut Worker) -> Result<Told, AllocError>
+        ensures { TellsNext self.old worker.old result self.new worker.new }
+    {
+        let Some(item) = self.waiting.front() else {
+            return Ok(Told::Nothing);
+        };
+        match tell_item(alloc, worker, item) {
+            Ok(Told::Full) => Ok(Told::Full),
+            Ok(told) => {
+                self.waiting.pop_front();
+                Ok(told)
+            }
+            Err(error) => Err(error),
+        }
+    }
+}
+
+/// Gives up what waits of a command.
+fn give_up(waiting: &mut VecDeque<Item>, command: u64)
+    ensures { waiting.new.items ≡ without command waiting.old.items }
+{
+    waiting.retain(|item| item.command() != command);
+}
+
+/// Tells an item by the worker's core.
+fn tell_item(alloc: Global, worker: &mut Worker, item: &Item) -> Result<Told, AllocError>
+    ensures { Tells item.now worker.old result worker.new }
+{
+    match item {
+        Item::Text { command, said } => {
+            match worker.say(*command, said.letter, said.text.as_str()) {
+                Ok(sent) => Ok(Told::Text(sent)),
+                Err(WorkRefusal::NoSuchCommand) => Ok(Told::Passed),
+                Err(WorkRefusal::Window) => Ok(Told::Full),
+                Err(WorkRefusal::Mem) => Err(AllocError),
+            }
+        }
+        Item::End { command, ending } => {
+            match worker.finish(*command, ending.finish(alloc)?) {
+                Ok(requests) => Ok(Told::End(requests)),
+                Err(WorkRefusal::NoSuchCommand) => Ok(Told::Passed),
+                Err(WorkRefusal::Window) => Ok(Told::Full),
+                Err(WorkRefusal::Mem) => Err(AllocError),
+            }
+        }
+    }
+}
