@@ -1,0 +1,197 @@
+-- The configuration that a table makes, or the first key at fault, in the order of the keys below and of the arrays.
+use Rattle.std.specs.Prelude.{◌≡◌, ℕ, nat_le, ◌&&◌, ◌||◌, ◌==◌, Bool, true, false, if◌then◌else◌, List, [], ◌∷◌, length, sum_by, position, bytes_eq, codes, string_bytes, Option, Some, None, is_some, option_and_then, option_map, Result, Ok, Err}
+use Rattle.std.specs.List.{list_any, list_all, filter_map}
+use Rattle.std.specs.declared.net.socket_addr.SocketAddr.{SocketAddr}
+use Rattle.toml.specs.Data.{Data, Members, as_str, as_table}
+use Rattle.toml.specs.Parse.{parse_document}
+use Rattle.bm_board.specs.declared.plan.Mode.{Mode}
+use Rattle.bm_board.specs.declared.plan.Mode.TheVariants.{Counting, Exclusive}
+use Rattle.bm_board.specs.declared.plan.LockUse.{LockUse}
+use Rattle.bm_board.specs.declared.plan.StepPlan.{StepPlan}
+use Rattle.bm_board.specs.declared.plan.Build.{Build}
+use Rattle.bm_config.specs.declared.keys.Key.{Key}
+use Rattle.bm_config.specs.declared.keys.Key.TheVariants as keys
+use Rattle.bm_config.specs.declared.fault.ConfigFault.{ConfigFault}
+use Rattle.bm_config.specs.declared.fault.ConfigFault.TheVariants as faults
+use Rattle.bm_config.specs.Keys.{name_of}
+use Rattle.bm_config.specs.declared.config.Config.{Config}
+use Rattle.bm_config.specs.declared.config.WorkerConfig.{WorkerConfig}
+use Rattle.bm_config.specs.declared.config.LockConfig.{LockConfig}
+use Rattle.bm_config.specs.Fields.{find, or_fault, meant_or, text_at, number_at, flag_at, text_in, IsAddressOf}
+use Rattle.bm_config.specs.Rows.{and_then, table_of, elements, tables_at, tables_or_none, few_tables, rows}
+
+-- the most that a number of ticks, and a lock's maximum, may be
+abbrev pub most : ℕ
+most = 0x7fff_ffff
+
+-- the text at a key, where it is one that the key takes
+abbrev pub named : {A : Type 0} → Key → (List ℕ → Option A) → Members → Result A Key
+named key meaning members = and_then (text_at key members) (λ text. or_fault key (meaning text))
+
+-- a worker's name: not empty, and not that of one before it
+abbrev pub new_worker : List WorkerConfig → List ℕ → Option (List ℕ)
+new_worker before name =
+    if length name == 0 || list_any (λ w. bytes_eq w.name name) before then None else Some name
+
+-- a lock's name: not that of one before it
+abbrev pub new_lock : List LockConfig → List ℕ → Option (List ℕ)
+new_lock before name = if list_any (λ l. bytes_eq l.name name) before then None else Some name
+
+abbrev pub is_text : Data → Bool
+is_text d = is_some (as_str d)
+
+-- the elements of an array of texts, at least one
+abbrev pub text_array : Data → Option (List Data)
+text_array d =
+    option_and_then (λ ds. if nat_le 1 (length ds) && list_all is_text ds then Some ds else None)
+    (elements d)
+
+-- the texts among the elements
+abbrev pub texts_of : List Data → List (List ℕ)
+texts_of ds = filter_map as_str ds
+
+-- the program that starts a worker
+abbrev pub program : Data → Option (Option (List (List ℕ)))
+program d = option_map (λ ds. Some (texts_of ds)) (text_array d)
+
+abbrev pub program_at : Members → Result (Option (List (List ℕ))) Key
+program_at m = meant_or keys.Latent None program (find keys.Latent m)
+
+-- the words of a step: at most 10,000, of at most 900,000 bytes together
+abbrev pub command : Data → Option (List (List ℕ))
+command d =
+    option_and_then (λ ds. if nat_le (length ds) 10000 && nat_le (sum_by length (texts_of ds)) 900000
+    then Some (texts_of ds) else None) (text_array d)
+
+abbrev pub command_at : Members → Result (List (List ℕ)) Key
+command_at m = or_fault keys.Command (option_and_then command (find keys.Command m))
+
+-- a worker after those before it
+abbrev pub worker_row : List WorkerConfig → Data → Result WorkerConfig Key
+worker_row before d =
+    and_then (table_of keys.Worker d) (λ m.
+    and_then (named keys.Name (new_worker before) m) (λ name.
+    and_then (text_at keys.Password m) (λ password.
+    and_then (number_at 1 4 1 keys.Slots m) (λ slots.
+    and_then (program_at m) (λ latent.
+    and_then (number_at 1 most 100 keys.IdleTicks m) (λ idle.
+    and_then (number_at 0 most 0 keys.ResumeTicks m) (λ resume.
+    Ok (record {
+      name = name;
+      password = password;
+      slots = slots;
+      latent = latent;
+      idle_ticks = idle;
+      resume_ticks = resume;
+    }))))))))
+
+-- a lock after those before it
+abbrev pub lock_row : List LockConfig → Data → Result LockConfig Key
+lock_row before d =
+    and_then (table_of keys.Lock d) (λ m.
+    and_then (named keys.Name (new_lock before) m) (λ name.
+    and_then (number_at 1 most 1 keys.Max m) (λ max.
+    Ok (record { name = name; max = max }))))
+
+-- the place of the lock that has the name and that no use before names
+abbrev pub free_lock : List LockConfig → List LockUse → List ℕ → Option ℕ
+free_lock locks before name =
+    option_and_then (λ place. if list_any (λ u. u.lock == place) before then None else Some place)
+    (position (λ l. bytes_eq l.name name) locks)
+
+-- a mode by its name
+abbrev pub mode_of : List ℕ → Option Mode
+mode_of text =
+    if bytes_eq text (codes "counting") then Some Counting
+    else (if bytes_eq text (codes "exclusive") then Some Exclusive else None)
+
+-- the place of the worker that has the name
+abbrev pub worker_named : List WorkerConfig → List ℕ → Option ℕ
+worker_named workers name = position (λ w. bytes_eq w.name name) workers
+
+-- a lock that a build holds, after those before it
+abbrev pub use_row : List LockConfig → List LockUse → Data → Result LockUse Key
+use_row locks before d =
+    and_then (table_of keys.Locks d) (λ m.
+    and_then (named keys.Name (free_lock locks before) m) (λ lock.
+    and_then (named keys.Mode mode_of m) (λ mode.
+    Ok (record { lock = lock; mode = mode }))))
+
+-- a step of a build
+abbrev pub step_row : List StepPlan → Data → Result StepPlan Key
+step_row before d =
+    and_then (table_of keys.Step d) (λ m.
+    and_then (text_at keys.Name m) (λ name.
+    and_then (command_at m) (λ argv.
+    and_then (flag_at false keys.HaltOnFailure m) (λ halt.
+    and_then (flag_at true keys.FlunkOnFailure m) (λ flunk.
+    and_then (flag_at false keys.AlwaysRun m) (λ always.
+    Ok (record {
+      name = name;
+      argv = argv;
+      halt_on_failure = halt;
+      flunk_on_failure = flunk;
+      always_run = always;
+    })))))))
+
+-- the locks that a build holds, and its steps
+abbrev pub uses_of : List LockConfig → Members → Result (List LockUse) Key
+uses_of locks m = and_then (tables_or_none keys.Locks m) (rows (use_row locks))
+
+abbrev pub steps_of : Members → Result (List StepPlan) Key
+steps_of m = and_then (tables_or_none keys.Step m) (rows step_row)
+
+-- a build over the workers and the locks
+abbrev pub build_row : List WorkerConfig → List LockConfig → List Build → Data → Result Build Key
+build_row workers locks before d =
+    and_then (table_of keys.Build d) (λ m.
+    and_then (named keys.Worker (worker_named workers) m) (λ worker.
+    and_then (uses_of locks m) (λ uses.
+    and_then (steps_of m) (λ steps.
+    Ok (record { worker = worker; locks = uses; steps = steps })))))
+
+-- the workers, the locks and the builds of a table
+abbrev pub workers_of : Members → Result (List WorkerConfig) Key
+workers_of m = and_then (tables_at 1 64 keys.Worker m) (rows worker_row)
+
+abbrev pub locks_of : Members → Result (List LockConfig) Key
+locks_of m = and_then (tables_or_none keys.Lock m) (rows lock_row)
+
+abbrev pub builds_of : List WorkerConfig → List LockConfig → Members → Result (List Build) Key
+builds_of workers locks m = and_then (few_tables 10000 keys.Build m) (rows (build_row workers locks))
+
+-- the configuration of a table, with the addresses that its texts write
+abbrev pub config_of : Option SocketAddr → Option SocketAddr → Members → Result Config Key
+config_of listen web m =
+    and_then (or_fault keys.Listen listen) (λ listen.
+    and_then (or_fault keys.Web web) (λ web.
+    and_then (number_at 1 65536 64 keys.Capacity m) (λ capacity.
+    and_then (number_at 1 64 2 keys.Writers m) (λ writers.
+    and_then (workers_of m) (λ workers.
+    and_then (locks_of m) (λ locks.
+    and_then (builds_of workers locks m) (λ builds.
+    Ok (record {
+      listen = listen;
+      web = web;
+      capacity = capacity;
+      writers = writers;
+      workers = workers;
+      locks = locks;
+      builds = builds;
+    }))))))))
+
+-- a text says this: it is TOML, and its table makes the configuration or has the key at fault
+pub record Says (text : List ℕ) (said : Result Config Key) : Type 0 where
+  pub table : Members
+  pub listen : Option SocketAddr
+  pub web : Option SocketAddr
+  pub parsed : parse_document text ≡ Some table
+  pub listens : IsAddressOf (text_in keys.Listen table) listen
+  pub serves : IsAddressOf (text_in keys.Web table) web
+  pub says : config_of listen web table ≡ said
+
+-- the fault is the text's: no TOML, or the first key at fault; of want of memory nothing is said
+abbrev pub IsFaultOf : List ℕ → ConfigFault → Type 0
+IsFaultOf text faults.Syntax = parse_document text ≡ None
+IsFaultOf text (faults.Key told) = (key : Key) × ((string_bytes told ≡ name_of key) × Says text (Err key))
+IsFaultOf text faults.Mem = Unit {0}

@@ -1,0 +1,22 @@
+//! The configuration of a build master: what a text in TOML (toml.io, version 1.1) says of its
+//! addresses, workers, locks
+//! and builds, or the first key at fault.
+#![tactic(auto)]
+
+mod builds;
+mod config;
+mod fault;
+mod fields;
+mod keys;
+mod reading;
+mod rows;
+mod words;
+mod workers;
+
+pub use config::{Config, LockConfig, WorkerConfig};
+pub use fault::ConfigFault;
+pub use keys::Key;
+pub use reading::read_config;
+
+#[cfg(test)]
+mod tests;

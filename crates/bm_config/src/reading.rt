@@ -1,0 +1,83 @@
+//! The configuration that a text says.
+
+ghost use Rattle.std.specs.Prelude.{◌≡◌, MatchResult, Ok};
+ghost use Rattle.toml.specs.View.{table_view};
+ghost use Rattle.bm_config.specs.Rows.{Gives};
+ghost use Rattle.bm_config.specs.Config.{Says, IsFaultOf, config_of};
+
+use crate::builds::{Places, builds};
+use crate::config::Config;
+use crate::fault::{ConfigFault, Fault};
+use crate::fields::{Limits, address, number};
+use crate::keys::Key;
+use crate::workers::{locks, workers};
+use std::alloc::Global;
+use std::net::SocketAddr;
+use toml::Table;
+
+const CAPACITY: Limits = Limits {
+    low: 1,
+    high: 65_536,
+    missing: 64,
+};
+
+const WRITERS: Limits = Limits {
+    low: 1,
+    high: 64,
+    missing: 2,
+};
+
+/// The configuration that a text says, or why it says none: the text is no TOML, or the first key
+/// at fault, in the order of [`Key`] and of the arrays.
+pub fn read_config(alloc: Global, text: &str) -> Result<Config, ConfigFault>
+    ensures { MatchResult result (λ c. Says text.now (Ok c)) (IsFaultOf text.now) }
+{
+    let table = match toml::table_from_str(alloc, text) {
+        Ok(table) => table,
+        Err(e) if e.is_memory() => return Err(ConfigFault::Mem),
+        Err(_) => return Err(ConfigFault::Syntax),
+    };
+    let listen = address(&table, Key::Listen);
+    let web = address(&table, Key::Web);
+    match config_in(alloc, &table, listen, web) {
+        Ok(config) => Ok(config),
+        Err(Fault::At(key)) => match String::from_str(alloc, key.name()) {
+            Ok(name) => Err(ConfigFault::Key(name)),
+            Err(_) => Err(ConfigFault::Mem),
+        },
+        Err(Fault::Mem) => Err(ConfigFault::Mem),
+    }
+}
+
+// The configuration of a table, with the addresses that its texts write.
+fn config_in(
+    alloc: Global,
+    table: &Table,
+    listen: Option<SocketAddr>,
+    web: Option<SocketAddr>,
+) -> Result<Config, Fault>
+    ensures { Gives (config_of listen web (table_view table.now)) result }
+{
+    let Some(listen) = listen else {
+        return Err(Fault::At(Key::Listen));
+    };
+    let Some(web) = web else {
+        return Err(Fault::At(Key::Web));
+    };
+    let capacity = number(table, Key::Capacity, CAPACITY)?;
+    let writers = number(table, Key::Writers, WRITERS)?;
+    let workers = workers(alloc, table)?;
+    let locks = locks(alloc, table)?;
+    let places = Places { workers, locks };
+    let builds = builds(alloc, &places, table)?;
+    let Places { workers, locks } = places;
+    Ok(Config {
+        listen,
+        web,
+        capacity,
+        writers,
+        workers,
+        locks,
+        builds,
+    })
+}
