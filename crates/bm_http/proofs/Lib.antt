@@ -1,0 +1,9 @@
+pub mod Seeks
+pub mod Finds
+pub mod Walks
+pub mod Hosts
+pub mod Texts
+pub mod Digits
+pub mod Pairs
+pub mod Asking
+pub mod Once

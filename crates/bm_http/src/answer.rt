@@ -1,0 +1,49 @@
+//! Answers to requests.
+ghost use Rattle.std.specs.Prelude.{◌≡◌, IfOk, string_bytes};
+ghost use Rattle.bm_http.specs.Shown.{reply_of};
+ghost use Rattle.bm_http.specs.Replies.{page as page_reply, refusal as refusal_reply};
+ghost use Rattle.bm_http.specs.Replies.{unavailable as unavailable_reply};
+
+use crate::bodies;
+use crate::refusal::Refusal;
+use std::alloc::{AllocError, Global};
+
+/// What a request is answered.
+#[derive(Debug, Drop)]
+pub struct Answer {
+    /// The status code.
+    pub status: u16,
+    /// The bytes of the body: compact JSON, or nothing under 503.
+    pub body: Vec<u8>,
+}
+
+impl Answer {
+    pub(crate) fn page(body: String) -> Answer
+        ensures { reply_of result ≡ page_reply (string_bytes body) }
+    {
+        Answer {
+            status: 200,
+            body: body.into_bytes(),
+        }
+    }
+
+    pub(crate) fn refusal(alloc: Global, refusal: Refusal) -> Result<Answer, AllocError>
+        ensures { IfOk result (λ a. reply_of a ≡ refusal_reply refusal) }
+    {
+        let body = bodies::refusal(alloc, refusal.text())?;
+        Ok(Answer {
+            status: refusal.status(),
+            body: body.into_bytes(),
+        })
+    }
+
+    /// The answer that takes no memory: 503 with no body.
+    pub fn unavailable(alloc: Global) -> Answer
+        ensures { reply_of result ≡ unavailable_reply }
+    {
+        Answer {
+            status: 503,
+            body: Vec::new(alloc),
+        }
+    }
+}

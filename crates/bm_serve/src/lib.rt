@@ -1,0 +1,11 @@
+//! The chunk server over HTTP/1.1: connections are taken in, so many at once, and served until a stop.
+#![tactic(auto)]
+
+mod admission;
+mod connections;
+mod pages;
+mod serving;
+mod site;
+
+pub use serving::{Limits, serve};
+pub use site::{Answering, Site};

@@ -1,0 +1,13 @@
+//! Tests of the chunk server: answers over real lanes byte for byte, and the same over the loopback.
+#![tactic(auto)]
+
+#[cfg(test)]
+mod answers;
+#[cfg(test)]
+mod clients;
+#[cfg(test)]
+mod lanes;
+#[cfg(test)]
+mod rows;
+#[cfg(test)]
+mod visits;
