@@ -1,0 +1,65 @@
+//! The worker against a master of the tests, over the loopback.
+
+mod master;
+mod rows;
+mod words;
+
+use crate::run::work_run;
+use master::Master;
+use std::alloc::AllocGlobal;
+use std::net::{Net, SocketAddr, TcpListener, TcpStream};
+use std::process::{Processes, SystemProcess};
+use std::random::RandomSource;
+use std::sync::Wait;
+use std::test::Fail;
+use std::thread;
+use std::thread::Threads;
+use std::time::{Clock, Duration};
+
+/// A connection with the address. Small messages leave at once, and a read waits for 5 ms.
+fn dial<R: Net<Stream = TcpStream>>(rt: &R, address: SocketAddr) -> Option<TcpStream> {
+    let stream = TcpStream::connect(rt, address).ok()?;
+    stream.set_nodelay(true).ok()?;
+    stream
+        .set_read_timeout(Some(Duration::from_millis(5)))
+        .ok()?;
+    Some(stream)
+}
+
+/// Lets a worker work for the master that the script is, and answers what the worker's status was.
+pub fn status_under<R, F>(rt: R, script: F) -> Result<u8, Fail>
+where
+    R: Wait
+        + Threads
+        + Clock
+        + RandomSource
+        + AllocGlobal
+        + Net<Listener = TcpListener, Stream = TcpStream>
+        + Processes<Started = SystemProcess>
+        + Copy
+        + Drop
+        + Send
+        + Sync
+        + 'static,
+    F: FnOnce(&mut Master) -> Option<()>,
+    requires { F.IsAlwaysCallable script }
+{
+    let listener = TcpListener::bind(&rt, "127.0.0.1:0")?;
+    let address = listener.local_addr()?;
+    let worker = thread::spawn(&rt, move || {
+        let mut is_first = true;
+        let dial = || {
+            let stream = if is_first { dial(&rt, address) } else { None };
+            is_first = false;
+            stream
+        };
+        work_run(&rt, dial, "w0", "p", None)
+    })?;
+    let (stream, _) = listener.accept()?;
+    let mut master = Master::accept(rt.alloc(), stream).ok_or("no login")?;
+    let done = script(&mut master);
+    drop(master);
+    let status = worker.join(&rt);
+    done.ok_or("the script met its end")?;
+    Ok(status)
+}

@@ -1,0 +1,225 @@
+//! A master of a test: it logs a worker in, orders commands, answers each request and keeps what it
+//! was told.
+
+ghost use Rattle.std.specs.Prelude.{◌<◌, ◌^◌};
+
+use crate::patient::Patient;
+use bm_lines::{Letter, Text};
+use bm_msg::{Field, Message, Numbered, Request, read, write_answer, write_request};
+use bm_value::{Items, Pair, Pairs, Value, decode_whole};
+use std::alloc::Global;
+use std::net::TcpStream;
+use std::sync::Arc;
+use std::sync::atomic::AtomicBool;
+use std::time::Duration;
+use tungstenite::{Message as Frame, NoMask, WebSocket};
+
+/// The most messages that a script waits for.
+const MOST_MESSAGES: u32 = 10_000;
+
+/// How the login is answered: true to request 0.
+const TRUE: &[u8] = b"\x83\xaaseq_number\0\xa2op\xa8response\xa6result\xc3";
+
+type Socket = WebSocket<Patient<TcpStream>, NoMask>;
+
+/// A master's end of a connection with a worker that has logged in.
+#[derive(Drop)]
+pub struct Master {
+    alloc: Global,
+    socket: Socket,
+    orders: u64,
+    /// What was said of all commands: for each text its letter and the text.
+    pub said: String,
+    /// The exit codes that were told.
+    pub codes: Vec<i128>,
+    /// The faults that were told.
+    pub faults: Vec<Text>,
+    /// How many commands have ended.
+    pub ended: usize,
+    /// How many exceptions were answered.
+    pub refused: usize,
+}
+
+impl Master {
+    /// Logs the worker in.
+    pub fn accept(alloc: Global, stream: TcpStream) -> Option<Master> {
+        let mut master = Master::over(alloc, agreed(alloc, stream)?);
+        master.log_in()?;
+        Some(master)
+    }
+
+    /// A master that was told nothing.
+    fn over(alloc: Global, socket: Socket) -> Master {
+        Master {
+            alloc,
+            socket,
+            orders: 0,
+            said: String::new(alloc),
+            codes: Vec::new(alloc),
+            faults: Vec::new(alloc),
+            ended: 0,
+            refused: 0,
+        }
+    }
+
+    fn log_in(&mut self) -> Option<()> {
+        let message = self.read()?;
+        if is_login(&message) {
+            self.send(TRUE)
+        } else {
+            None
+        }
+    }
+
+    fn send(&mut self, bytes: &[u8]) -> Option<()> {
+        let message = Frame::binary(self.alloc, bytes).ok()?;
+        self.socket.send(message).ok()
+    }
+
+    fn read(&mut self) -> Option<Message> {
+        let alloc = self.alloc;
+        match self.socket.read() {
+            Ok(Frame::Binary(bytes)) => {
+                let tree = decode_whole(alloc, bytes.as_slice()).ok()?;
+                read(alloc, &tree).ok()
+            }
+            _ => None,
+        }
+    }
+
+    /// Orders what the request asks.
+    fn order(&mut self, request: Request) -> Option<()> {
+        let seq = self.orders;
+        if seq >= 1_000 {
+            return None;
+        }
+        self.orders = seq + 1;
+        let order = Numbered { seq, request };
+        match write_request(self.alloc, &order) {
+            Ok(bytes) => self.send(bytes.as_slice()),
+            Err(_) => None,
+        }
+    }
+
+    /// Starts a command that a shell runs.
+    pub fn start(&mut self, command: u64, line: &str) -> Option<()> {
+        let line = Value::from_str(self.alloc, line).ok()?;
+        self.start_as(command, line)
+    }
+
+    /// Starts a command that is one word.
+    pub fn start_program(&mut self, command: u64, word: &str) -> Option<()> {
+        let mut vec = Vec::new(self.alloc);
+        vec.push(Value::from_str(self.alloc, word).ok()?).ok()?;
+        self.start_as(command, Value::Array(Items { vec }))
+    }
+
+    fn start_as(&mut self, command: u64, value: Value<Global>) -> Option<()> {
+        let alloc = self.alloc;
+        let key = Value::from_str(alloc, "command").ok()?;
+        let mut vec = Vec::new(alloc);
+        vec.push(Pair { key, value }).ok()?;
+        self.order(Request::StartCommand {
+            command,
+            name: Text::from_str(alloc, "shell").ok()?,
+            args: Value::Map(Pairs { vec }),
+        })
+    }
+
+    /// Interrupts a command.
+    pub fn interrupt(&mut self, command: u64) -> Option<()> {
+        let why = Text::from_str(self.alloc, "stop").ok()?;
+        self.order(Request::InterruptCommand { command, why })
+    }
+
+    /// Ends the worker.
+    pub fn shut_down(&mut self) -> Option<()> {
+        self.order(Request::Shutdown)
+    }
+
+    /// Closes the connection by a close frame.
+    pub fn close(&mut self) -> Option<()> {
+        self.socket.close(None).ok()
+    }
+
+    /// Hears a message, and answers a request.
+    pub fn hear(&mut self) -> Option<()> {
+        let Numbered { seq, request, .. } = match self.read()? {
+            Message::Request(numbered) => numbered,
+            Message::Response(response) => {
+                if response.exception {
+                    self.refused = self.refused.saturating_add(1);
+                }
+                return Some(());
+            }
+        };
+        match request {
+            Request::Update { fields, .. } => {
+                for field in fields.as_slice() {
+                    self.take(field)?;
+                }
+            }
+            Request::Complete { fault, .. } => {
+                self.ended = self.ended.saturating_add(1);
+                if let Some(fault) = fault {
+                    self.faults.push(fault).ok()?;
+                }
+            }
+            _ => return None,
+        }
+        let bytes = write_answer(self.alloc, seq, None).ok()?;
+        self.send(bytes.as_slice())
+    }
+
+    fn take(&mut self, field: &Field) -> Option<()> {
+        match field {
+            Field::Text(letter, text) => {
+                self.said.push_str(letter.as_str()).ok()?;
+                self.said.push_str(text.as_str()).ok()
+            }
+            Field::Rc(code) => self.codes.push(code.value()).ok(),
+            Field::Named(..) => None,
+        }
+    }
+
+    /// Hears until so many commands have ended.
+    pub fn hear_ends(&mut self, count: usize) -> Option<()> {
+        for _ in 0..MOST_MESSAGES {
+            if self.ended >= count {
+                return Some(());
+            }
+            self.hear()?;
+        }
+        None
+    }
+
+    /// Whether this fault alone was told.
+    pub fn has_fault(&self, fault: &str) -> bool {
+        match self.faults.as_slice() {
+            [told] => told.as_str() == fault,
+            _ => false,
+        }
+    }
+
+    /// Whether this was said.
+    pub fn has_said(&self, text: &str) -> bool {
+        self.said.as_str().contains(text)
+    }
+}
+
+/// A WebSocket over a stream whose reads wait for 20 seconds at the most.
+fn agreed(alloc: Global, stream: TcpStream) -> Option<Socket> {
+    let wait = Duration::from_millis(20_000);
+    if stream.set_nodelay(true).is_err() || stream.set_read_timeout(Some(wait)).is_err() {
+        return None;
+    }
+    let is_patient = Arc::new(alloc, AtomicBool::new(false)).ok()?;
+    tungstenite::accept(alloc, Patient::new(stream, is_patient)).ok()
+}
+
+fn is_login(message: &Message) -> bool {
+    match message {
+        Message::Request(numbered) => matches!(numbered.request, Request::Auth { .. }),
+        Message::Response(_) => false,
+    }
+}

@@ -1,0 +1,175 @@
+//! What a worker tells of its commands, and how it ends.
+
+use super::master::Master;
+use super::status_under;
+use std::test::Fail;
+use std::thread;
+use std::time::Duration;
+
+#[test]
+fn a_command_is_told(rt: HostRuntime) -> Result<(), Fail> {
+    let script = |master: &mut Master| {
+        master.start(0, "echo a; echo b >&2; exit 3")?;
+        master.hear_ends(1)?;
+        let is_told = master
+            .said
+            .as_str()
+            .starts_with("hsh -c echo a; echo b >&2; exit 3\n")
+            && master.has_said("oa\n")
+            && master.has_said("eb\n")
+            && master
+                .said
+                .as_str()
+                .ends_with("hprogram finished with exit code 3\n")
+            && master.codes.as_slice() == [3].as_slice()
+            && master.faults.is_empty();
+        if is_told { master.close() } else { None }
+    };
+    assert!(rt; status_under(rt, script)? == 0);
+    Ok(())
+}
+
+#[test]
+fn a_close_frame_ends_the_worker(rt: HostRuntime) -> Result<(), Fail> {
+    assert!(rt; status_under(rt, |master: &mut Master| master.close())? == 0);
+    Ok(())
+}
+
+#[test]
+fn a_dropped_stream_is_a_fault(rt: HostRuntime) -> Result<(), Fail> {
+    assert!(rt; status_under(rt, |_: &mut Master| Some(()))? == 1);
+    Ok(())
+}
+
+#[test]
+fn a_shutdown_ends_the_worker(rt: HostRuntime) -> Result<(), Fail> {
+    let script = |master: &mut Master| {
+        master.start(0, "sleep 1")?;
+        master.shut_down()?;
+        for _ in 0..100 {
+            if master.hear().is_none() {
+                return Some(());
+            }
+        }
+        None
+    };
+    assert!(rt; status_under(rt, script)? == 0);
+    Ok(())
+}
+
+#[test]
+fn a_child_that_gave_no_code_is_told(rt: HostRuntime) -> Result<(), Fail> {
+    let script = |master: &mut Master| {
+        master.start(0, "kill -9 $$")?;
+        master.hear_ends(1)?;
+        let is_told = master
+            .said
+            .as_str()
+            .ends_with("hprogram finished with exit code -1\n")
+            && master.codes.as_slice() == [-1].as_slice();
+        if is_told { master.close() } else { None }
+    };
+    assert!(rt; status_under(rt, script)? == 0);
+    Ok(())
+}
+
+#[test]
+fn a_program_that_is_not_there_is_told(rt: HostRuntime) -> Result<(), Fail> {
+    let script = |master: &mut Master| {
+        master.start_program(0, "/no/such/program")?;
+        master.hear_ends(1)?;
+        let is_told = master.said.as_str() == "h/no/such/program\n"
+            && master.codes.is_empty()
+            && master.has_fault("cannot start");
+        if is_told { master.close() } else { None }
+    };
+    assert!(rt; status_under(rt, script)? == 0);
+    Ok(())
+}
+
+#[test]
+fn an_interrupt_is_told_at_once(rt: HostRuntime) -> Result<(), Fail> {
+    let script = |master: &mut Master| {
+        master.start(0, "while true; do echo x; done")?;
+        for _ in 0..20 {
+            master.hear()?;
+        }
+        master.interrupt(0)?;
+        master.hear_ends(1)?;
+        let is_told = master.codes.is_empty() && master.has_fault("interrupted");
+        if is_told { master.close() } else { None }
+    };
+    assert!(rt; status_under(rt, script)? == 0);
+    Ok(())
+}
+
+#[test]
+fn a_fifth_command_is_refused(rt: HostRuntime) -> Result<(), Fail> {
+    let script = |master: &mut Master| {
+        for command in 0..5 {
+            master.start(command, "sleep 2; echo a")?;
+        }
+        master.hear_ends(4)?;
+        if master.refused == 1 && master.codes.as_slice() == [0, 0, 0, 0].as_slice() {
+            master.close()
+        } else {
+            None
+        }
+    };
+    assert!(rt; status_under(rt, script)? == 0);
+    Ok(())
+}
+
+#[test]
+fn each_line_is_told_once(rt: HostRuntime) -> Result<(), Fail> {
+    let script = |master: &mut Master| {
+        master.start(0, "seq 1 200000")?;
+        for _ in 0..1_000 {
+            if master.ended == 0 {
+                master.hear()?;
+                thread::sleep(&rt, Duration::from_millis(2));
+            }
+        }
+        if numbers_in(master.said.as_str()) == 200_000 {
+            master.close()
+        } else {
+            None
+        }
+    };
+    assert!(rt; status_under(rt, script)? == 0);
+    Ok(())
+}
+
+/// How many numbers from 1 on stand in the lines of a text, in their order.
+fn numbers_in(text: &str) -> u64 {
+    let mut last = 0u64;
+    for line in text.split('\n') {
+        let line = line.trim_start_matches('o');
+        if let Ok(number) = line.parse::<u64>() {
+            if number != last.wrapping_add(1) {
+                return 0;
+            }
+            last = number;
+        }
+    }
+    last
+}
+
+#[test]
+fn long_lines_and_other_bytes_are_told(rt: HostRuntime) -> Result<(), Fail> {
+    let script = |master: &mut Master| {
+        master.start(
+            0,
+            "head -c 100000 /dev/zero | tr '\\0' x; printf '\\377\\n'",
+        )?;
+        master.hear_ends(1)?;
+        let count = master.said.as_str().matches('x').count();
+        if count >= 100_000 && master.has_said("\u{FFFD}\n") {
+            master.close()
+        } else {
+            None
+        }
+    };
+    assert!(rt; status_under(rt, script)? == 0);
+    Ok(())
+}
