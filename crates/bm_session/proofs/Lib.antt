@@ -2,6 +2,7 @@ pub mod Snoc
 pub mod Pushed
 pub mod Taken
 pub mod Visible
+pub mod Staying
 pub mod Words
 mod Rows
 mod Lanes

@@ -14,7 +14,8 @@ use Rattle.bm_session.specs.declared.item.Item.{Item}
 use Rattle.bm_session.specs.declared.item.Item.TheVariants.{Lines}
 use Rattle.bm_lines.specs.Names.{Name}
 use Rattle.bm_lines.specs.Parcels.{blocks_under}
-use Rattle.bm_session.specs.Trace.{joined, IsPrefix, Trace, Moment, moments, log, updates, items, item, item_if, productive, prefixes, visible, is_fresh, is_open}
+use mathlib.Core.List.{IsPrefix}
+use Rattle.bm_session.specs.Trace.{joined, Trace, Moment, moments, log, updates, items, item, item_if, productive, prefixes, visible, is_fresh, is_open}
 
 pub IsPrefix-refl : {A : Type 0} (xs : List A) → IsPrefix xs xs
 IsPrefix-refl xs = ([], append-nil xs)

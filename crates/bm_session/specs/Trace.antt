@@ -37,10 +37,6 @@ abbrev pub below : ℕ → List ℕ
 below zero = []
 below (suc n) = below n ++ n ∷ []
 
--- the second list begins with the first
-abbrev pub IsPrefix : {A : Type 0} → List A → List A → Type 0
-IsPrefix {A} xs ys = (rest : List A) × (xs ++ rest ≡ ys)
-
 -- the elements at the places from off up to, not including, off + lim, as far as they go
 abbrev pub slice : List Line → ℕ → ℕ → List Line
 slice lines off lim = take lim (drop off lines)

@@ -24,7 +24,8 @@ use mathlib.Core.Path.{fun_ext}
 use Rattle.bm_lines.specs.Names.{Name}
 use Rattle.bm_lines.specs.Parcels.{blocks_under}
 use Rattle.bm_lines.specs.declared.parcel.Part.{Part}
-use Rattle.bm_session.specs.Trace.{IsPrefix, Trace, Moment, commands, was_order, ends_at, ending, is_open, open_commands, blocks, outcome, updates, is_fresh, below, is_empty, item, item_if, items, ended_by, result_at, was_taken, refusal, visible, productive}
+use mathlib.Core.List.{IsPrefix}
+use Rattle.bm_session.specs.Trace.{Trace, Moment, commands, was_order, ends_at, ending, is_open, open_commands, blocks, outcome, updates, is_fresh, below, is_empty, item, item_if, items, ended_by, result_at, was_taken, refusal, visible, productive}
 use Rattle.bm_store.specs.Book.{Logs, no_logs, with_parcel, with_end, change_at, after_item, book, logs_of, logs}
 use Rattle.bm_store.specs.Laws.{BooksHaveTheLogs, VisibleBooksHaveTheLogs}
 

@@ -1,7 +1,8 @@
 -- Laws of interleavings.
 use Rattle.std.specs.Prelude.{◌≡◌, ℕ, ◌≤◌, true, List}
 use Rattle.bm_lines.specs.Names.{Name}
-use Rattle.bm_session.specs.Trace.{IsPrefix, Trace, has_log, log, visible, productive}
+use mathlib.Core.List.{IsPrefix}
+use Rattle.bm_session.specs.Trace.{Trace, has_log, log, visible, productive}
 use Rattle.bm_session.specs.declared.refusal.Refusal.TheVariants.{Mem}
 use Rattle.bm_world.specs.declared.answer.Answer.TheVariants.{Refused}
 use Rattle.bm_world.specs.declared.step.Step.{Step}

@@ -11,7 +11,8 @@ use Rattle.bm_session.proofs.Visible.{IsPrefix-more}
 use Rattle.bm_lines.specs.declared.line.Line.{Line}
 use Rattle.bm_lines.specs.Lines.{lines_of}
 use Rattle.bm_lines.specs.Names.{stdio}
-use Rattle.bm_session.specs.Trace.{IsPrefix, Trace, commands, is_open, is_up, is_cut, is_new, log, was_taken}
+use mathlib.Core.List.{IsPrefix}
+use Rattle.bm_session.specs.Trace.{Trace, commands, is_open, is_up, is_cut, is_new, log, was_taken}
 use Rattle.bm_work.specs.declared.sent.Finish.{Finish as Ending}
 use Rattle.bm_work.specs.declared.sent.Finish.TheVariants.{Rc, Fault}
 use Rattle.bm_work.specs.Reports.{reports_of}

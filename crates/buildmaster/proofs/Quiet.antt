@@ -12,7 +12,8 @@ use Rattle.bm_lines.specs.declared.line.Line.{Line}
 use Rattle.bm_lines.specs.Names.{stdio}
 use Rattle.bm_lines.specs.Parcels.{blocks_under}
 use Rattle.bm_session.specs.Events.{is_go, is_down_event, is_complete_of, is_update_of, parcel_of}
-use Rattle.bm_session.specs.Trace.{IsPrefix, Trace, begins_session, starts, refuses, commands, ends_at, is_open, is_up, is_cut, is_new, is_fresh, log, joined, was_taken, refusal}
+use mathlib.Core.List.{IsPrefix}
+use Rattle.bm_session.specs.Trace.{Trace, begins_session, starts, refuses, commands, ends_at, is_open, is_up, is_cut, is_new, is_fresh, log, joined, was_taken, refusal}
 use Rattle.bm_work.specs.Stream.{said}
 use Rattle.buildmaster.specs.Schedule.{Worker, has_run, have_ended, was_started, was_refused, requests_taken}
 use Rattle.buildmaster.proofs.Lists.{or-left, or-right, or-first, or-second}

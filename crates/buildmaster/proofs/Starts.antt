@@ -12,7 +12,8 @@ use Rattle.bm_session.proofs.Visible.{IsPrefix-refl}
 use Rattle.bm_session.specs.declared.event.Event.TheVariants.{Up, Go}
 use Rattle.bm_lines.specs.declared.line.Line.{Line}
 use Rattle.bm_lines.specs.Names.{stdio}
-use Rattle.bm_session.specs.Trace.{IsPrefix, Trace, commands, ends_at, ending, is_open, is_up, is_cut, is_new, log, joined, refusal}
+use mathlib.Core.List.{IsPrefix}
+use Rattle.bm_session.specs.Trace.{Trace, commands, ends_at, ending, is_open, is_up, is_cut, is_new, log, joined, refusal}
 use Rattle.bm_work.specs.Stream.{said}
 use Rattle.buildmaster.specs.Schedule.{Worker, new_worker, has_run, have_ended, was_started, was_refused, requests_taken}
 use Rattle.buildmaster.proofs.Lists.{or-left, or-first, front-empty}

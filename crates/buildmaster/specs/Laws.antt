@@ -3,7 +3,8 @@ use Rattle.std.specs.Prelude.{◌<◌, ◌^◌, ◌≡◌, ℕ, true, false, [],
 use Rattle.std.specs.List.{list_any, AllByRecursion}
 use Rattle.bm_lines.specs.Names.{Name, stdio}
 use Rattle.bm_session.specs.Events.{is_down_event}
-use Rattle.bm_session.specs.Trace.{IsPrefix, log, visible, productive}
+use mathlib.Core.List.{IsPrefix}
+use Rattle.bm_session.specs.Trace.{log, visible, productive}
 use Rattle.bm_work.specs.declared.sent.Sent.{Sent}
 use Rattle.bm_work.specs.Stream.{Report, sent, said}
 use Rattle.buildmaster.specs.Resumed.{Happening, is_resumed_schedule, linked_after, at_first, acts_of, unanswered}
