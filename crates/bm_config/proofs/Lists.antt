@@ -1,12 +1,11 @@
 -- The elements of an array as the code's slices show them.
-use Rattle.std.proofs.Common.{◌≡◌, ℕ, ◌+◌, ◌<◌, List, [], ◌∷◌, ◌++◌, length, get_or, drop, map, Option, Some, None, option_map, Vec, Global, refl, ap, ◌∙◌, sym}
+use Rattle.std.proofs.Common.{◌≡◌, ℕ, ◌+◌, ◌<◌, List, [], ◌∷◌, length, get_or, drop, map, Some, None, refl, ap, sym}
 use Rattle.std.proofs.Common.{Bool}
 use Rattle.std.specs.List.{list_all}
 use Rattle.std.proofs.lemmas.List.{drop_more}
 use Rattle.std.proofs.lemmas.List.Folds.{list_all-map}
-use Rattle.std.specs.Borrow.{Bor}
 use Rattle.toml.specs.Data.{Data, as_array}
-use Rattle.toml.specs.View.{view, items_view, array_view}
+use Rattle.toml.specs.View.{view, items_view}
 use Rattle.toml.specs.declared.value.Value.{Value}
 use Rattle.bm_config.specs.Fields.{list_of}
 use Rattle.bm_config.specs.Rows.{elements}

@@ -1,8 +1,8 @@
 -- What a table has at a key: a value that the key takes, or the key at fault.
-use Rattle.std.specs.Prelude.{◌≡◌, ℕ, ℤ, pos, negsuc, nat_le, ◌&&◌, Bool, true, false, if◌then◌else◌, List, [], ◌∷◌, Option, Some, None, option_and_then, Result, Ok, Err}
+use Rattle.std.specs.Prelude.{ℕ, ℤ, pos, negsuc, nat_le, ◌&&◌, Bool, if◌then◌else◌, List, [], ◌∷◌, Option, Some, None, option_and_then, Result, Ok, Err}
 use Rattle.std.specs.declared.net.socket_addr.SocketAddr.{SocketAddr}
 use Rattle.std.specs.Net.Grammar.{IsSocketText}
-use Rattle.toml.specs.Data.{Data, string, array, table, Items, no_items, item, Members, get_member, as_str, as_integer, as_bool, as_table, as_array}
+use Rattle.toml.specs.Data.{Data, Items, no_items, item, Members, get_member, as_str, as_integer, as_bool}
 use Rattle.bm_config.specs.declared.keys.Key.{Key}
 use Rattle.bm_config.specs.Keys.{name_of}
 

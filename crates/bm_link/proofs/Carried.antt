@@ -1,5 +1,5 @@
 -- What is carried are the orders without an answer.
-use Rattle.std.proofs.Common.{◌≡◌, ◌∙◌, refl, sym, ap, ℕ, ◌==◌, Bool, true, false, not, cond, List, [], ◌∷◌, ◌++◌, map, filter, Option}
+use Rattle.std.proofs.Common.{◌≡◌, ◌∙◌, refl, sym, ap, ℕ, ◌==◌, Bool, true, false, not, cond, List, [], ◌∷◌, ◌++◌, map, filter}
 use Rattle.std.proofs.lemmas.Cmp.{nat_eq_equiv}
 use Rattle.bm_session.specs.Events.{is_order, is_answer_to}
 use Rattle.bm_session.specs.Laws.{next_place}
@@ -9,7 +9,7 @@ use Rattle.bm_session.specs.declared.event.Event.TheVariants.{Up, In, Go, Stop, 
 use Rattle.bm_session.specs.declared.event.Body.TheVariants.{Auth, Update, Complete, BadArgs, NoSuchOp, Answered}
 use Rattle.bm_session.proofs.Words.{pending-push}
 use Rattle.bm_work.specs.declared.sent.Sent.{Sent}
-use Rattle.bm_link.specs.Carries.{Carried, carried_after, with_order, begun}
+use Rattle.bm_link.specs.Carries.{Carried, carried_after, with_order}
 use Rattle.bm_link.specs.Laws.{CarriesPending, WorkersEventsKeep, OrdersAreAdded, SessionsBeginAnew}
 
 abbrev seqs : List Sent → List ℕ

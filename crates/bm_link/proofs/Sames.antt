@@ -1,5 +1,5 @@
 -- Texts that are compared byte by byte.
-use Rattle.std.proofs.Common.{◌≡◌, ◌∙◌, sym, subst, refl, ap, arith, ℕ, ◌≤◌, Bool, true, false, List, length, take, bytes_eq, min}
+use Rattle.std.proofs.Common.{◌≡◌, ◌∙◌, sym, ap, arith, ℕ, ◌≤◌, Bool, List, length, take, bytes_eq, min}
 use Rattle.std.specs.Prelude.{◌↔◌, IsTrue}
 use Rattle.std.proofs.lemmas.List.{take_all}
 use Rattle.std.proofs.lemmas.Bool.Decides.{same_from_decides}

@@ -1,6 +1,5 @@
 -- What calls do at the stage at which they do something.
 use Rattle.std.proofs.Common.{◌≡◌, sym, subst, inr, Bool, List, ℕ, Option, Some, None, Ok, Err}
-use Rattle.tungstenite.specs.Socket.{Socket}
 use Rattle.bm_session.specs.declared.event.Event.TheVariants.{Go, Stop}
 use Rattle.bm_session.specs.Trace.{orders, commands}
 use Rattle.bm_lane.specs.Ends.{Heard}

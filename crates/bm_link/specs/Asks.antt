@@ -1,5 +1,5 @@
 -- What a master asks of a worker besides its orders.
-use Rattle.std.specs.Prelude.{◌≡◌, ◌⊎◌, ◌≤◌, ◌^◌, ℕ, List, Option, Result, Ok, Err}
+use Rattle.std.specs.Prelude.{◌≡◌, ◌≤◌, ◌^◌, ℕ, List, Option, Result, Ok, Err}
 use Rattle.tungstenite.specs.Connection.{write_step}
 use Rattle.tungstenite.specs.Content.{binary}
 use Rattle.tungstenite.specs.Socket.{Socket, Writes}

@@ -1,5 +1,5 @@
 -- How a worker logs in, and what its master answers.
-use Rattle.std.specs.Prelude.{◌≡◌, ◌≤◌, ◌⊎◌, ℕ, true, false, List, Option, Ok, Err, Result}
+use Rattle.std.specs.Prelude.{◌≡◌, ◌≤◌, ◌⊎◌, ℕ, true, false, List, Option, Ok}
 use Rattle.tungstenite.specs.Connection.{write_step}
 use Rattle.tungstenite.specs.Content.{binary}
 use Rattle.tungstenite.specs.Socket.{Socket, Reads, Writes, content_of}
@@ -13,9 +13,7 @@ use Rattle.bm_msg.specs.Trees.{tree_of}
 use Rattle.bm_link.specs.declared.attaching.Attached.{Attached}
 use Rattle.bm_link.specs.Attaching.{IsAttached}
 use Rattle.bm_link.specs.declared.fault.LinkFault.{LinkFault}
-use Rattle.bm_link.specs.declared.fault.LinkFault.TheVariants.{BadLogin, BadMessage, Closed, Mem}
-use Rattle.bm_link.specs.Faults.{fault_of}
-use Rattle.tungstenite.specs.declared.error.Error.{Error}
+use Rattle.bm_link.specs.declared.fault.LinkFault.TheVariants.{BadLogin, BadMessage, Mem}
 
 -- the bytes of the login, which is request 0
 unfoldable pub auth_bytes : List ℕ → List ℕ → Option (List ℕ) → List ℕ

@@ -2,7 +2,7 @@
 use Rattle.std.proofs.Common.{◌≡◌, refl, ap, ℕ, zero, suc, ◌+◌, ◌<◌, ◌≤◌, ◌^◌, ◌/◌, ◌%◌, Bool, true, false, cond, List, [], ◌∷◌, length, map, Option, Some, None, arith, lit<}
 use Rattle.std.specs.Prelude.{◌==◌}
 use Rattle.std.specs.Fmt.{decimal, digits, digits_onto, digit_glyph}
-use Rattle.bm_value.specs.Tree.{Tree, depth, depth_of_items, count}
+use Rattle.bm_value.specs.Tree.{depth, depth_of_items, count}
 use Rattle.bm_value.specs.View.{trees_of}
 use Rattle.bm_value.specs.Limits.{IsShort, AreShort}
 use Rattle.bm_lines.specs.declared.line.Letter.{Letter}

@@ -1,13 +1,13 @@
 -- A text that ends its line, and what follows it, have their lines side by side.
-use Rattle.std.proofs.Common.{◌≡◌, refl, sym, ap, ◌∙◌, subst, inl, inr, ℕ, ◌+◌, ◌<◌, ◌≤◌, ◌==◌, Bool, true, false, cond, List, [], ◌∷◌, ◌++◌, map, length, All, append_assoc, arith}
-use Rattle.std.specs.List.{slice_split, onto_first, flat_map}
+use Rattle.std.proofs.Common.{◌≡◌, refl, sym, ap, ◌∙◌, subst, inl, inr, ℕ, ◌+◌, ◌<◌, ◌==◌, Bool, true, false, cond, List, [], ◌∷◌, ◌++◌, map, length, append_assoc, arith}
+use Rattle.std.specs.List.{slice_split, onto_first}
 use Rattle.std.proofs.lemmas.List.{append-nil, map-append}
 use Rattle.std.proofs.lemmas.List.Concat.{flat_map-append}
 use Rattle.std.proofs.lemmas.List.Splits.{length-slice_split}
 use Rattle.bm_lines.specs.Lines.{without_last_empty, lines_of}
 use Rattle.bm_lines.specs.declared.line.Letter.{Letter}
 use Rattle.bm_lines.specs.declared.line.Line.{Line}
-use Rattle.bm_outbox.specs.Joining.{IsWhole, Joining, Adds, all_of, lines_in, whole_of}
+use Rattle.bm_outbox.specs.Joining.{IsWhole, Adds, lines_in, whole_of}
 
 abbrev parts : List ℕ → List (List ℕ)
 parts text = slice_split (λ c. c == 10) text

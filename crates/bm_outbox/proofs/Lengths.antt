@@ -1,5 +1,5 @@
 -- The texts of a pipe are short enough to be said.
-use Rattle.std.proofs.Common.{◌≡◌, refl, sym, ap, subst, ℕ, zero, suc, ◌+◌, ◌*◌, ◌-◌, ◌<◌, ◌≤◌, ◌==◌, ◌||◌, Bool, true, false, List, [], ◌∷◌, ◌++◌, map, length, take, drop, All, Option, Some, None, nat_lt, if◌then◌else◌, arith}
+use Rattle.std.proofs.Common.{◌≡◌, refl, subst, ℕ, zero, suc, ◌+◌, ◌*◌, ◌-◌, ◌<◌, ◌≤◌, ◌==◌, ◌||◌, Bool, true, false, List, [], ◌∷◌, ◌++◌, length, take, drop, All, Option, Some, None, nat_lt, if◌then◌else◌, arith}
 use Rattle.std.specs.Option.{unwrap_or}
 use Rattle.std.specs.Str.Lossy.{utf8_lossy, utf8_lossy_within, utf8_valid_len, utf8_invalid_len, utf8_error_len, error_len_after_two, error_len_after_one, error_len_of_some, after_first_chunk, replacement_bytes, second_byte_min, second_byte_max}
 use Rattle.std.specs.Int.{is_in_range}
@@ -8,7 +8,7 @@ use Rattle.std.proofs.lemmas.Bool.Decides.{nat_tests}
 use Rattle.std.proofs.lemmas.List.{length-append, length-take-le, length-drop}
 use Rattle.std.proofs.lemmas.List.Elements.{All-nil, All-cons}
 use Rattle.std.proofs.lemmas.Str.{utf8_valid_len_le}
-use Rattle.bm_work.specs.Cuts.{longest, texts_after, texts_of, left_after, left_of, last_text, ends_text, shown}
+use Rattle.bm_work.specs.Cuts.{texts_after, texts_of, left_after, left_of, last_text, ends_text, shown}
 
 some-if : (b : Bool) (p q : Option ℕ) (n : ℕ) → 0 < unwrap_or p n → 0 < unwrap_or q n → 0 < unwrap_or (if b then p else q) n
 some-if true p q n hp hq = hp

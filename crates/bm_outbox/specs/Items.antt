@@ -1,5 +1,5 @@
 -- What waits to be told, and what telling it does to the worker's core.
-use Rattle.std.specs.Prelude.{◌≡◌, ◌==◌, ℕ, ℤ, not, List, [], ◌∷◌, ◌++◌, length, filter, codes, Some, Result, Ok, Err}
+use Rattle.std.specs.Prelude.{◌≡◌, ◌==◌, ℕ, not, List, [], ◌∷◌, length, filter, codes, Some, Result, Ok, Err}
 use Rattle.std.specs.declared.alloc.AllocError.{AllocError}
 use Rattle.bm_work.specs.Core.{Core, next_number, refusal, with_reports, without_command}
 use Rattle.bm_work.specs.Reports.{reports_of}

@@ -1,9 +1,8 @@
 -- A tree is one event, or none for one reason.
-use Rattle.std.proofs.Common.{◌≡◌, ◌≢◌, refl, sym, ◌∙◌, ap, ◌⊎◌, inl, inr, ℕ, Result, Ok, Err, IfOk, IfErr, IsErrOf}
+use Rattle.std.proofs.Common.{◌≡◌, ◌≢◌, refl, ◌∙◌, ap, inl, inr, ℕ, Ok, Err, IfOk, IfErr, IsErrOf}
 use Rattle.bm_value.specs.Tree.{Tree}
 use Rattle.bm_msg.specs.Meaning.{Meaning, request, response}
 use Rattle.bm_msg.specs.Messages.{IsMessage, IsFaulty}
-use Rattle.bm_msg.specs.Reading.{reading}
 use Rattle.bm_msg.specs.declared.fault.MsgError.{MsgError}
 use Rattle.bm_msg.specs.declared.message.Message.{Message}
 use Rattle.bm_msg.specs.declared.fault.MsgError.TheVariants.{NotMap, NoSeq, NoOp, BadArgs, Mem}

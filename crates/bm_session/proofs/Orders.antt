@@ -4,7 +4,7 @@ use Rattle.std.specs.Prelude.{nat_le}
 use Rattle.std.proofs.lemmas.Bool.Decides.{nat_tests}
 use Rattle.std.proofs.lemmas.List.{length-append}
 use Rattle.bm_session.proofs.Snoc.{snoc_induction}
-use Rattle.bm_session.proofs.Pushed.{next, commands-push}
+use Rattle.bm_session.proofs.Pushed.{commands-push}
 use Rattle.bm_session.proofs.Taken.{open-is-started}
 use Rattle.bm_session.proofs.Taking.{orders_le-length, stop-open}
 use Rattle.bm_session.specs.Events.{is_go}

@@ -1,5 +1,5 @@
 -- Laws of traces.
-use Rattle.std.specs.Prelude.{◌≡◌, ℕ, ◌<◌, ◌^◌, not, List, [], ◌∷◌, ◌++◌, filter, None, if◌then◌else◌}
+use Rattle.std.specs.Prelude.{◌≡◌, ◌<◌, ◌^◌, not, List, [], ◌∷◌, ◌++◌, filter, None, if◌then◌else◌}
 use Rattle.bm_value.specs.Tree.{Tree}
 use Rattle.bm_session.specs.Events.{is_order, is_answer_to}
 use Rattle.bm_session.specs.Heard.{IsEvent, IsNumbered}

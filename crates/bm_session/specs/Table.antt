@@ -1,5 +1,5 @@
 -- What a session keeps of its trace.
-use Rattle.std.specs.Prelude.{◌≡◌, ℕ, ◌-◌, ◌<◌, ◌≤◌, List, min, vec_len, vec_capacity, Bool, true, false, ◌&&◌, ◌||◌, ◌==◌, if◌then◌else◌, length, map, Option, Some, None, option_map, unwrap_or, find, slice_index_or}
+use Rattle.std.specs.Prelude.{◌≡◌, ℕ, ◌-◌, ◌<◌, ◌≤◌, min, vec_len, vec_capacity, Bool, true, false, ◌&&◌, ◌||◌, ◌==◌, if◌then◌else◌, length, map, Option, Some, None, option_map, unwrap_or, find, slice_index_or}
 use Rattle.std.specs.List.{list_any}
 use Rattle.bm_session.specs.declared.event.Body.{Body}
 use Rattle.bm_session.specs.declared.event.Body.TheVariants.{Update, Answered}

@@ -1,5 +1,5 @@
 -- What a trace means: the list of a lane's events, in the order in which they were taken.
-use Rattle.std.specs.Prelude.{◌≡◌, ℕ, zero, suc, ℤ, pos, Bool, true, false, not, ◌&&◌, ◌||◌, ◌==◌, nat_lt, nat_le, if◌then◌else◌, List, [], ◌∷◌, ◌++◌, length, take, drop, map, Option, Some, None, option_map, unwrap_or, is_none, fold, find, bytes_eq, filter, count_by, flat_map, filter_map}
+use Rattle.std.specs.Prelude.{ℕ, zero, suc, ℤ, pos, Bool, true, false, not, ◌&&◌, ◌||◌, ◌==◌, nat_lt, nat_le, if◌then◌else◌, List, [], ◌∷◌, ◌++◌, length, take, drop, map, Option, Some, None, option_map, unwrap_or, is_none, fold, find, bytes_eq, filter, count_by, flat_map, filter_map}
 use Rattle.std.specs.List.{list_any, list_all, after_last}
 use Rattle.bm_session.specs.Events.{is_up_event, is_down_event, is_cut_event, is_interruption, is_border, is_go, is_order, is_stop_of, is_request, request_number, is_complete_of, is_update_of, is_fault, is_answer_to, parcel_of, rc_of}
 use Rattle.bm_session.specs.declared.event.Event.{Event}

@@ -1,5 +1,5 @@
 -- How many lines the logs `stdio` have together.
-use Rattle.std.proofs.Common.{◌≡◌, refl, sym, ◌∙◌, ap, ℕ, zero, suc, ◌+◌, ◌-◌, ◌^◌, ◌≤◌, ◌<◌, List, [], ◌∷◌, ◌++◌, length, take, get_or, arith}
+use Rattle.std.proofs.Common.{◌≡◌, refl, sym, ◌∙◌, ap, ℕ, suc, ◌+◌, ◌-◌, ◌^◌, ◌<◌, List, [], ◌∷◌, ◌++◌, length, take, get_or, arith}
 use Rattle.std.specs.Prelude.{min, fold}
 use Rattle.std.specs.List.{sum_by}
 use Rattle.std.proofs.Math.Seq.{take-suc}
@@ -7,7 +7,7 @@ use Rattle.std.proofs.lemmas.List.Sums.{sum_by-append}
 use Rattle.bm_lines.specs.Names.{stdio}
 use Rattle.bm_session.specs.Trace.{joined}
 use Rattle.bm_store.specs.Book.{Logs, stdio_lines_in}
-use Rattle.bm_store.specs.Kept.{Kept, blocks_of, logs_kept, logs_in}
+use Rattle.bm_store.specs.Kept.{Kept, blocks_of, logs_in}
 
 abbrev pub stdio_count : Kept → ℕ
 stdio_count c = length (joined (blocks_of c.named stdio))

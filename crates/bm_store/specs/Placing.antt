@@ -1,5 +1,5 @@
 -- Blocks with their places.
-use Rattle.std.specs.Prelude.{◌≡◌, ℕ, ◌^◌, ◌<◌, List, [], ◌∷◌, length, map}
+use Rattle.std.specs.Prelude.{◌≡◌, ℕ, List, length, map}
 use Rattle.bm_lines.specs.declared.line.Line.{Line}
 use Rattle.bm_session.specs.Trace.{joined}
 use Rattle.bm_store.specs.declared.placed.Placed.{Placed}

@@ -2,7 +2,7 @@
 use Rattle.std.proofs.Common.{ℕ, ◌<◌, ◌≤◌, ◌^◌, List, [], ◌∷◌, length, Option, Some, None, false, lit<, lit≤, arith}
 use Rattle.std.specs.Fmt.{decimal}
 use Rattle.std.proofs.lemmas.Fmt.{length-decimal-le}
-use Rattle.bm_value.specs.Tree.{Tree, depth}
+use Rattle.bm_value.specs.Tree.{depth}
 use Rattle.bm_value.specs.Limits.{IsShort}
 use Rattle.bm_msg.specs.declared.field.Field.{Field}
 use Rattle.bm_msg.specs.declared.field.Field.TheVariants.{Text, Named, Rc}

@@ -1,4 +1,3 @@
-use Rattle.std.proofs.Common.{rules}
 use Rattle.bm_config.proofs.Lists.{elements_of, elements_none}
 use Rattle.bm_config.proofs.rows.elements.Goals as goal
 

@@ -3,7 +3,6 @@ use Rattle.std.proofs.lemmas.Result.{IfOk-equal}
 use Rattle.std.specs.List.{position_or_len}
 use Rattle.bm_lines.specs.Lines.{lines_of}
 use Rattle.bm_lines.specs.OneOrMany.{items_of}
-use Rattle.bm_lines.specs.Parcels.{with_item}
 use Rattle.bm_lines.specs.declared.parcel.Part.{Part}
 use Rattle.bm_lines.proofs.PartLists.{with_item-past}
 use Rattle.bm_lines.proofs.parcel.put.Goals as goal

@@ -2,7 +2,7 @@ use Rattle.std.proofs.Common.{◌≡◌, ◌∙◌, ◌<◌, ◌++◌, ◌∷◌
 use Rattle.std.specs.List.{position_or_len}
 use Rattle.bm_lines.specs.Lines.{lines_of}
 use Rattle.bm_lines.specs.OneOrMany.{items_of}
-use Rattle.bm_lines.specs.Parcels.{names_of, with_item}
+use Rattle.bm_lines.specs.Parcels.{names_of}
 use Rattle.bm_lines.specs.Places.{HasPlaces, place_in}
 use Rattle.bm_lines.proofs.PartLists.{with_item-past}
 use Rattle.bm_lines.proofs.PartTables.{place-found, place-missing, names_of-there, names_of-new, length-names}

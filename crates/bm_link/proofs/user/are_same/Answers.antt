@@ -1,4 +1,4 @@
-use Rattle.std.proofs.Common.{rules, ◌≤◌, length, min, ℕ, arith}
+use Rattle.std.proofs.Common.{rules, ◌≤◌, length, min}
 use Rattle.bm_link.proofs.Sames.{is_seen_whole}
 use Rattle.bm_link.proofs.user.are_same.Goals as goal
 

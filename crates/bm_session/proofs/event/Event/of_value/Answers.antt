@@ -1,10 +1,8 @@
-use Rattle.std.proofs.Common.{◌≡◌, ◌≢◌, ◌∙◌, sym, subst, inl, Ok, IfOk, IfErr, IsErrOf}
+use Rattle.std.proofs.Common.{◌≡◌, ◌≢◌, ◌∙◌, sym, subst, inl, IfOk, IfErr, IsErrOf}
 use Rattle.bm_value.specs.View.{tree}
 use Rattle.bm_msg.specs.Meaning.{meaning}
 use Rattle.bm_msg.specs.Updates.{says}
 use Rattle.bm_msg.specs.declared.fault.MsgError.TheVariants.{Mem}
-use Rattle.bm_session.specs.declared.event.Body.TheVariants.{BadArgs}
-use Rattle.bm_session.specs.declared.event.Event.TheVariants.{In}
 use Rattle.bm_session.specs.Heard.{IsEvent, IsNoEvent}
 use Rattle.bm_session.proofs.Events.{one_event, no_reason, no_bad_args, faulty_event, faulty_wants, faulty_fault, faulty_told, faulty_args}
 use Rattle.bm_session.proofs.event.Event.of_value.Goals as goal

@@ -1,4 +1,4 @@
-use Rattle.std.proofs.Common.{◌≡◌, ◌∷◌, [], ◌++◌, ◌+◌, length, ap, subst, sym, arith, ◌∙◌}
+use Rattle.std.proofs.Common.{◌≡◌, ◌∷◌, [], ◌++◌, ◌+◌, length, ap, subst, sym, ◌∙◌}
 use Rattle.bm_store.proofs.Places.{IsPlacing-push}
 use Rattle.bm_store.specs.Placing.{IsPlacing}
 use Rattle.bm_store.proofs.named_log.NamedLog.push.Goals as goal

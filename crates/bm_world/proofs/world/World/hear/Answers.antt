@@ -1,4 +1,4 @@
-use Rattle.std.proofs.Common.{◌≡◌, ◌∙◌, sym, ap, subst, List, [], ◌∷◌, ◌++◌, Some, None, arith}
+use Rattle.std.proofs.Common.{◌≡◌, ◌∙◌, sym, ap, List, [], ◌∷◌, ◌++◌, Some, None, arith}
 use Rattle.bm_session.specs.Session.{Planned}
 use Rattle.bm_session.specs.Trace.{Trace, refusal, item}
 use Rattle.bm_session.specs.declared.item.Item.{Item}
