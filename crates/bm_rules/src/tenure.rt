@@ -1,6 +1,7 @@
 //! When a lane whose connection was cut is given up.
 
 ghost use Rattle.std.specs.Prelude.{◌≡◌};
+ghost use Rattle.std.specs.Option.{is_some};
 ghost use Rattle.bm_rules.specs.Tenure.{begun, cut_off, dismissed, is_over, kept, passed};
 
 use std::marker::Model;
@@ -8,7 +9,7 @@ use std::marker::Model;
 /// How long a lane whose connection was cut waits for its worker to resume the session. A lane is
 /// given up once as many ticks have passed since the cut as its worker may take, and at once where
 /// nobody is awaited: where the worker was told to shut down, or its process ended.
-#[derive(Clone, Copy, Debug, PartialEq, Eq)]
+#[derive(Debug, Drop)]
 pub struct Tenure {
     limit: u32,
     cut: Option<u32>,
@@ -90,7 +91,7 @@ impl Tenure {
 
     /// Whether the lane is cut, so that ticks are to be counted.
     pub fn is_counting(&self) -> bool
-        ensures { result ≡ option_is_some self.now.cut }
+        ensures { result ≡ is_some self.now.cut }
     {
         self.cut.is_some()
     }
