@@ -2,7 +2,7 @@
 
 ghost use Rattle.std.specs.Prelude.{◌≡◌, ◌++◌, IfOk, string_bytes};
 ghost use Rattle.bm_rules.specs.OneLine.{one_line};
-ghost use Rattle.bm_rules.specs.Remark.{lost_line, remark_line};
+ghost use Rattle.bm_rules.specs.Remark.{build_line, lost_line, remark_line};
 
 use crate::log_id::LogId;
 use crate::names::one_line;
@@ -89,8 +89,7 @@ impl Remark<'_> {
             }
             Remark::AcceptingPaused => String::from_str(alloc, "accepting paused\n"),
             Remark::BuildStarted { build, worker } => {
-                let head = format!(in alloc; "build {build} started on ")?;
-                around(alloc, head.as_str(), worker, "\n")
+                of_build(alloc, build, " started on ", worker)
             }
             Remark::BuildEnded { build, result } => {
                 let result = result.name();
@@ -101,12 +100,11 @@ impl Remark<'_> {
             }
             Remark::StepStarted { build, log, step } => {
                 let id = log.number();
-                let head = format!(in alloc; "build {build} step started, log {id}: ")?;
-                around(alloc, head.as_str(), step, "\n")
+                let what = format!(in alloc; " step started, log {id}: ")?;
+                of_build(alloc, build, what.as_str(), step)
             }
             Remark::StepRefused { build, step } => {
-                let head = format!(in alloc; "build {build} step not started: ")?;
-                around(alloc, head.as_str(), step, "\n")
+                of_build(alloc, build, " step not started: ", step)
             }
             Remark::StepEnded {
                 build,
@@ -116,8 +114,8 @@ impl Remark<'_> {
             } => {
                 let result = result.name();
                 let id = log.number();
-                let head = format!(in alloc; "build {build} step ended {result}, log {id}: ")?;
-                around(alloc, head.as_str(), step, "\n")
+                let what = format!(in alloc; " step ended {result}, log {id}: ")?;
+                of_build(alloc, build, what.as_str(), step)
             }
             Remark::ProgramStarted { worker } => around(alloc, "program of ", worker, " started\n"),
             Remark::ProgramFailed { worker } => {
@@ -140,6 +138,14 @@ fn around(alloc: Global, head: &str, name: &str, tail: &str) -> Result<String, A
 {
     let name = one_line(alloc, name)?;
     format!(in alloc; "{head}{name}{tail}")
+}
+
+// What a build did, and the name of what it did it with.
+fn of_build(alloc: Global, build: u64, what: &str, name: &str) -> Result<String, AllocError>
+    ensures { IfOk result (λ s. string_bytes s ≡ build_line build what.now name.now) }
+{
+    let name = one_line(alloc, name)?;
+    format!(in alloc; "build {build}{what}{name}\n")
 }
 
 // What became of a worker, and why.
