@@ -17,30 +17,57 @@ use std::io::Write;
 #[derive(Clone, Copy, Debug)]
 pub enum Remark<'a> {
     /// A worker logged in, and a session began: `worker NAME logged in`.
-    LoggedIn { worker: &'a str },
+    LoggedIn {
+        worker: &'a str,
+    },
     /// A worker whose connection was cut is back, and its session goes on: `worker NAME resumed`.
-    Resumed { worker: &'a str },
+    Resumed {
+        worker: &'a str,
+    },
     /// A worker's connection was cut, and its session may be resumed: `worker NAME cut, CAUSE`.
-    Cut { worker: &'a str, cause: LossCause },
+    Cut {
+        worker: &'a str,
+        cause: LossCause,
+    },
     /// A worker's session ended, and each command that ran on it with it: `worker NAME lost, CAUSE`.
-    Lost { worker: &'a str, cause: LossCause },
+    Lost {
+        worker: &'a str,
+        cause: LossCause,
+    },
     /// A worker was told to shut down: `worker NAME told to shut down`.
-    Dismissed { worker: &'a str },
+    Dismissed {
+        worker: &'a str,
+    },
     /// A worker's lane takes no connection and no command any more: `worker NAME full`.
-    Filled { worker: &'a str },
+    Filled {
+        worker: &'a str,
+    },
     /// A connection that gave a worker's name was not taken up: `login refused, WHY: NAME`. The name may be
     /// no worker's.
-    LoginRefused { name: &'a str, why: LoginRefusal },
+    LoginRefused {
+        name: &'a str,
+        why: LoginRefusal,
+    },
     /// A connection that gave no name was not taken up: `connection refused, WHY`.
-    ConnectionRefused { why: LoginRefusal },
+    ConnectionRefused {
+        why: LoginRefusal,
+    },
     /// No connection could be accepted just now; it is tried again: `accepting paused`.
     AcceptingPaused,
     /// A build started on a worker: `build I started on NAME`.
-    BuildStarted { build: u64, worker: &'a str },
+    BuildStarted {
+        build: u64,
+        worker: &'a str,
+    },
     /// A build ended: `build I ended RESULT`.
-    BuildEnded { build: u64, result: Results },
+    BuildEnded {
+        build: u64,
+        result: Results,
+    },
     /// A build is to be cancelled, as a line of standard input asked: `build I to be cancelled`.
-    BuildCancelled { build: u64 },
+    BuildCancelled {
+        build: u64,
+    },
     /// A step of a build started, and its log has this id: `build I step started, log ID: STEP`.
     StepStarted {
         build: u64,
@@ -48,7 +75,10 @@ pub enum Remark<'a> {
         step: &'a str,
     },
     /// A step of a build could not be started: `build I step not started: STEP`.
-    StepRefused { build: u64, step: &'a str },
+    StepRefused {
+        build: u64,
+        step: &'a str,
+    },
     /// A step of a build ended: `build I step ended RESULT, log ID: STEP`.
     StepEnded {
         build: u64,
@@ -57,11 +87,17 @@ pub enum Remark<'a> {
         step: &'a str,
     },
     /// The program of a latent worker was started: `program of NAME started`.
-    ProgramStarted { worker: &'a str },
+    ProgramStarted {
+        worker: &'a str,
+    },
     /// The program of a latent worker could not be started: `program of NAME not started`.
-    ProgramFailed { worker: &'a str },
+    ProgramFailed {
+        worker: &'a str,
+    },
     /// The program of a latent worker ended: `program of NAME ended`.
-    ProgramEnded { worker: &'a str },
+    ProgramEnded {
+        worker: &'a str,
+    },
 }
 
 impl Remark<'_> {
