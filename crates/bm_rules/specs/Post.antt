@@ -1,8 +1,8 @@
 -- What a build master knows of a worker, and what it does after each event.
-use Rattle.std.specs.Prelude.{ℕ, Bool, true, false, ◌&&◌, ◌||◌, not, if◌then◌else◌, List, [], ◌∷◌, Option, Some, None}
+use Rattle.std.specs.Prelude.{Bool, true, false, ◌&&◌, ◌||◌, not, if◌then◌else◌, List, [], ◌∷◌, Option}
 use Rattle.std.specs.Option.{option_map_or, option_map}
 use Rattle.bm_latent.specs.declared.event.LatentState.{LatentState}
-use Rattle.bm_latent.specs.declared.event.LatentState.TheVariants.{Not, Substantiating, Substantiated, Insubstantiating, Waiting, Held}
+use Rattle.bm_latent.specs.declared.event.LatentState.TheVariants.{Substantiating, Substantiated, Insubstantiating, Waiting}
 use Rattle.bm_latent.specs.declared.event.LatentEvent.{LatentEvent}
 use Rattle.bm_latent.specs.declared.event.LatentEvent.TheVariants.{Want, Started as LatentStarted, Failed as LatentFailed, Attached as LatentAttached, Lost as LatentLost, IdleTick, Stopped as LatentStopped, Cut as LatentCut}
 use Rattle.bm_latent.specs.declared.event.Act.{Act}
