@@ -1,0 +1,2 @@
+-- What a roster does to its board, to be believed.
+pub mod Roster

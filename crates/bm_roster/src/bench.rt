@@ -1,0 +1,85 @@
+//! The viewers of a lane that no build has.
+ghost use Rattle.std.specs.Prelude.{◌≡◌, IfSome, OnSome, OnNone, IfNone};
+
+use bm_lane::{Viewer, Yard};
+use std::marker::Model;
+
+/// The viewers of a worker's lane that no build has. Contracts see its lane.
+#[derive(Drop)]
+pub struct Bench<Y: Yard> {
+    lane: u64,
+    all: usize,
+    viewers: Vec<Viewer<Y>>,
+}
+
+impl<Y: Yard> Model for Bench<Y> {
+    ghost use Rattle.bm_lane.specs.Ends.{AllOf};
+    ghost use Rattle.bm_roster.specs.Roster.{Benched};
+
+    ghost Value = { Benched };
+
+    ghost view = { λ b. record { lane = b.lane; viewers = b.viewers.items } };
+
+    ghost invariant = { λ b. AllOf b.lane b.viewers.items };
+}
+
+impl<Y: Yard> Bench<Y> {
+    ghost use Rattle.std.specs.Prelude.{[], ◌∷◌, ◌++◌};
+
+    /// A bench of these viewers. None where one of them is of another lane.
+    pub fn new(lane: u64, viewers: Vec<Viewer<Y>>) -> Option<Bench<Y>>
+        ensures { IfSome result (λ b. (b.lane ≡ lane) × (b.viewers ≡ viewers.items)) }
+    {
+        if viewers.iter().all(|viewer| viewer.lane() == lane) {
+            let all = viewers.len();
+            Some(Bench { lane, all, viewers })
+        } else {
+            None
+        }
+    }
+
+    /// The lane's number.
+    pub fn lane(&self) -> u64
+        ensures { result ≡ self.now.lane }
+    {
+        self.lane
+    }
+
+    /// Whether no viewer is away.
+    pub fn is_whole(&self) -> bool {
+        self.viewers.len() == self.all
+    }
+
+    /// Takes a viewer, which is one of this lane. None where builds have all of them.
+    pub fn take(&mut self) -> Option<Viewer<Y>>
+        ensures lane { self.new.lane ≡ self.old.lane }
+        ensures own { IfSome result (λ v. v.lane ≡ self.old.lane) }
+        ensures taken { IfSome result (λ v. self.old.viewers ≡ self.new.viewers ++ v ∷ []) }
+        ensures none { IfNone result ((self.old.viewers ≡ []) × (self.new ≡ self.old)) }
+    {
+        self.viewers.pop()
+    }
+
+    /// Gives a viewer back. It comes back in `Err` where it is of another lane, or memory is
+    /// wanting, which never comes for a viewer that was taken here.
+    pub fn give(&mut self, viewer: Viewer<Y>) -> Result<(), Viewer<Y>>
+        ensures lane { self.new.lane ≡ self.old.lane }
+        ensures given { OnOk result ((self.new.viewers ≡ self.old.viewers ++ viewer ∷ []) × (viewer.lane ≡ self.old.lane)) }
+        ensures back { IfErr result (λ v. (v ≡ viewer) × (self.new ≡ self.old)) }
+    {
+        if viewer.lane() != self.lane {
+            return Err(viewer);
+        }
+        match self.viewers.push(viewer) {
+            Ok(()) => Ok(()),
+            Err(failed) => Err(failed.value),
+        }
+    }
+
+    /// The viewers, given back.
+    pub fn into_viewers(self) -> Vec<Viewer<Y>>
+        ensures { result.items ≡ self.viewers }
+    {
+        self.viewers
+    }
+}

@@ -1,0 +1,279 @@
+//! The roster itself.
+ghost use Rattle.std.specs.Prelude.{◌≡◌, ◌<◌, ◌≤◌, ◌×◌, All, IfOk, OnOk, OnErr, IfErr, IfSome, IfNone, IsTrue, [], ◌∷◌, length, Ok, Err, None, Some};
+ghost use Rattle.bm_roster.specs.Roster.{IsStarted, after_end, after_cancel, after_failure, whole};
+ghost use Rattle.bm_board.specs.Board.{opening, result_on};
+
+use crate::bench::Bench;
+use crate::commission::Commission;
+use bm_board::{Board, BoardRefusal, Build, StepPlan, StepPlans, Words};
+use bm_lane::{Viewer, Yard};
+use bm_lines::Text;
+use bm_session::Results;
+use std::alloc::{AllocError, Global};
+use std::marker::Model;
+
+/// A build that waits.
+#[derive(Clone, Copy)]
+struct Waiting {
+    number: u64,
+    worker: usize,
+}
+
+/// What a cancel met.
+#[derive(Clone, Copy, Debug, PartialEq, Eq)]
+pub enum Cancelled {
+    /// The build waited, and has ended CANCELLED.
+    Waiting,
+    /// The build runs: its runner is to be told, and it will count as CANCELLED.
+    Running,
+    /// There is no such build, or it had ended: nothing changed.
+    Nothing,
+}
+
+/// The builds by number, the workers and the locks, and the viewers that no build has. Contracts
+/// see its board.
+///
+/// On the board a build is one step, that of its runner, whose outcome is what the runner reports.
+#[derive(Drop)]
+pub struct Roster<Y: Yard> {
+    board: Board,
+    benches: Vec<Bench<Y>>,
+    // The builds that wait, in the order of their numbers.
+    waiting: Vec<Waiting>,
+    builds: u64,
+}
+
+impl<Y: Yard> Model for Roster<Y> {
+    ghost use Rattle.bm_board.specs.Board.{Standing};
+
+    ghost Value = { Standing };
+
+    ghost view = { λ r. r.board };
+}
+
+// What a build is on the board: its worker, its locks, and one step.
+fn as_one_step(alloc: Global, build: &Build) -> Result<Build, AllocError>
+    ensures worker { IfOk result (λ b. b.worker ≡ build.now.worker) }
+    ensures locks { IfOk result (λ b. b.locks ≡ build.now.locks) }
+    ensures steps { IfOk result (λ b. b.steps ≡ whole ∷ []) }
+{
+    let step = StepPlan {
+        name: Text::from_str(alloc, "")?,
+        argv: Words::new(alloc),
+        halt_on_failure: false,
+        flunk_on_failure: true,
+        always_run: false,
+    };
+    let mut steps = Vec::with_capacity(alloc, 1)?;
+    steps.push_reserved(step);
+    Ok(Build {
+        worker: build.worker,
+        locks: build.locks.copy()?,
+        steps: StepPlans::from_vec(steps),
+    })
+}
+
+impl<Y: Yard> Roster<Y> {
+    /// A roster without builds. Worker w has the slots and the bench at place w, and isn't ready.
+    pub fn new(
+        alloc: Global,
+        slots: &[u8],
+        lock_max: &[u32],
+        benches: Vec<Bench<Y>>,
+    ) -> Result<Roster<Y>, AllocError>
+        requires slots { All (λ n. (1 ≤ n) × (n ≤ 4)) slots.now }
+        requires maxima { All (λ n. 1 ≤ n) lock_max.now }
+        ensures { IfOk result (λ r. r ≡ opening slots.now lock_max.now) }
+    {
+        Ok(Roster {
+            board: Board::new(alloc, slots, lock_max)?,
+            benches,
+            waiting: Vec::new(alloc),
+            builds: 0,
+        })
+    }
+
+    /// Adds a build, which waits. Its number is how many were added before.
+    /// Errors: those of the board. Nothing has changed then.
+    pub fn add(&mut self, alloc: Global, build: &Build) -> Result<u64, BoardRefusal>
+        ensures number { IfOk result (λ n. n ≡ length self.old.jobs) }
+        ensures unchanged { OnErr result (self.new ≡ self.old) }
+    {
+        if self.waiting.reserve(1).is_err() {
+            return Err(BoardRefusal::Mem);
+        }
+        let Ok(one) = as_one_step(alloc, build) else {
+            return Err(BoardRefusal::Mem);
+        };
+        match self.board.add_build(one) {
+            Ok(number) => {
+                self.waiting.push_reserved(Waiting {
+                    number,
+                    worker: build.worker,
+                });
+                self.builds = number.saturating_add(1);
+                Ok(number)
+            }
+            Err((_, why)) => Err(why),
+        }
+    }
+
+    /// How many builds there are.
+    pub fn builds(&self) -> u64 {
+        self.builds
+    }
+
+    /// How many workers there are.
+    pub fn workers(&self) -> usize
+        ensures { result ≡ length self.now.workers }
+    {
+        self.board.workers()
+    }
+
+    /// Says whether the worker takes builds.
+    pub fn set_ready(&mut self, worker: usize, ready: bool) {
+        if worker < self.board.workers() {
+            self.board.set_ready(worker, ready);
+        }
+    }
+
+    /// Whether a build waits for the worker.
+    pub fn is_wanted(&self, worker: usize) -> bool {
+        self.waiting.iter().any(|one| one.worker == worker)
+    }
+
+    /// Whether the worker has no build, neither one that runs nor one that waits for it.
+    pub fn is_idle(&self, worker: usize) -> bool {
+        match self.benches.get(worker) {
+            Some(bench) => bench.is_whole() && !self.is_wanted(worker),
+            None => false,
+        }
+    }
+
+    // A viewer of the worker's lane.
+    fn take_viewer(&mut self, worker: usize) -> Option<Viewer<Y>>
+        ensures own { IfSome result (λ v. v.lane ≡ worker) }
+        ensures same { self.new ≡ self.old }
+    {
+        let viewer = self.benches.get_mut(worker)?.take()?;
+        if viewer.lane() == worker as u64 {
+            Some(viewer)
+        } else {
+            None
+        }
+    }
+
+    /// Starts a build that waits, where its worker is ready and has a free slot and its locks may be
+    /// had. None where no viewer of its worker's lane is left, which never comes: the build has then
+    /// ended RETRY.
+    /// Errors: those of the board. Nothing has changed then.
+    fn start(&mut self, number: u64) -> Result<Option<Commission<Y>>, BoardRefusal>
+        ensures started { IfOk result (λ o. IfSome o
+            (λ c. (c.number ≡ number) × IsStarted self.old self.new number c.worker)) }
+        ensures failed { IfOk result (λ o. IfNone o (self.new ≡ after_failure self.old number)) }
+        ensures unchanged { OnErr result (self.new ≡ self.old) }
+    {
+        let started = self.board.try_start(number)?;
+        let worker = started.worker;
+        match self.take_viewer(worker) {
+            Some(viewer) => Ok(Some(Commission {
+                number,
+                worker,
+                viewer,
+            })),
+            None => {
+                self.finish(number, Results::Retry);
+                Ok(None)
+            }
+        }
+    }
+
+    /// The first build that can be started now, which is started. It is to run, and to come back by
+    /// `end`.
+    pub fn next(&mut self) -> Option<Commission<Y>> {
+        let mut place = 0;
+        for _ in 0..self.waiting.len() {
+            let one = *self.waiting.get(place)?;
+            match self.start(one.number) {
+                Ok(commission) => {
+                    self.waiting.remove(place);
+                    if commission.is_some() {
+                        return commission;
+                    }
+                }
+                Err(_) => place = place.saturating_add(1),
+            }
+        }
+        None
+    }
+
+    // The build's runner has reported: its result is kept, and it gives its slot and its locks back.
+    fn finish(&mut self, number: u64, reported: Results)
+        ensures { self.new ≡ after_end self.old number reported }
+    {
+        let _ = self.board.step_done(number, reported);
+        let _ = self.board.release(number);
+    }
+
+    /// A build that was started comes back with what its runner reports, which is kept as its result;
+    /// or CANCELLED, where it was cancelled meanwhile. It gives its slot and its locks back, and its
+    /// viewer goes back to the bench of its lane. The answer is whether it had a place there.
+    pub fn end(&mut self, number: u64, reported: Results, viewer: Viewer<Y>) -> bool
+        ensures { self.new ≡ after_end self.old number reported }
+    {
+        self.finish(number, reported);
+        match self.benches.get_mut(viewer.lane() as usize) {
+            Some(bench) => bench.give(viewer).is_ok(),
+            None => false,
+        }
+    }
+
+    /// Cancels a build.
+    pub fn cancel(&mut self, number: u64) -> Cancelled
+        ensures { self.new ≡ after_cancel self.old number }
+    {
+        match self.board.cancel(number) {
+            Ok(true) => Cancelled::Running,
+            Ok(false) => {
+                self.waiting.retain(|one| one.number != number);
+                Cancelled::Waiting
+            }
+            Err(_) => Cancelled::Nothing,
+        }
+    }
+
+    /// Each build that waits for the worker is given up: it ends RETRY.
+    pub fn give_up(&mut self, worker: usize) {
+        for one in self.waiting.iter() {
+            if one.worker == worker {
+                let _ = self.board.give_up(one.number);
+            }
+        }
+        self.waiting.retain(|one| one.worker != worker);
+    }
+
+    /// The result of a build, None before its end.
+    pub fn result(&self, number: u64) -> Option<Results>
+        ensures { IfSome result (λ r. result_on self.now number ≡ Ok (Some r)) }
+    {
+        match self.board.result(number) {
+            Ok(result) => result,
+            Err(_) => None,
+        }
+    }
+
+    /// Whether every build has its result.
+    pub fn is_over(&self) -> bool {
+        for number in 0..self.builds {
+            if self.result(number).is_none() {
+                return false;
+            }
+        }
+        true
+    }
+
+    /// The benches, by their workers' places, once no build runs.
+    pub fn into_benches(self) -> Vec<Bench<Y>> {
+        self.benches
+    }
+}
