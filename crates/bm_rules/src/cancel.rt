@@ -1,0 +1,25 @@
+//! The lines of a build master's standard input.
+
+ghost use Rattle.std.specs.Prelude.{◌≡◌};
+ghost use Rattle.bm_rules.specs.Cancel.{cancelled};
+
+use std::str;
+
+/// The number of the build that a line cancels: that of `cancel I`, one space between the two, with I of
+/// one or more decimal digits, below 2^64; none for any other line. The line end is no part of it.
+pub fn read_cancel(line: &[u8]) -> Option<u64>
+    ensures { result ≡ cancelled line.now }
+{
+    let text = str::from_utf8(line).ok()?;
+    number(text.strip_prefix("cancel ")?)
+}
+
+// The number of one or more decimal digits, without a sign.
+fn number(text: &str) -> Option<u64>
+    ensures { result ≡ number_of text.now }
+{
+    if text.as_bytes().first() == Some(&b'+') {
+        return None;
+    }
+    text.parse().ok()
+}

@@ -1,0 +1,24 @@
+//! How a build master ends.
+
+ghost use Rattle.std.specs.Prelude.{◌≡◌};
+ghost use Rattle.bm_rules.specs.Exit.{exit_status};
+
+use bm_session::Results;
+
+/// The exit status where the words or the configuration are refused.
+pub const REFUSED: u8 = 2;
+
+/// The exit status of a master whose builds had these results: 0 where each of them is `SUCCESS` or
+/// `WARNINGS`, else 1. `failed` says that the master itself failed (a report could not be written, a
+/// thread could not be started, memory was wanting), which is 1 too.
+pub fn status(results: &[Results], failed: bool) -> u8
+    ensures { result ≡ exit_status results.now failed }
+{
+    for result in results {
+        match result {
+            Results::Success | Results::Warnings => {}
+            _ => return 1,
+        }
+    }
+    if failed { 1 } else { 0 }
+}
