@@ -5,7 +5,7 @@ use Rattle.bm_session.specs.declared.results.Results.{Results}
 use Rattle.bm_session.specs.declared.results.Results.TheVariants.{Retry}
 use Rattle.bm_board.specs.declared.plan.StepPlan.{StepPlan}
 use Rattle.bm_board.specs.declared.steps.Next.{Next}
-use Rattle.bm_board.specs.Job.{answer_of, cancel, finish, release}
+use Rattle.bm_board.specs.Job.{answer_of, cancel, finish, give_up, release}
 use Rattle.bm_board.specs.Board.{Standing, board_after, on_build, start, result_on}
 use Rattle.bm_lane.specs.Ends.{Watched}
 
@@ -51,3 +51,7 @@ after_failure b number = after_end (board_after b number (on_build (start b) b n
 -- the board once a build was cancelled
 abbrev pub after_cancel : Standing → ℕ → Standing
 after_cancel b number = board_after b number (on_build cancel b number)
+
+-- the board once a build that waited was given up
+abbrev pub after_giving_up : Standing → ℕ → Standing
+after_giving_up b number = board_after b number (on_build give_up b number)

@@ -1,6 +1,6 @@
 //! The roster itself.
 ghost use Rattle.std.specs.Prelude.{◌≡◌, ◌<◌, ◌≤◌, ◌×◌, All, IfOk, OnOk, OnErr, IfErr, IfSome, IfNone, IsTrue, [], ◌∷◌, length, Ok, Err, None, Some};
-ghost use Rattle.bm_roster.specs.Roster.{IsStarted, after_end, after_cancel, after_failure, whole};
+ghost use Rattle.bm_roster.specs.Roster.{IsStarted, after_end, after_cancel, after_failure, after_giving_up, whole};
 ghost use Rattle.bm_board.specs.Board.{opening, result_on};
 
 use crate::bench::Bench;
@@ -142,10 +142,10 @@ impl<Y: Yard> Roster<Y> {
         self.waiting.iter().any(|one| one.worker == worker)
     }
 
-    /// Whether the worker has no build, neither one that runs nor one that waits for it.
-    pub fn is_idle(&self, worker: usize) -> bool {
+    /// Whether a build of the worker runs.
+    pub fn has_build(&self, worker: usize) -> bool {
         match self.benches.get(worker) {
-            Some(bench) => bench.is_whole() && !self.is_wanted(worker),
+            Some(bench) => !bench.is_whole(),
             None => false,
         }
     }
@@ -242,14 +242,16 @@ impl<Y: Yard> Roster<Y> {
         }
     }
 
-    /// Each build that waits for the worker is given up: it ends RETRY.
-    pub fn give_up(&mut self, worker: usize) {
-        for one in self.waiting.iter() {
-            if one.worker == worker {
-                let _ = self.board.give_up(one.number);
-            }
-        }
-        self.waiting.retain(|one| one.worker != worker);
+    /// The first build that waits for the worker is given up: it ends RETRY. The answer is its
+    /// number, None where no build waits for the worker.
+    pub fn give_up_one(&mut self, worker: usize) -> Option<u64>
+        ensures given_up { IfSome result (λ n. self.new ≡ after_giving_up self.old n) }
+        ensures unchanged { IfNone result (self.new ≡ self.old) }
+    {
+        let place = self.waiting.iter().position(|one| one.worker == worker)?;
+        let number = self.waiting.remove(place).number;
+        let _ = self.board.give_up(number);
+        Some(number)
     }
 
     /// The result of a build, None before its end.
