@@ -1,9 +1,8 @@
 //! What the threads are given, made before the first of them starts.
 
-use bm_board::Listed;
-use bm_clerk::{Door, Inbox, open_door};
+use bm_clerk::{Desk, Door, Inbox, open_door};
 use bm_config::{LockConfig, WorkerConfig};
-use bm_lane::{Blank, Ends, OpenError, ReaderEnd, Viewer, WriterEnd, Yard, open};
+use bm_lane::{Blank, Ends, Viewer, WriterEnd, Yard, open};
 use bm_link::User;
 use bm_roster::Bench;
 use std::alloc::{AllocError, Global};
@@ -43,8 +42,8 @@ pub fn open_all<W: Wait + Copy + Drop>(
 
 /// The ends of many lanes, by who owns them. Each list is in the lanes' order.
 #[derive(Drop)]
-pub struct Parts<Y: Yard, W: Wait + Drop> {
-    pub readers: Vec<ReaderEnd<Y>>,
+pub struct Parts<Y: Yard, W: Wait + Drop, S> {
+    pub desks: Vec<Desk<Y, S>>,
     pub writers: Vec<Mutex<WriterEnd<Y, W>>>,
     /// The viewers of the builds.
     pub benches: Vec<Bench<Y>>,
@@ -52,41 +51,54 @@ pub struct Parts<Y: Yard, W: Wait + Drop> {
     pub site: Vec<Viewer<Y>>,
 }
 
-/// Deals the ends out. None where memory is wanting, or a lane has viewers of another one.
-pub fn deal<Y: Yard, W: Wait + Drop>(
+/// Deals the ends of new lanes out. None where memory is wanting; or where an end is missing or of
+/// another lane, or a lane isn't new, which never comes.
+pub fn deal<Y: Yard, W: Wait + Drop, S: Drop>(
     alloc: Global,
+    workers: &[WorkerConfig],
     all: Vec<Ends<Y, W>>,
-) -> Option<Parts<Y, W>> {
-    let mut readers = Vec::new(alloc);
-    let mut writers = Vec::new(alloc);
-    let mut benches = Vec::new(alloc);
-    let mut site = Vec::new(alloc);
+) -> Option<Parts<Y, W, S>> {
+    let mut parts = Parts {
+        desks: Vec::new(alloc),
+        writers: Vec::new(alloc),
+        benches: Vec::new(alloc),
+        site: Vec::new(alloc),
+    };
+    let mut workers = workers.iter();
     for ends in all {
-        let Ends {
-            reader,
-            writer,
-            mut viewers,
-        } = ends;
-        let lane = reader.lane();
-        if let Some(viewer) = viewers.pop()
-            && site.push(viewer).is_err()
-        {
-            return None;
-        }
-        let bench = Bench::new(lane, viewers)?;
-        if readers.push(reader).is_err()
-            || writers.push(Mutex::new(writer)).is_err()
-            || benches.push(bench).is_err()
-        {
+        let worker = workers.next()?;
+        if !parts.add(alloc, worker.resume_ticks, ends) {
             return None;
         }
     }
-    Some(Parts {
-        readers,
-        writers,
-        benches,
-        site,
-    })
+    Some(parts)
+}
+
+impl<Y: Yard, W: Wait + Drop, S: Drop> Parts<Y, W, S> {
+    // Adds the ends of a lane. The answer is whether that could be done.
+    fn add(&mut self, alloc: Global, resume_ticks: u32, ends: Ends<Y, W>) -> bool {
+        let Ends {
+            reader,
+            writer,
+            viewers,
+        } = ends;
+        let mut viewers = viewers;
+        let lane = reader.lane();
+        if !reader.trace().is_empty() {
+            return false;
+        }
+        let Some(viewer) = viewers.pop() else {
+            return false;
+        };
+        let Some(bench) = Bench::new(lane, viewers) else {
+            return false;
+        };
+        let desk = Desk::new(alloc, reader, resume_ticks);
+        self.desks.push(desk).is_ok()
+            && self.writers.push(Mutex::new(writer)).is_ok()
+            && self.benches.push(bench).is_ok()
+            && self.site.push(viewer).is_ok()
+    }
 }
 
 /// How many slots each worker has. None where memory is wanting, or a number is out of its limits.

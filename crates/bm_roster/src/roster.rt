@@ -1,5 +1,5 @@
 //! The roster itself.
-ghost use Rattle.std.specs.Prelude.{◌≡◌, ◌<◌, ◌≤◌, ◌×◌, All, IfOk, OnOk, OnErr, IfErr, IfSome, IfNone, IsTrue, [], ◌∷◌, length, Ok, Err, None, Some};
+ghost use Rattle.std.specs.Prelude.{◌≡◌, ◌<◌, ◌≤◌, All, IfOk, OnOk, OnErr, IfErr, IfSome, IfNone, IsTrue, [], ◌∷◌, length, Ok, Err, None, Some};
 ghost use Rattle.bm_roster.specs.Roster.{IsStarted, after_end, after_cancel, after_failure, after_giving_up, whole};
 ghost use Rattle.bm_board.specs.Board.{opening, result_on};
 
