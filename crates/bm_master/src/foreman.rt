@@ -90,8 +90,8 @@ impl<'s, Y, R, O, F> Foreman<'s, Y, R, O, F>
 where
     Y: Yard + Send + Sync + 's,
     R: Wait + Clock + Threads + Processes<Started = SystemProcess> + Drop + Send + Sync + 's,
-    O: Write,
-    F: Write,
+    O: Write + Drop,
+    F: Write + Drop,
 {
     // Tells the operator. What can't be told is passed over.
     fn remark(&mut self, remark: &Remark<'_>) {

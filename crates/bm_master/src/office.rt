@@ -11,10 +11,10 @@ use bm_lines::Text;
 use bm_roster::Commission;
 use bm_runner::run_build;
 use bm_session::Results;
-use crossbeam_channel::{Receiver, bounded};
+use crossbeam_channel::bounded;
 use std::alloc::Global;
 use std::sync::Wait;
-use std::sync::atomic::AtomicBool;
+use std::sync::atomic::{AtomicBool, Ordering};
 use std::thread::{Scope, Threads};
 use std::time::Clock;
 
@@ -51,6 +51,7 @@ struct StepTeller<'s, Y: Yard, R: Wait + Clock> {
     mail: Mail<Y>,
     build: u64,
     name: Option<Text>,
+    cancelled: &'s AtomicBool,
 }
 
 impl<'s, Y: Yard, R: Wait + Clock> StepTeller<'s, Y, R> {
@@ -76,7 +77,11 @@ impl<'s, Y: Yard, R: Wait + Clock> Watch for StepTeller<'s, Y, R> {
         );
     }
 
+    // A cancel ends one step: those that always run are run after it.
     fn ended(&mut self, command: u64, outcome: Results) {
+        if outcome == Results::Cancelled {
+            self.cancelled.store(false, Ordering::SeqCst);
+        }
         self.mail.tell(
             self.rt,
             News::StepEnded {
@@ -119,6 +124,7 @@ fn run<Y, R>(
         mail: told,
         build: number,
         name: None,
+        cancelled,
     };
     let mut port = LanePort::over(rt, alloc, viewer, door, cancelled, teller);
     let result = match run_build(alloc, build, &mut port, TURNS) {
