@@ -4,6 +4,7 @@ use Rattle.std.specs.Prelude.{◌≡◌, ℕ, Bool, true, false, List, [], ◌�
 use Rattle.bm_session.specs.declared.results.Results.{Results}
 use Rattle.bm_session.specs.declared.results.Results.TheVariants.{Retry}
 use Rattle.bm_board.specs.declared.plan.StepPlan.{StepPlan}
+use Rattle.bm_board.specs.declared.plan.Build.{Build}
 use Rattle.bm_board.specs.declared.steps.Next.{Next}
 use Rattle.bm_board.specs.Job.{answer_of, cancel, finish, give_up, release}
 use Rattle.bm_board.specs.Board.{Standing, board_after, on_build, start, result_on}
@@ -24,6 +25,10 @@ whole =
       flunk_on_failure = true;
       always_run = false;
     }
+
+-- what a build is on the board: its worker, its locks, and that step
+abbrev pub on_board : Build → Build
+on_board build = record { worker = build.worker; locks = build.locks; steps = whole ∷ [] }
 
 -- the build was started on this worker: it waited, the worker was ready and had a free slot, and
 -- each of the build's locks could be had

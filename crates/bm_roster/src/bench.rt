@@ -1,5 +1,5 @@
 //! The viewers of a lane that no build has.
-ghost use Rattle.std.specs.Prelude.{◌≡◌, IfSome, OnSome, OnNone, IfNone};
+ghost use Rattle.std.specs.Prelude.{◌≡◌, IfSome, IfNone, IfErr, OnOk};
 
 use bm_lane::{Viewer, Yard};
 use std::marker::Model;

@@ -1,7 +1,7 @@
 //! The roster itself.
-ghost use Rattle.std.specs.Prelude.{◌≡◌, ◌<◌, ◌≤◌, All, IfOk, OnOk, OnErr, IfErr, IfSome, IfNone, IsTrue, [], ◌∷◌, length, Ok, Err, None, Some};
-ghost use Rattle.bm_roster.specs.Roster.{IsStarted, after_end, after_cancel, after_failure, after_giving_up, whole};
-ghost use Rattle.bm_board.specs.Board.{opening, result_on};
+ghost use Rattle.std.specs.Prelude.{◌≡◌, ◌⊎◌, ◌<◌, ◌≤◌, ℕ, All, IfOk, OnOk, OnErr, IfErr, IfSome, IfNone, length, Ok, Some};
+ghost use Rattle.bm_roster.specs.Roster.{IsStarted, after_end, after_cancel, after_failure, after_giving_up, on_board};
+ghost use Rattle.bm_board.specs.Board.{add_refusal, opening, result_on, with_build, with_ready};
 
 use crate::bench::Bench;
 use crate::commission::Commission;
@@ -41,6 +41,7 @@ pub struct Roster<Y: Yard> {
     // The builds that wait, in the order of their numbers.
     waiting: Vec<Waiting>,
     builds: u64,
+    is_short: bool,
 }
 
 impl<Y: Yard> Model for Roster<Y> {
@@ -53,9 +54,7 @@ impl<Y: Yard> Model for Roster<Y> {
 
 // What a build is on the board: its worker, its locks, and one step.
 fn as_one_step(alloc: Global, build: &Build) -> Result<Build, AllocError>
-    ensures worker { IfOk result (λ b. b.worker ≡ build.now.worker) }
-    ensures locks { IfOk result (λ b. b.locks ≡ build.now.locks) }
-    ensures steps { IfOk result (λ b. b.steps ≡ whole ∷ []) }
+    ensures { IfOk result (λ b. b ≡ on_board build.now) }
 {
     let step = StepPlan {
         name: Text::from_str(alloc, "")?,
@@ -90,6 +89,7 @@ impl<Y: Yard> Roster<Y> {
             benches,
             waiting: Vec::new(alloc),
             builds: 0,
+            is_short: false,
         })
     }
 
@@ -97,6 +97,9 @@ impl<Y: Yard> Roster<Y> {
     /// Errors: those of the board. Nothing has changed then.
     pub fn add(&mut self, alloc: Global, build: &Build) -> Result<u64, BoardRefusal>
         ensures number { IfOk result (λ n. n ≡ length self.old.jobs) }
+        ensures added { OnOk result (self.new ≡ with_build self.old (on_board build.now)) }
+        ensures refused { IfErr result (λ r. (add_refusal self.old (on_board build.now) ≡ Some r)
+            ⊎ (r ≡ BoardRefusal.Mem)) }
         ensures unchanged { OnErr result (self.new ≡ self.old) }
     {
         if self.waiting.reserve(1).is_err() {
@@ -130,8 +133,11 @@ impl<Y: Yard> Roster<Y> {
         self.board.workers()
     }
 
-    /// Says whether the worker takes builds.
-    pub fn set_ready(&mut self, worker: usize, ready: bool) {
+    /// Says whether the worker takes builds. A worker that isn't there is passed over.
+    pub fn set_ready(&mut self, worker: usize, ready: bool)
+        ensures there { worker < length self.old.workers → self.new ≡ with_ready self.old worker ready }
+        ensures nowhere { length self.old.workers ≤ worker → self.new ≡ self.old }
+    {
         if worker < self.board.workers() {
             self.board.set_ready(worker, ready);
         }
@@ -163,10 +169,10 @@ impl<Y: Yard> Roster<Y> {
         }
     }
 
-    /// Starts a build that waits, where its worker is ready and has a free slot and its locks may be
-    /// had. None where no viewer of its worker's lane is left, which never comes: the build has then
-    /// ended RETRY.
-    /// Errors: those of the board. Nothing has changed then.
+    // Starts a build that waits, where its worker is ready and has a free slot and its locks may be
+    // had. None where no viewer of its worker's lane is left, which never comes: the build has then
+    // ended RETRY.
+    // Errors: those of the board. Nothing has changed then.
     fn start(&mut self, number: u64) -> Result<Option<Commission<Y>>, BoardRefusal>
         ensures started { IfOk result (λ o. IfSome o
             (λ c. (c.number ≡ number) × IsStarted self.old self.new number c.worker)) }
@@ -188,23 +194,36 @@ impl<Y: Yard> Roster<Y> {
         }
     }
 
-    /// The first build that can be started now, which is started. It is to run, and to come back by
-    /// `end`.
-    pub fn next(&mut self) -> Option<Commission<Y>> {
-        let mut place = 0;
-        for _ in 0..self.waiting.len() {
-            let one = *self.waiting.get(place)?;
-            match self.start(one.number) {
+    /// Starts the first of the waiting builds that can be started now. It is to run, and to come back
+    /// by `end`.
+    pub fn next(&mut self) -> Option<Commission<Y>>
+        ensures started { IfSome result (λ c. IsStarted self.old self.new c.number c.worker) }
+        ensures nothing { IfNone result ((self.new ≡ self.old)
+            ⊎ ((number : ℕ) × (self.new ≡ after_failure self.old number))) }
+    {
+        self.is_short = false;
+        for place in 0..self.waiting.len() {
+            let number = self.waiting.get(place)?.number;
+            match self.start(number) {
                 Ok(commission) => {
-                    self.waiting.remove(place);
-                    if commission.is_some() {
-                        return commission;
+                    if place < self.waiting.len() {
+                        self.waiting.remove(place);
+                    }
+                    return commission;
+                }
+                Err(why) => {
+                    if why == BoardRefusal::Mem {
+                        self.is_short = true;
                     }
                 }
-                Err(_) => place = place.saturating_add(1),
             }
         }
         None
+    }
+
+    /// Whether memory was wanting for the start of a build, so that it is to be tried again.
+    pub fn is_short(&self) -> bool {
+        self.is_short
     }
 
     // The build's runner has reported: its result is kept, and it gives its slot and its locks back.

@@ -46,9 +46,9 @@ machine_after w [] = (w, NoAct)
 machine_after w (e ∷ []) = (standing_after w e, act_after w e)
 machine_after w (d ∷ e ∷ es) = machine_after (standing_after w d) (e ∷ es)
 
--- where the machine stands after what the worker did, if it has one
-abbrev pub latent_after : Known → WorkerEvent → Option (Standing × Act)
-latent_after p event = option_map (λ w. machine_after w (told p event)) p.latent
+-- where the machine stands after the event, if there is one
+abbrev pub latent_after : Known → WorkerEvent → Option Standing
+latent_after p event = option_map (λ w. (machine_after w (told p event)).0) p.latent
 
 abbrev pub is_attached_after : Bool → WorkerEvent → Bool
 is_attached_after before Attached = true
@@ -78,13 +78,13 @@ is_full_after before event = before
 
 -- what the machine asks for, nothing where there is none
 abbrev pub act_of : Known → WorkerEvent → Act
-act_of p event = option_map_or (λ r. r.1) (latent_after p event) NoAct
+act_of p event = option_map_or (λ w. (machine_after w (told p event)).1) p.latent NoAct
 
 -- what the master knows after the event
 abbrev pub known_after : Known → WorkerEvent → Known
 known_after p event =
     record {
-      latent = option_map (λ r. r.0) (latent_after p event);
+      latent = latent_after p event;
       attached = is_attached_after p.attached event;
       running = is_running_after p.running event (act_of p event);
       full = is_full_after p.full event;

@@ -18,23 +18,23 @@ lost_line worker what cause = codes "worker " ++ (one_line worker ++ (what ++ (l
 
 -- what the line says, with its line end
 abbrev pub remark_line : Remark → List ℕ
-remark_line (LoggedIn worker) = codes "worker " ++ (one_line worker ++ codes " logged in\n")
-remark_line (Resumed worker) = codes "worker " ++ (one_line worker ++ codes " resumed\n")
-remark_line (Cut worker cause) = lost_line worker (codes " cut, ") cause
-remark_line (Lost worker cause) = lost_line worker (codes " lost, ") cause
-remark_line (Dismissed worker) = codes "worker " ++ (one_line worker ++ codes " told to shut down\n")
-remark_line (Filled worker) = codes "worker " ++ (one_line worker ++ codes " full\n")
-remark_line (LoginRefused name why) = codes "login refused, " ++ (refusal_text why ++ (codes ": " ++ (one_line name ++ 10 ∷ [])))
+remark_line (LoggedIn worker) = codes "worker " ++ (one_line worker.now ++ codes " logged in\n")
+remark_line (Resumed worker) = codes "worker " ++ (one_line worker.now ++ codes " resumed\n")
+remark_line (Cut worker cause) = lost_line worker.now (codes " cut, ") cause
+remark_line (Lost worker cause) = lost_line worker.now (codes " lost, ") cause
+remark_line (Dismissed worker) = codes "worker " ++ (one_line worker.now ++ codes " told to shut down\n")
+remark_line (Filled worker) = codes "worker " ++ (one_line worker.now ++ codes " full\n")
+remark_line (LoginRefused name why) = codes "login refused, " ++ (refusal_text why ++ (codes ": " ++ (one_line name.now ++ 10 ∷ [])))
 remark_line (ConnectionRefused why) = codes "connection refused, " ++ (refusal_text why ++ 10 ∷ [])
 remark_line AcceptingPaused = codes "accepting paused\n"
-remark_line (BuildStarted build worker) = codes "build " ++ (decimal build ++ (codes " started on " ++ (one_line worker ++ 10 ∷ [])))
+remark_line (BuildStarted build worker) = codes "build " ++ (decimal build ++ (codes " started on " ++ (one_line worker.now ++ 10 ∷ [])))
 remark_line (BuildEnded build result) = codes "build " ++ (decimal build ++ (codes " ended " ++ (result_name result ++ 10 ∷ [])))
 remark_line (BuildCancelled build) = codes "build " ++ (decimal build ++ codes " to be cancelled\n")
 remark_line (StepStarted build log step) =
-    codes "build " ++ (decimal build ++ (codes " step started, log " ++ (decimal (log_number log) ++ (codes ": " ++ (one_line step ++ 10 ∷ [])))))
-remark_line (StepRefused build step) = codes "build " ++ (decimal build ++ (codes " step not started: " ++ (one_line step ++ 10 ∷ [])))
+    codes "build " ++ (decimal build ++ (codes " step started, log " ++ (decimal (log_number log) ++ (codes ": " ++ (one_line step.now ++ 10 ∷ [])))))
+remark_line (StepRefused build step) = codes "build " ++ (decimal build ++ (codes " step not started: " ++ (one_line step.now ++ 10 ∷ [])))
 remark_line (StepEnded build log result step) =
-    codes "build " ++ (decimal build ++ (codes " step ended " ++ (result_name result ++ (codes ", log " ++ (decimal (log_number log) ++ (codes ": " ++ (one_line step ++ 10 ∷ [])))))))
-remark_line (ProgramStarted worker) = codes "program of " ++ (one_line worker ++ codes " started\n")
-remark_line (ProgramFailed worker) = codes "program of " ++ (one_line worker ++ codes " not started\n")
-remark_line (ProgramEnded worker) = codes "program of " ++ (one_line worker ++ codes " ended\n")
+    codes "build " ++ (decimal build ++ (codes " step ended " ++ (result_name result ++ (codes ", log " ++ (decimal (log_number log) ++ (codes ": " ++ (one_line step.now ++ 10 ∷ [])))))))
+remark_line (ProgramStarted worker) = codes "program of " ++ (one_line worker.now ++ codes " started\n")
+remark_line (ProgramFailed worker) = codes "program of " ++ (one_line worker.now ++ codes " not started\n")
+remark_line (ProgramEnded worker) = codes "program of " ++ (one_line worker.now ++ codes " ended\n")

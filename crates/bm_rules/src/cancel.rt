@@ -1,7 +1,7 @@
 //! The lines of a build master's standard input.
 
 ghost use Rattle.std.specs.Prelude.{◌≡◌};
-ghost use Rattle.bm_rules.specs.Cancel.{cancelled};
+ghost use Rattle.bm_rules.specs.Cancel.{cancelled, number_of};
 
 use std::str;
 
@@ -10,8 +10,20 @@ use std::str;
 pub fn read_cancel(line: &[u8]) -> Option<u64>
     ensures { result ≡ cancelled line.now }
 {
-    let text = str::from_utf8(line).ok()?;
-    number(text.strip_prefix("cancel ")?)
+    match line.strip_prefix(b"cancel ") {
+        Some(digits) => read_number(digits),
+        None => None,
+    }
+}
+
+// The number that bytes write, in decimal digits alone.
+fn read_number(digits: &[u8]) -> Option<u64>
+    ensures { result ≡ number_of digits.now }
+{
+    match str::from_utf8(digits) {
+        Ok(text) => number(text),
+        Err(_) => None,
+    }
 }
 
 // The number of one or more decimal digits, without a sign.

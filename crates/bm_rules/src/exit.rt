@@ -1,7 +1,7 @@
 //! How a build master ends.
 
 ghost use Rattle.std.specs.Prelude.{◌≡◌};
-ghost use Rattle.bm_rules.specs.Exit.{exit_status};
+ghost use Rattle.bm_rules.specs.Exit.{exit_status, is_good};
 
 use bm_session::Results;
 
@@ -14,11 +14,16 @@ pub const REFUSED: u8 = 2;
 pub fn status(results: &[Results], failed: bool) -> u8
     ensures { result ≡ exit_status results.now failed }
 {
-    for result in results {
-        match result {
-            Results::Success | Results::Warnings => {}
-            _ => return 1,
-        }
+    if !failed && results.iter().all(|outcome| is_good(*outcome)) {
+        0
+    } else {
+        1
     }
-    if failed { 1 } else { 0 }
+}
+
+// Whether nobody has to look at a build that ended so.
+fn is_good(outcome: Results) -> bool
+    ensures { result ≡ is_good outcome }
+{
+    matches!(outcome, Results::Success | Results::Warnings)
 }

@@ -6,7 +6,7 @@
 mod cancel;
 mod exit;
 mod log_id;
-mod one_line;
+mod names;
 mod pace;
 mod post;
 mod reasons;
@@ -18,7 +18,7 @@ mod worker_event;
 pub use cancel::read_cancel;
 pub use exit::{REFUSED, status};
 pub use log_id::LogId;
-pub use one_line::one_line;
+pub use names::one_line;
 pub use pace::Pace;
 pub use post::Post;
 pub use reasons::{LoginRefusal, LossCause};

@@ -2,7 +2,8 @@
 
 ghost use Rattle.std.specs.Prelude.{◌≡◌, ◌≤◌, Some, None, false};
 ghost use Rattle.bm_latent.specs.declared.event.LatentState;
-ghost use Rattle.bm_rules.specs.Post.{duty_of, is_ready, is_timed, known_after, newcomer};
+ghost use Rattle.std.specs.Option.{option_map_or};
+ghost use Rattle.bm_rules.specs.Post.{act_of, duty_of, gives_up, is_ready, is_stopping, is_timed, known_after, latent_after, newcomer, process_duty};
 
 use crate::worker_event::{Duty, ProcessDuty, WorkerEvent};
 use bm_latent::{Act, Latent, LatentEvent, LatentState};
@@ -59,10 +60,96 @@ impl Post {
         ensures known { self.new ≡ known_after self.old event }
         ensures duty { result ≡ duty_of self.old event }
     {
+        let gives_up = self.gives_up(event);
+        let act = self.tell_machine(event);
+        self.attached = match event {
+            WorkerEvent::Attached => true,
+            WorkerEvent::Cut | WorkerEvent::Lost => false,
+            _ => self.attached,
+        };
+        self.running = match event {
+            WorkerEvent::Failed => false,
+            WorkerEvent::Stopped => act == Act::Start,
+            _ => self.running || act == Act::Start,
+        };
+        self.full = self.full || event == WorkerEvent::Filled;
         Duty {
-            ready: false,
-            process: ProcessDuty::None,
-            gives_up: false,
+            ready: self.is_ready(),
+            process: self.process_duty(event, act),
+            gives_up,
+        }
+    }
+
+    // Tells the machine of a latent worker what it is to hear of the event. Answers what it asks for.
+    fn tell_machine(&mut self, event: WorkerEvent) -> Act
+        ensures known { self.new ≡ record {
+            latent = latent_after self.old event; attached = self.old.attached; running = self.old.running; full = self.old.full } }
+        ensures act { result ≡ act_of self.old event }
+    {
+        let Some(latent) = &mut self.latent else {
+            return Act::None;
+        };
+        match event {
+            WorkerEvent::Wanted if self.full => Act::None,
+            WorkerEvent::Wanted => latent.step(LatentEvent::Want),
+            WorkerEvent::Started => latent.step(LatentEvent::Started),
+            WorkerEvent::Failed => latent.step(LatentEvent::Failed),
+            WorkerEvent::Attached => latent.step(LatentEvent::Attached),
+            WorkerEvent::Cut => latent.step(LatentEvent::Cut),
+            WorkerEvent::Lost if self.running => latent.step(LatentEvent::Lost),
+            WorkerEvent::Lost => {
+                latent.step(LatentEvent::Lost);
+                latent.step(LatentEvent::Stopped)
+            }
+            WorkerEvent::Stopped => latent.step(LatentEvent::Stopped),
+            WorkerEvent::Tick { has_build: false } => latent.step(LatentEvent::IdleTick),
+            WorkerEvent::Filled | WorkerEvent::Tick { has_build: true } => Act::None,
+        }
+    }
+
+    // Whether the builds that wait are given up: before the machine hears of it.
+    fn gives_up(&self, event: WorkerEvent) -> bool
+        ensures { result ≡ gives_up self.now event }
+    {
+        match event {
+            WorkerEvent::Wanted => self.full,
+            WorkerEvent::Failed | WorkerEvent::Filled => true,
+            WorkerEvent::Stopped => match &self.latent {
+                Some(latent) => latent.state() == LatentState::Substantiating,
+                None => false,
+            },
+            _ => false,
+        }
+    }
+
+    // What is to be done with the process: the machine has heard of the event.
+    fn process_duty(&self, event: WorkerEvent, act: Act) -> ProcessDuty
+        ensures { result ≡ process_duty self.now event act }
+    {
+        if act == Act::Start {
+            return ProcessDuty::Start;
+        }
+        let is_dismissed = match event {
+            WorkerEvent::Attached => self.is_stopping(),
+            _ => self.attached && act == Act::Stop,
+        };
+        if is_dismissed {
+            ProcessDuty::Shutdown
+        } else {
+            ProcessDuty::None
+        }
+    }
+
+    // Whether the worker is to stop, and its process has not ended.
+    fn is_stopping(&self) -> bool
+        ensures { result ≡ option_map_or (λ w. is_stopping w.state) self.now.latent false }
+    {
+        match &self.latent {
+            Some(latent) => match latent.state() {
+                LatentState::Insubstantiating | LatentState::Waiting => true,
+                _ => false,
+            },
+            None => false,
         }
     }
 
@@ -70,7 +157,11 @@ impl Post {
     pub fn is_ready(&self) -> bool
         ensures { result ≡ is_ready self.now }
     {
-        false
+        !self.full
+            && match &self.latent {
+                Some(latent) => latent.state() == LatentState::Substantiated,
+                None => self.attached,
+            }
     }
 
     /// Whether ticks are to be told: while the worker's process runs, whose end is to be seen, and while
@@ -78,6 +169,10 @@ impl Post {
     pub fn is_timed(&self) -> bool
         ensures { result ≡ is_timed self.now }
     {
-        false
+        self.running
+            || match &self.latent {
+                Some(latent) => latent.state() == LatentState::Substantiated,
+                None => false,
+            }
     }
 }

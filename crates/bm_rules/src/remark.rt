@@ -2,10 +2,10 @@
 
 ghost use Rattle.std.specs.Prelude.{◌≡◌, ◌++◌, IfOk, string_bytes};
 ghost use Rattle.bm_rules.specs.OneLine.{one_line};
-ghost use Rattle.bm_rules.specs.Remark.{remark_line, lost_line};
+ghost use Rattle.bm_rules.specs.Remark.{lost_line, remark_line};
 
 use crate::log_id::LogId;
-use crate::one_line::one_line;
+use crate::names::one_line;
 use crate::reasons::{LoginRefusal, LossCause};
 use bm_session::Results;
 use std::alloc::{AllocError, Global};

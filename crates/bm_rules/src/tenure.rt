@@ -1,6 +1,7 @@
 //! When a lane whose connection was cut is given up.
 
 ghost use Rattle.std.specs.Prelude.{◌≡◌};
+ghost use Rattle.std.specs.Option.{is_some};
 ghost use Rattle.bm_rules.specs.Tenure.{begun, cut_off, dismissed, is_over, kept, passed};
 
 use std::marker::Model;
@@ -90,7 +91,7 @@ impl Tenure {
 
     /// Whether the lane is cut, so that ticks are to be counted.
     pub fn is_counting(&self) -> bool
-        ensures { result ≡ option_is_some self.now.cut }
+        ensures { result ≡ is_some self.now.cut }
     {
         self.cut.is_some()
     }

@@ -1,7 +1,7 @@
 //! Names on one line.
 
-ghost use Rattle.std.specs.Prelude.{◌≡◌, ◌++◌, IfOk, OnOk, string_bytes};
-ghost use Rattle.bm_rules.specs.OneLine.{one_line};
+ghost use Rattle.std.specs.Prelude.{◌≡◌, ◌<◌, ◌++◌, IfOk, OnOk, string_bytes};
+ghost use Rattle.bm_rules.specs.OneLine.{escaped, one_line, shown};
 
 use std::alloc::{AllocError, Global};
 
@@ -24,9 +24,17 @@ fn push_shown(line: &mut String, c: char) -> Result<(), AllocError>
     if c == '\\' {
         line.push_str("\\\\")
     } else if c.is_control() {
-        let number = u32::from(c);
-        write!(line, "\\x{number:02x}")
+        push_escaped(line, u32::from(c))
     } else {
         line.push(c)
     }
+}
+
+// Appends the number of a character by two hex digits.
+#[tactic(auto, using(std::proofs::lemmas::Fmt::hex_byte))]
+fn push_escaped(line: &mut String, number: u32) -> Result<(), AllocError>
+    requires { number < 256 }
+    ensures { OnOk result (string_bytes line.new ≡ string_bytes line.old ++ escaped number) }
+{
+    write!(line, "\\x{number:02x}")
 }
