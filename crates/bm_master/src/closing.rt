@@ -96,7 +96,7 @@ pub fn settle_all<Y: Yard, W: Wait + Drop, R: Wait>(
     for reader in readers {
         let viewers = whole(benches.next(), site.next());
         tallies.push(match (writers.next(), viewers) {
-            (Some(writer), Ok(viewers)) => tally(
+            (Some(writer), Ok(viewers)) => tally_of(
                 rt,
                 alloc,
                 Ends {
@@ -113,7 +113,7 @@ pub fn settle_all<Y: Yard, W: Wait + Drop, R: Wait>(
 }
 
 // Settles a lane, and answers what it had.
-fn tally<Y: Yard, W: Wait + Drop, R: Wait>(
+fn tally_of<Y: Yard, W: Wait + Drop, R: Wait>(
     rt: &R,
     alloc: Global,
     ends: Ends<Y, W>,

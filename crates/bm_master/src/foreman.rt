@@ -108,7 +108,7 @@ where
 
     // Whether ticks count.
     fn is_timed(&self) -> bool {
-        self.seats.iter().any(|seat| seat.is_timed())
+        self.roster.is_short() || self.seats.iter().any(|seat| seat.is_timed())
     }
 
     // Something happened to a worker: what follows is done.
@@ -126,6 +126,7 @@ where
         for _ in 0..2 {
             self.roster.set_ready(worker, duty.ready);
             if duty.gives_up {
+                self.is_stale = true;
                 self.give_up(worker);
             }
             match duty.process {
@@ -199,15 +200,21 @@ where
             let has_build = self.roster.has_build(worker);
             self.happens(worker, WorkerEvent::Tick { has_build });
         }
+        self.want();
     }
 
-    // Wants each worker for which a build waits, and starts each build that can be started.
-    fn press<E>(&mut self, scope: &Scope<'s, E>) {
+    // Tells of each worker for which a build waits.
+    fn want(&mut self) {
         for worker in 0..self.seats.len() {
             if self.roster.is_wanted(worker) {
                 self.happens(worker, WorkerEvent::Wanted);
             }
         }
+    }
+
+    // Starts each build that can be started.
+    fn press<E>(&mut self, scope: &Scope<'s, E>) {
+        self.want();
         for _ in 0..self.roster.builds() {
             let Some(commission) = self.roster.next() else {
                 return;
@@ -398,14 +405,16 @@ where
                 break;
             }
             let is_timed = self.is_timed();
-            let news = if is_timed {
+            let news = if self.is_stale {
+                letters.look(rt)
+            } else if is_timed {
                 letters.wait_for(rt, Duration::from_millis(TICK))
             } else {
                 letters.wait(rt)
             };
             let ticks = self.clock.ticks(rt);
             if is_timed {
-                self.is_stale = self.is_stale || ticks > 0;
+                self.is_stale = self.is_stale || self.roster.is_short();
                 for _ in 0..ticks {
                     self.tick();
                 }

@@ -1,4 +1,5 @@
 //! What the threads are given, made before the first of them starts.
+ghost use Rattle.std.specs.Prelude.{◌≤◌, All, IfSome};
 
 use bm_clerk::{Desk, Door, Inbox, open_door};
 use bm_config::{LockConfig, WorkerConfig};
@@ -102,7 +103,9 @@ impl<Y: Yard, W: Wait + Drop, S: Drop> Parts<Y, W, S> {
 }
 
 /// How many slots each worker has. None where memory is wanting, or a number is out of its limits.
-pub fn slots_of(alloc: Global, workers: &[WorkerConfig]) -> Option<Vec<u8>> {
+pub fn slots_of(alloc: Global, workers: &[WorkerConfig]) -> Option<Vec<u8>>
+    ensures { IfSome result (λ slots. All (λ n. (1 ≤ n) × (n ≤ 4)) slots.items) }
+{
     let mut slots = Vec::new(alloc);
     for worker in workers {
         if worker.slots == 0 || worker.slots > MOST_SLOTS || slots.push(worker.slots).is_err() {
@@ -114,7 +117,9 @@ pub fn slots_of(alloc: Global, workers: &[WorkerConfig]) -> Option<Vec<u8>> {
 
 /// How many builds may hold each lock. None where memory is wanting, or a number is out of its
 /// limits.
-pub fn maxima_of(alloc: Global, locks: &[LockConfig]) -> Option<Vec<u32>> {
+pub fn maxima_of(alloc: Global, locks: &[LockConfig]) -> Option<Vec<u32>>
+    ensures { IfSome result (λ maxima. All (λ n. 1 ≤ n) maxima.items) }
+{
     let mut maxima = Vec::new(alloc);
     for lock in locks {
         if lock.max == 0 || maxima.push(lock.max).is_err() {

@@ -15,7 +15,7 @@ use crate::visit::Visit;
 use bm_board::Build;
 use bm_clerk::{Bell, Caller, Desk, Door, Guests, Inbox, Notice, Order, Tell, serve_lane};
 use bm_config::{Config, WorkerConfig};
-use bm_lane::{Blank, ReaderEnd, WriterEnd, Yard, ends_of_all, writers};
+use bm_lane::{Blank, Gate, Pass, ReaderEnd, WriterEnd, Yard, ends_of_all, writers};
 use bm_link::User;
 use bm_roster::{Bench, Roster};
 use bm_rules::{REFUSED, Report};
@@ -231,6 +231,37 @@ fn host<Y, R>(
     })
 }
 
+// Drains the lanes until the bell says stop, by so many threads. Where they can't be started this
+// thread drains alone, so that no build waits for ever; the answer is then false.
+fn drain<Y, R>(
+    rt: &R,
+    alloc: Global,
+    lanes: &[Mutex<WriterEnd<Y, R>>],
+    bell: &Bell<R>,
+    threads: usize,
+) -> bool
+where
+    Y: Yard + Send + Sync,
+    R: Wait + Clock + Threads + Drop + Send + Sync,
+{
+    if writers(rt, alloc, lanes, bell, threads, u64::MAX).is_ok() {
+        return true;
+    }
+    for _ in rt.forever() {
+        for (lane, end) in lanes.iter().enumerate() {
+            match bell.pass(0, lane) {
+                Pass::Go => {
+                    let answer = end.lock(rt).drain();
+                    bell.done(0, lane, answer);
+                }
+                Pass::Skip => {}
+                Pass::Stop => return false,
+            }
+        }
+    }
+    unreachable!()
+}
+
 // Has the foreman do its work, with the threads of builds below it.
 fn lead<Y, R, O, F>(
     shared: &Shared<'_, Y, R>,
@@ -341,7 +372,7 @@ where
         {
             let (lanes, bell, count) = (shared.lanes, shared.bell, shared.threads);
             let pool = scope
-                .spawn(move || writers(rt, alloc, lanes, bell, count, u64::MAX))
+                .spawn(move || drain(rt, alloc, lanes, bell, count))
                 .ok();
             let handle = *rt;
             let served = scope
@@ -378,7 +409,7 @@ where
             }
             bell.stop();
             let is_drained = match pool {
-                Some(pool) => pool.join(rt).is_ok(),
+                Some(pool) => pool.join(rt),
                 None => false,
             };
             let _ = stop.send(());

@@ -1,5 +1,6 @@
 //! The viewers of a lane that no build has.
-ghost use Rattle.std.specs.Prelude.{◌≡◌, IfSome, IfNone, IfErr, OnOk};
+ghost use Rattle.std.specs.Option.{option_to_list};
+ghost use Rattle.std.specs.Prelude.{◌≡◌, IfSome, IfErr, OnOk, is_ok, if◌then◌else◌};
 
 use bm_lane::{Viewer, Yard};
 use std::marker::Model;
@@ -54,8 +55,7 @@ impl<Y: Yard> Bench<Y> {
     pub fn take(&mut self) -> Option<Viewer<Y>>
         ensures lane { self.new.lane ≡ self.old.lane }
         ensures own { IfSome result (λ v. v.lane ≡ self.old.lane) }
-        ensures taken { IfSome result (λ v. self.old.viewers ≡ self.new.viewers ++ v ∷ []) }
-        ensures none { IfNone result ((self.old.viewers ≡ []) × (self.new ≡ self.old)) }
+        ensures taken { self.old.viewers ≡ self.new.viewers ++ option_to_list result }
     {
         self.viewers.pop()
     }
@@ -64,8 +64,10 @@ impl<Y: Yard> Bench<Y> {
     /// wanting, which never comes for a viewer that was taken here.
     pub fn give(&mut self, viewer: Viewer<Y>) -> Result<(), Viewer<Y>>
         ensures lane { self.new.lane ≡ self.old.lane }
-        ensures given { OnOk result ((self.new.viewers ≡ self.old.viewers ++ viewer ∷ []) × (viewer.lane ≡ self.old.lane)) }
-        ensures back { IfErr result (λ v. (v ≡ viewer) × (self.new ≡ self.old)) }
+        ensures own { OnOk result (viewer.lane ≡ self.old.lane) }
+        ensures given { self.new.viewers
+            ≡ (if is_ok result then self.old.viewers ++ viewer ∷ [] else self.old.viewers) }
+        ensures back { IfErr result (λ v. v ≡ viewer) }
     {
         if viewer.lane() != self.lane {
             return Err(viewer);

@@ -40,6 +40,8 @@ pub struct Roster<Y: Yard> {
     benches: Vec<Bench<Y>>,
     // The builds that wait, in the order of their numbers.
     waiting: Vec<Waiting>,
+    // How many of them wait for each worker.
+    wanted: Vec<u64>,
     builds: u64,
     is_short: bool,
 }
@@ -88,6 +90,7 @@ impl<Y: Yard> Roster<Y> {
             board: Board::new(alloc, slots, lock_max)?,
             benches,
             waiting: Vec::new(alloc),
+            wanted: vec![in alloc; 0; slots.len()]?,
             builds: 0,
             is_short: false,
         })
@@ -114,6 +117,9 @@ impl<Y: Yard> Roster<Y> {
                     number,
                     worker: build.worker,
                 });
+                if let Some(wanted) = self.wanted.get_mut(build.worker) {
+                    *wanted = wanted.saturating_add(1);
+                }
                 self.builds = number.saturating_add(1);
                 Ok(number)
             }
@@ -145,7 +151,10 @@ impl<Y: Yard> Roster<Y> {
 
     /// Whether a build waits for the worker.
     pub fn is_wanted(&self, worker: usize) -> bool {
-        self.waiting.iter().any(|one| one.worker == worker)
+        match self.wanted.get(worker) {
+            Some(wanted) => *wanted > 0,
+            None => false,
+        }
     }
 
     /// Whether a build of the worker runs.
@@ -153,6 +162,19 @@ impl<Y: Yard> Roster<Y> {
         match self.benches.get(worker) {
             Some(bench) => !bench.is_whole(),
             None => false,
+        }
+    }
+
+    // Takes a build out of those that wait.
+    fn take_out(&mut self, place: usize)
+        ensures { self.new ≡ self.old }
+    {
+        if place >= self.waiting.len() {
+            return;
+        }
+        let worker = self.waiting.remove(place).worker;
+        if let Some(wanted) = self.wanted.get_mut(worker) {
+            *wanted = wanted.saturating_sub(1);
         }
     }
 
@@ -206,9 +228,7 @@ impl<Y: Yard> Roster<Y> {
             let number = self.waiting.get(place)?.number;
             match self.start(number) {
                 Ok(commission) => {
-                    if place < self.waiting.len() {
-                        self.waiting.remove(place);
-                    }
+                    self.take_out(place);
                     return commission;
                 }
                 Err(why) => {
@@ -254,7 +274,9 @@ impl<Y: Yard> Roster<Y> {
         match self.board.cancel(number) {
             Ok(true) => Cancelled::Running,
             Ok(false) => {
-                self.waiting.retain(|one| one.number != number);
+                if let Some(place) = self.waiting.iter().position(|one| one.number == number) {
+                    self.take_out(place);
+                }
                 Cancelled::Waiting
             }
             Err(_) => Cancelled::Nothing,
@@ -268,7 +290,8 @@ impl<Y: Yard> Roster<Y> {
         ensures unchanged { IfNone result (self.new ≡ self.old) }
     {
         let place = self.waiting.iter().position(|one| one.worker == worker)?;
-        let number = self.waiting.remove(place).number;
+        let number = self.waiting.get(place)?.number;
+        self.take_out(place);
         let _ = self.board.give_up(number);
         Some(number)
     }

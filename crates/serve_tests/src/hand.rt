@@ -6,7 +6,7 @@ use bm_link::{Attached, LinkFault, WorkerLink};
 use bm_work::{Finish, Sent, WorkAct, Worker};
 use bumpalo::Bump;
 use std::alloc::{AllocGlobal, Global};
-use std::net::{Net, SocketAddr, TcpStream};
+use std::net::{Net, Shutdown, SocketAddr, TcpStream};
 use std::random::RandomSource;
 use std::time::Duration;
 use tungstenite::RandomKeys;
@@ -27,9 +27,19 @@ pub struct Hand<R> {
     alloc: Global,
     address: SocketAddr,
     link: Link<R>,
+    // The stream of the link.
+    stream: TcpStream,
     core: Worker,
     arena: Bump,
     pub attached: Attached,
+}
+
+/// A connection on which a login was answered.
+#[derive(Drop)]
+struct Dialled<R> {
+    link: Link<R>,
+    stream: TcpStream,
+    attached: Attached,
 }
 
 // A connection with the master, on which a login was answered.
@@ -39,7 +49,7 @@ fn dial<R>(
     name: &str,
     password: &str,
     session: Option<&str>,
-) -> Result<(Link<R>, Attached), LinkFault>
+) -> Result<Dialled<R>, LinkFault>
 where
     R: RandomSource + AllocGlobal + Net<Stream = TcpStream> + Copy + Drop,
 {
@@ -56,21 +66,22 @@ where
     let Ok(other) = stream.try_clone() else {
         return Err(LinkFault::Stream);
     };
-    let dialled = WorkerLink::connect(
-        rt.alloc(),
-        rt,
-        Steady { stream },
-        name,
-        password,
-        session,
-    );
+    let (link, attached) =
+        match WorkerLink::connect(rt.alloc(), rt, Steady { stream }, name, password, session) {
+            Ok(dialled) => dialled,
+            Err(fault) => return Err(fault),
+        };
     if other
         .set_read_timeout(Some(Duration::from_millis(READ_TIME)))
         .is_err()
     {
         return Err(LinkFault::Stream);
     }
-    dialled
+    Ok(Dialled {
+        link,
+        stream: other,
+        attached,
+    })
 }
 
 impl<R> Hand<R>
@@ -87,11 +98,16 @@ where
     ) -> Result<Hand<R>, LinkFault> {
         let alloc = rt.alloc();
         match dial(rt, address, name, password, session) {
-            Ok((link, attached)) => Ok(Hand {
+            Ok(Dialled {
+                link,
+                stream,
+                attached,
+            }) => Ok(Hand {
                 rt,
                 alloc,
                 address,
                 link,
+                stream,
                 core: Worker::new(alloc),
                 arena: Bump::new(alloc),
                 attached,
@@ -100,11 +116,26 @@ where
         }
     }
 
-    /// Drops the connection and logs in again, with the same core. Whether the session goes on.
+    /// Ends the connection without a word.
+    pub fn leaves(&mut self) -> bool {
+        self.stream.shutdown(Shutdown::Both).is_ok()
+    }
+
+    /// Has something to say of a command, which it says once it is back.
+    pub fn says_later(&mut self, command: u64, letter: Letter, text: &str) -> bool {
+        text.len() <= 65_536 && self.core.say(command, letter, text).is_ok()
+    }
+
+    /// Logs in again, with the same core. Whether the session goes on.
     pub fn returns(&mut self, name: &str, password: &str, session: &str) -> bool {
         match dial(self.rt, self.address, name, password, Some(session)) {
-            Ok((link, attached)) => {
+            Ok(Dialled {
+                link,
+                stream,
+                attached,
+            }) => {
                 self.link = link;
+                self.stream = stream;
                 self.attached = attached;
                 attached == Attached::Resumed && self.resends()
             }

@@ -5,10 +5,10 @@ use crate::streams::{Feed, Sink};
 use bm_config::read_config;
 use bm_link::LinkFault;
 use bm_master::serve;
-use crossbeam_channel::{Receiver, Sender, bounded, unbounded};
+use crossbeam_channel::{Receiver, Sender, unbounded};
 use std::alloc::{AllocGlobal, Global};
 use std::io;
-use std::io::{Read, Write};
+use std::io::Write;
 use std::net::{Net, SocketAddr, TcpListener, TcpStream};
 use std::process::{Processes, SystemProcess};
 use std::random::RandomSource;
@@ -89,6 +89,52 @@ where
         workers,
         web,
     })
+}
+
+/// Whether a master of this configuration refuses it, with this line on its faults.
+pub fn refused<R>(rt: R, text: &str, line: &str) -> bool
+where
+    R: Wait
+        + Threads
+        + Clock
+        + RandomSource
+        + AllocGlobal
+        + Net<Listener = TcpListener, Stream = TcpStream>
+        + Processes<Started = SystemProcess>
+        + Copy
+        + Drop
+        + Send
+        + Sync,
+{
+    let alloc = rt.alloc();
+    let Ok(config) = read_config(alloc, text) else {
+        return false;
+    };
+    let (Ok((_, bytes)), Ok((pieces, output)), Ok((remarks, faults))) = (
+        unbounded::<u8, Global>(alloc),
+        unbounded::<Vec<u8>, Global>(alloc),
+        unbounded::<Vec<u8>, Global>(alloc),
+    ) else {
+        return false;
+    };
+    let reports = Sink { rt, alloc, pieces };
+    let told = Sink {
+        rt,
+        alloc,
+        pieces: remarks,
+    };
+    let status = serve(&rt, config, Feed { rt, bytes }, reports, told);
+    let mut said = Vec::new(alloc);
+    for piece in faults.iter(&rt) {
+        if said.extend_from_slice(piece.as_slice()).is_err() {
+            return false;
+        }
+    }
+    let Ok(said) = String::from_utf8(said) else {
+        return false;
+    };
+    let is_told = said.strip_suffix('\n') == Some(line);
+    status == 2 && is_told && output.try_recv(&rt).is_err()
 }
 
 impl<R> Stage<R>
