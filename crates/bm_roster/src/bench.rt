@@ -1,11 +1,11 @@
 //! The viewers of a lane that no build has.
-ghost use Rattle.std.specs.Option.{option_to_list};
-ghost use Rattle.std.specs.Prelude.{◌≡◌, IfSome, IfErr, OnOk, is_ok, if◌then◌else◌};
+ghost use Rattle.std.specs.Prelude.{◌≡◌, IfSome, IfErr, OnOk};
+ghost use Rattle.bm_lane.specs.Ends.{AllOf};
 
 use bm_lane::{Viewer, Yard};
 use std::marker::Model;
 
-/// The viewers of a worker's lane that no build has. Contracts see its lane.
+/// The viewers of a worker's lane that no build has. Contracts see the number of the lane.
 #[derive(Drop)]
 pub struct Bench<Y: Yard> {
     lane: u64,
@@ -14,22 +14,21 @@ pub struct Bench<Y: Yard> {
 }
 
 impl<Y: Yard> Model for Bench<Y> {
+    ghost use Rattle.std.specs.Prelude.{ℕ};
     ghost use Rattle.bm_lane.specs.Ends.{AllOf};
-    ghost use Rattle.bm_roster.specs.Roster.{Benched};
 
-    ghost Value = { Benched };
+    ghost Value = { ℕ };
 
-    ghost view = { λ b. record { lane = b.lane; viewers = b.viewers.items } };
+    ghost view = { λ b. b.lane };
 
     ghost invariant = { λ b. AllOf b.lane b.viewers.items };
 }
 
 impl<Y: Yard> Bench<Y> {
-    ghost use Rattle.std.specs.Prelude.{[], ◌∷◌, ◌++◌};
-
     /// A bench of these viewers. None where one of them is of another lane.
     pub fn new(lane: u64, viewers: Vec<Viewer<Y>>) -> Option<Bench<Y>>
-        ensures { IfSome result (λ b. (b.lane ≡ lane) × (b.viewers ≡ viewers.items)) }
+        ensures lane { IfSome result (λ b. b ≡ lane) }
+        ensures own { IfSome result (λ _. AllOf lane viewers.items) }
     {
         if viewers.iter().all(|viewer| viewer.lane() == lane) {
             let all = viewers.len();
@@ -41,7 +40,7 @@ impl<Y: Yard> Bench<Y> {
 
     /// The lane's number.
     pub fn lane(&self) -> u64
-        ensures { result ≡ self.now.lane }
+        ensures { result ≡ self.now }
     {
         self.lane
     }
@@ -53,9 +52,8 @@ impl<Y: Yard> Bench<Y> {
 
     /// Takes a viewer, which is one of this lane. None where builds have all of them.
     pub fn take(&mut self) -> Option<Viewer<Y>>
-        ensures lane { self.new.lane ≡ self.old.lane }
-        ensures own { IfSome result (λ v. v.lane ≡ self.old.lane) }
-        ensures taken { self.old.viewers ≡ self.new.viewers ++ option_to_list result }
+        ensures lane { self.new ≡ self.old }
+        ensures own { IfSome result (λ v. v.lane ≡ self.old) }
     {
         self.viewers.pop()
     }
@@ -63,10 +61,8 @@ impl<Y: Yard> Bench<Y> {
     /// Gives a viewer back. It comes back in `Err` where it is of another lane, or memory is
     /// wanting, which never comes for a viewer that was taken here.
     pub fn give(&mut self, viewer: Viewer<Y>) -> Result<(), Viewer<Y>>
-        ensures lane { self.new.lane ≡ self.old.lane }
-        ensures own { OnOk result (viewer.lane ≡ self.old.lane) }
-        ensures given { self.new.viewers
-            ≡ (if is_ok result then self.old.viewers ++ viewer ∷ [] else self.old.viewers) }
+        ensures lane { self.new ≡ self.old }
+        ensures own { OnOk result (viewer.lane ≡ self.old) }
         ensures back { IfErr result (λ v. v ≡ viewer) }
     {
         if viewer.lane() != self.lane {
@@ -78,9 +74,9 @@ impl<Y: Yard> Bench<Y> {
         }
     }
 
-    /// The viewers, given back.
+    /// The viewers, given back: each is one of this lane.
     pub fn into_viewers(self) -> Vec<Viewer<Y>>
-        ensures { result.items ≡ self.viewers }
+        ensures { AllOf self result.items }
     {
         self.viewers
     }

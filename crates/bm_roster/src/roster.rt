@@ -1,6 +1,6 @@
 //! The roster itself.
-ghost use Rattle.std.specs.Prelude.{◌≡◌, ◌⊎◌, ◌<◌, ◌≤◌, ℕ, All, IfOk, OnOk, OnErr, IfErr, IfSome, IfNone, length, Ok, Some};
-ghost use Rattle.bm_roster.specs.Roster.{IsStarted, after_end, after_cancel, after_failure, after_giving_up, on_board};
+ghost use Rattle.std.specs.Prelude.{◌≡◌, ◌⊎◌, ◌<◌, ◌≤◌, ℕ, All, IfOk, OnOk, OnErr, IfErr, IfSome, IfNone, length, true, Ok, Some};
+ghost use Rattle.bm_roster.specs.Roster.{IsOver, IsStarted, after_end, after_cancel, after_failure, after_giving_up, on_board};
 ghost use Rattle.bm_board.specs.Board.{add_refusal, opening, result_on, with_build, with_ready};
 
 use crate::bench::Bench;
@@ -307,13 +307,17 @@ impl<Y: Yard> Roster<Y> {
     }
 
     /// Whether every build has its result.
-    pub fn is_over(&self) -> bool {
-        for number in 0..self.builds {
-            if self.result(number).is_none() {
-                return false;
+    pub fn is_over(&self) -> bool
+        ensures { result ≡ true → IsOver self.now }
+    {
+        for number in 0..u64::MAX {
+            match self.board.result(number) {
+                Ok(Some(_)) => {}
+                Ok(None) => return false,
+                Err(_) => return true,
             }
         }
-        true
+        false
     }
 
     /// The benches, by their workers' places, once no build runs.

@@ -12,30 +12,30 @@ use std::time::Clock;
 
 /// One worker, and a build of one step.
 const ONE: &str = "worker = [{name=\"w0\",password=\"p\"}]
-build = [{worker=\"w0\", step=[{command=[\"a\"]}]}]
+build = [{worker=\"w0\", step=[{name=\"s\",command=[\"a\"]}]}]
 ";
 
 /// One worker that may resume its session, and a build of one step.
 const RESUMABLE: &str = "worker = [{name=\"w0\",password=\"p\",resume_ticks=2000}]
-build = [{worker=\"w0\", step=[{command=[\"a\"]}]}]
+build = [{worker=\"w0\", step=[{name=\"s\",command=[\"a\"]}]}]
 ";
 
 /// One worker, and a build of two steps.
 const TWO_STEPS: &str = "worker = [{name=\"w0\",password=\"p\"}]
-build = [{worker=\"w0\", step=[{command=[\"a\"]}, {command=[\"b\"]}]}]
+build = [{worker=\"w0\", step=[{name=\"s\",command=[\"a\"]}, {name=\"s\",command=[\"b\"]}]}]
 ";
 
 /// Two workers, and a build on each that wants the same lock alone.
 const LOCKED: &str = "worker = [{name=\"w0\",password=\"p\"}, {name=\"w1\",password=\"p\"}]
 lock = [{name=\"l\"}]
-build = [{worker=\"w0\", locks=[{name=\"l\",mode=\"exclusive\"}], step=[{command=[\"a\"]}]},
-  {worker=\"w1\", locks=[{name=\"l\",mode=\"exclusive\"}], step=[{command=[\"b\"]}]}]
+build = [{worker=\"w0\", locks=[{name=\"l\",mode=\"exclusive\"}], step=[{name=\"s\",command=[\"a\"]}]},
+  {worker=\"w1\", locks=[{name=\"l\",mode=\"exclusive\"}], step=[{name=\"s\",command=[\"b\"]}]}]
 ";
 
 /// One worker, a build with a step that always runs, and one that waits for the slot.
 const CANCELLED: &str = "worker = [{name=\"w0\",password=\"p\"}]
-build = [{worker=\"w0\", step=[{command=[\"a\"]}, {command=[\"b\"]}, {command=[\"c\"],alwaysRun=true}]},
-  {worker=\"w0\", step=[{command=[\"d\"]}]}]
+build = [{worker=\"w0\", step=[{name=\"s\",command=[\"a\"]}, {name=\"s\",command=[\"b\"]}, {name=\"s\",command=[\"c\"],alwaysRun=true}]},
+  {worker=\"w0\", step=[{name=\"s\",command=[\"d\"]}]}]
 ";
 
 /// A worker without builds.

@@ -12,21 +12,21 @@ use std::time::Clock;
 
 /// A worker whose program ends at once.
 const ENDING: &str = "worker = [{name=\"w0\",password=\"p\",latent=[\"sh\",\"-c\",\"exit 0\"]}]
-build = [{worker=\"w0\", step=[{command=[\"true\"]}]}]
+build = [{worker=\"w0\", step=[{name=\"s\",command=[\"true\"]}]}]
 ";
 
 /// A worker whose program isn't there.
 const MISSING: &str = "worker = [{name=\"w0\",password=\"p\",latent=[\"/no/such/program\"]}]
-build = [{worker=\"w0\", step=[{command=[\"true\"]}]}]
+build = [{worker=\"w0\", step=[{name=\"s\",command=[\"true\"]}]}]
 ";
 
 /// A worker whose program waits, and a build of three steps: one that halts it, one that is skipped,
 /// and one that always runs.
 const STEPS: &str = "worker = [{name=\"w0\",password=\"p\",latent=[\"sleep\",\"60\"],idle_ticks=5}]
 build = [{worker=\"w0\", step=[
-  {command=[\"sh\",\"-c\",\"echo a; echo b >&2; exit 3\"],haltOnFailure=true},
-  {command=[\"echo\",\"z\"]},
-  {command=[\"echo\",\"y\"],alwaysRun=true}]}]
+  {name=\"s\",command=[\"sh\",\"-c\",\"echo a; echo b >&2; exit 3\"],haltOnFailure=true},
+  {name=\"s\",command=[\"echo\",\"z\"]},
+  {name=\"s\",command=[\"echo\",\"y\"],alwaysRun=true}]}]
 ";
 
 #[test]

@@ -12,7 +12,7 @@ use std::time::Clock;
 
 /// One worker, and a build of one step.
 const ONE: &str = "worker = [{name=\"w0\",password=\"p\"}]
-build = [{worker=\"w0\", step=[{command=[\"a\"]}]}]
+build = [{worker=\"w0\", step=[{name=\"s\",command=[\"a\"]}]}]
 ";
 
 // Whether logins under a wrong name or password are refused, and a second login under a name, while the
