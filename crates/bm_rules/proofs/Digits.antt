@@ -6,6 +6,9 @@ use Rattle.std.specs.Result.{OkIff, result_ok}
 use Rattle.std.specs.Char.{digit_value}
 use Rattle.std.specs.List.{list_all}
 use Rattle.std.specs.Str.Parse.{AllDigits, IsNumeral, digits_value, ParsesUnsigned}
+use Rattle.std.specs.Str.{IsUtf8}
+use Rattle.std.proofs.lemmas.Str.{IsUtf8-from_ascii}
+use Rattle.std.proofs.lemmas.Fmt.{IsAscii-from_digits}
 use Rattle.bm_rules.specs.Cancel.{is_digit, is_digits, number_of}
 
 pub digit-from : (c : ℕ) → is_digit c ≡ true → digit_value c < 10
@@ -70,14 +73,15 @@ parse-number {E} bs r n h =
     let whole : drop (cond (get_or bs 0 0 == 43) 1 0) bs ≡ bs = ap (λ b. drop (cond b 1 0) bs) e in
     read bs r (subst (λ (ds : List ℕ). OkIff r (Fits ds) (digits_value 10 ds)) whole h)
 
--- and of one that does
-unsaid : (some below : Bool) (r : Option ℕ) (a d : Bool) → d ≡ false → cond ((some && (d && a)) && below) r None ≡ None
-unsaid true below r a true e = absurd cc
-unsaid true below r a false e = refl
-unsaid false below r a d e = refl
+-- bytes that are no UTF-8 are no number
+unsaid : (some below : Bool) (r : Option ℕ) (a : Bool) → a ≡ false → cond ((some && a) && below) r None ≡ None
+unsaid true below r true e = absurd cc
+unsaid true below r false e = refl
+unsaid false below r a e = refl
 
-pub number-plus : (bs : List ℕ) → get_or bs 0 0 ≡ 43 → number_of bs ≡ None
-number-plus [] h = refl
-number-plus (c ∷ bs) h =
-    let e : is_digit c ≡ false = grind (arith, nat_tests) in
-    unsaid (ltb 0 (length (c ∷ bs))) (ltb (digits_value 10 (c ∷ bs)) (2 ^ 64)) (Some (digits_value 10 (c ∷ bs))) (list_all is_digit bs) (is_digit c) e
+pub no_text : (bs : List ℕ) → (IsUtf8 bs → ⊥) → number_of bs ≡ None
+no_text bs h = by (list_all is_digit bs) refl
+  where
+    by : (b : Bool) → list_all is_digit bs ≡ b → number_of bs ≡ None
+    by true q = absurd (h (IsUtf8-from_ascii bs (IsAscii-from_digits bs (digits-from bs q))))
+    by false q = unsaid (ltb 0 (length bs)) (ltb (digits_value 10 bs) (2 ^ 64)) (Some (digits_value 10 bs)) (list_all is_digit bs) q

@@ -16,6 +16,10 @@ log_number log = log.command * log.lanes + log.lane
 abbrev pub lost_line : List ℕ → List ℕ → LossCause → List ℕ
 lost_line worker what cause = codes "worker " ++ (one_line worker ++ (what ++ (loss_text cause ++ 10 ∷ [])))
 
+-- what a build did, and the name of what it did it with
+abbrev pub build_line : ℕ → List ℕ → List ℕ → List ℕ
+build_line build what name = codes "build " ++ (decimal build ++ (what ++ (one_line name ++ 10 ∷ [])))
+
 -- what the line says, with its line end
 abbrev pub remark_line : Remark → List ℕ
 remark_line (LoggedIn worker) = codes "worker " ++ (one_line worker.now ++ codes " logged in\n")
@@ -27,14 +31,14 @@ remark_line (Filled worker) = codes "worker " ++ (one_line worker.now ++ codes "
 remark_line (LoginRefused name why) = codes "login refused, " ++ (refusal_text why ++ (codes ": " ++ (one_line name.now ++ 10 ∷ [])))
 remark_line (ConnectionRefused why) = codes "connection refused, " ++ (refusal_text why ++ 10 ∷ [])
 remark_line AcceptingPaused = codes "accepting paused\n"
-remark_line (BuildStarted build worker) = codes "build " ++ (decimal build ++ (codes " started on " ++ (one_line worker.now ++ 10 ∷ [])))
+remark_line (BuildStarted build worker) = build_line build (codes " started on ") worker.now
 remark_line (BuildEnded build result) = codes "build " ++ (decimal build ++ (codes " ended " ++ (result_name result ++ 10 ∷ [])))
 remark_line (BuildCancelled build) = codes "build " ++ (decimal build ++ codes " to be cancelled\n")
 remark_line (StepStarted build log step) =
-    codes "build " ++ (decimal build ++ (codes " step started, log " ++ (decimal (log_number log) ++ (codes ": " ++ (one_line step.now ++ 10 ∷ [])))))
-remark_line (StepRefused build step) = codes "build " ++ (decimal build ++ (codes " step not started: " ++ (one_line step.now ++ 10 ∷ [])))
+    build_line build (codes " step started, log " ++ (decimal (log_number log) ++ codes ": ")) step.now
+remark_line (StepRefused build step) = build_line build (codes " step not started: ") step.now
 remark_line (StepEnded build log result step) =
-    codes "build " ++ (decimal build ++ (codes " step ended " ++ (result_name result ++ (codes ", log " ++ (decimal (log_number log) ++ (codes ": " ++ (one_line step.now ++ 10 ∷ [])))))))
+    build_line build (codes " step ended " ++ (result_name result ++ (codes ", log " ++ (decimal (log_number log) ++ codes ": ")))) step.now
 remark_line (ProgramStarted worker) = codes "program of " ++ (one_line worker.now ++ codes " started\n")
 remark_line (ProgramFailed worker) = codes "program of " ++ (one_line worker.now ++ codes " not started\n")
 remark_line (ProgramEnded worker) = codes "program of " ++ (one_line worker.now ++ codes " ended\n")

@@ -1,6 +1,7 @@
 //! How a build master ends.
 
 ghost use Rattle.std.specs.Prelude.{◌≡◌};
+ghost use Rattle.std.specs.List.{list_all};
 ghost use Rattle.bm_rules.specs.Exit.{exit_status, is_good};
 
 use bm_session::Results;
@@ -14,11 +15,13 @@ pub const REFUSED: u8 = 2;
 pub fn status(results: &[Results], failed: bool) -> u8
     ensures { result ≡ exit_status results.now failed }
 {
-    if !failed && results.iter().all(|outcome| is_good(*outcome)) {
-        0
-    } else {
-        1
-    }
+    if !failed && are_good(results) { 0 } else { 1 }
+}
+
+fn are_good(results: &[Results]) -> bool
+    ensures { result ≡ list_all is_good results.now }
+{
+    results.iter().all(|outcome| is_good(*outcome))
 }
 
 // Whether nobody has to look at a build that ended so.

@@ -83,7 +83,11 @@ impl Post {
     // Tells the machine of a latent worker what it is to hear of the event. Answers what it asks for.
     fn tell_machine(&mut self, event: WorkerEvent) -> Act
         ensures known { self.new ≡ record {
-            latent = latent_after self.old event; attached = self.old.attached; running = self.old.running; full = self.old.full } }
+          latent = latent_after self.old event;
+          attached = self.old.attached;
+          running = self.old.running;
+          full = self.old.full;
+        } }
         ensures act { result ≡ act_of self.old event }
     {
         let Some(latent) = &mut self.latent else {

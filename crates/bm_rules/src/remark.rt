@@ -2,7 +2,7 @@
 
 ghost use Rattle.std.specs.Prelude.{◌≡◌, ◌++◌, IfOk, string_bytes};
 ghost use Rattle.bm_rules.specs.OneLine.{one_line};
-ghost use Rattle.bm_rules.specs.Remark.{lost_line, remark_line};
+ghost use Rattle.bm_rules.specs.Remark.{build_line, lost_line, remark_line};
 
 use crate::log_id::LogId;
 use crate::names::one_line;
@@ -17,30 +17,57 @@ use std::io::Write;
 #[derive(Clone, Copy, Debug)]
 pub enum Remark<'a> {
     /// A worker logged in, and a session began: `worker NAME logged in`.
-    LoggedIn { worker: &'a str },
+    LoggedIn {
+        worker: &'a str,
+    },
     /// A worker whose connection was cut is back, and its session goes on: `worker NAME resumed`.
-    Resumed { worker: &'a str },
+    Resumed {
+        worker: &'a str,
+    },
     /// A worker's connection was cut, and its session may be resumed: `worker NAME cut, CAUSE`.
-    Cut { worker: &'a str, cause: LossCause },
+    Cut {
+        worker: &'a str,
+        cause: LossCause,
+    },
     /// A worker's session ended, and each command that ran on it with it: `worker NAME lost, CAUSE`.
-    Lost { worker: &'a str, cause: LossCause },
+    Lost {
+        worker: &'a str,
+        cause: LossCause,
+    },
     /// A worker was told to shut down: `worker NAME told to shut down`.
-    Dismissed { worker: &'a str },
+    Dismissed {
+        worker: &'a str,
+    },
     /// A worker's lane takes no connection and no command any more: `worker NAME full`.
-    Filled { worker: &'a str },
+    Filled {
+        worker: &'a str,
+    },
     /// A connection that gave a worker's name was not taken up: `login refused, WHY: NAME`. The name may be
     /// no worker's.
-    LoginRefused { name: &'a str, why: LoginRefusal },
+    LoginRefused {
+        name: &'a str,
+        why: LoginRefusal,
+    },
     /// A connection that gave no name was not taken up: `connection refused, WHY`.
-    ConnectionRefused { why: LoginRefusal },
+    ConnectionRefused {
+        why: LoginRefusal,
+    },
     /// No connection could be accepted just now; it is tried again: `accepting paused`.
     AcceptingPaused,
     /// A build started on a worker: `build I started on NAME`.
-    BuildStarted { build: u64, worker: &'a str },
+    BuildStarted {
+        build: u64,
+        worker: &'a str,
+    },
     /// A build ended: `build I ended RESULT`.
-    BuildEnded { build: u64, result: Results },
+    BuildEnded {
+        build: u64,
+        result: Results,
+    },
     /// A build is to be cancelled, as a line of standard input asked: `build I to be cancelled`.
-    BuildCancelled { build: u64 },
+    BuildCancelled {
+        build: u64,
+    },
     /// A step of a build started, and its log has this id: `build I step started, log ID: STEP`.
     StepStarted {
         build: u64,
@@ -48,7 +75,10 @@ pub enum Remark<'a> {
         step: &'a str,
     },
     /// A step of a build could not be started: `build I step not started: STEP`.
-    StepRefused { build: u64, step: &'a str },
+    StepRefused {
+        build: u64,
+        step: &'a str,
+    },
     /// A step of a build ended: `build I step ended RESULT, log ID: STEP`.
     StepEnded {
         build: u64,
@@ -57,11 +87,17 @@ pub enum Remark<'a> {
         step: &'a str,
     },
     /// The program of a latent worker was started: `program of NAME started`.
-    ProgramStarted { worker: &'a str },
+    ProgramStarted {
+        worker: &'a str,
+    },
     /// The program of a latent worker could not be started: `program of NAME not started`.
-    ProgramFailed { worker: &'a str },
+    ProgramFailed {
+        worker: &'a str,
+    },
     /// The program of a latent worker ended: `program of NAME ended`.
-    ProgramEnded { worker: &'a str },
+    ProgramEnded {
+        worker: &'a str,
+    },
 }
 
 impl Remark<'_> {
@@ -89,8 +125,7 @@ impl Remark<'_> {
             }
             Remark::AcceptingPaused => String::from_str(alloc, "accepting paused\n"),
             Remark::BuildStarted { build, worker } => {
-                let head = format!(in alloc; "build {build} started on ")?;
-                around(alloc, head.as_str(), worker, "\n")
+                of_build(alloc, build, " started on ", worker)
             }
             Remark::BuildEnded { build, result } => {
                 let result = result.name();
@@ -101,12 +136,11 @@ impl Remark<'_> {
             }
             Remark::StepStarted { build, log, step } => {
                 let id = log.number();
-                let head = format!(in alloc; "build {build} step started, log {id}: ")?;
-                around(alloc, head.as_str(), step, "\n")
+                let what = format!(in alloc; " step started, log {id}: ")?;
+                of_build(alloc, build, what.as_str(), step)
             }
             Remark::StepRefused { build, step } => {
-                let head = format!(in alloc; "build {build} step not started: ")?;
-                around(alloc, head.as_str(), step, "\n")
+                of_build(alloc, build, " step not started: ", step)
             }
             Remark::StepEnded {
                 build,
@@ -116,8 +150,8 @@ impl Remark<'_> {
             } => {
                 let result = result.name();
                 let id = log.number();
-                let head = format!(in alloc; "build {build} step ended {result}, log {id}: ")?;
-                around(alloc, head.as_str(), step, "\n")
+                let what = format!(in alloc; " step ended {result}, log {id}: ")?;
+                of_build(alloc, build, what.as_str(), step)
             }
             Remark::ProgramStarted { worker } => around(alloc, "program of ", worker, " started\n"),
             Remark::ProgramFailed { worker } => {
@@ -140,6 +174,14 @@ fn around(alloc: Global, head: &str, name: &str, tail: &str) -> Result<String, A
 {
     let name = one_line(alloc, name)?;
     format!(in alloc; "{head}{name}{tail}")
+}
+
+// What a build did, and the name of what it did it with.
+fn of_build(alloc: Global, build: u64, what: &str, name: &str) -> Result<String, AllocError>
+    ensures { IfOk result (λ s. string_bytes s ≡ build_line build what.now name.now) }
+{
+    let name = one_line(alloc, name)?;
+    format!(in alloc; "build {build}{what}{name}\n")
 }
 
 // What became of a worker, and why.

@@ -13,9 +13,15 @@ use std::net::SocketAddr;
 #[derive(Clone, Copy, Debug)]
 pub enum Report<'a> {
     /// It listens at these addresses, for workers and for the web: `listening ADDR ADDR`.
-    Listening { workers: SocketAddr, web: SocketAddr },
+    Listening {
+        workers: SocketAddr,
+        web: SocketAddr,
+    },
     /// A build ended: `build I RESULT`.
-    Build { number: u64, result: Results },
+    Build {
+        number: u64,
+        result: Results,
+    },
     /// A worker's lane had so many commands, and so many lines in their logs: `lane NAME COMMANDS LINES`,
     /// with the name as the configuration has it.
     Lane {

@@ -25,6 +25,7 @@ fn goes_through(rt: &impl Abort, post: Post, rows: &[Row]) -> Result<(), Fail> {
 }
 
 const IDLE: WorkerEvent = WorkerEvent::Tick { has_build: false };
+
 const BUSY: WorkerEvent = WorkerEvent::Tick { has_build: true };
 
 #[test]
@@ -159,9 +160,28 @@ fn remarks_are_one_line(rt: HostRuntime) -> Result<(), Fail> {
         lanes: 4,
     };
     let step = "a\nb\\c\u{9b}d\u{e9}";
-    let started = Remark::StepStarted { build: 2, log, step };
+    let started = Remark::StepStarted {
+        build: 2,
+        log,
+        step,
+    };
     let cause = LossCause::Expired;
-    assert!(rt; says(rt.alloc(), started, "build 2 step started, log 13: a\\x0ab\\\\c\\x9bd\u{e9}\n"));
-    assert!(rt; says(rt.alloc(), Remark::Lost { worker: "w 0", cause }, "worker w 0 lost, not resumed in time\n"));
+    assert!(rt;
+        says(
+            rt.alloc(),
+            started,
+            "build 2 step started, log 13: a\\x0ab\\\\c\\x9bd\u{e9}\n"
+        )
+    );
+    assert!(rt;
+        says(
+            rt.alloc(),
+            Remark::Lost {
+                worker: "w 0",
+                cause
+            },
+            "worker w 0 lost, not resumed in time\n"
+        )
+    );
     Ok(())
 }
