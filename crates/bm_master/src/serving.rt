@@ -217,18 +217,24 @@ fn host<Y, R>(
     R: Wait + Clock + Threads + Copy + Drop + Send + Sync,
 {
     let rt = shared.rt;
-    thread::scope(thread::scope_env(), rt, |scope| {
-        let lobby = Lobby {
-            rt,
-            alloc: shared.alloc,
-            users: shared.users,
-            doors: shared.doors,
-            guests: shared.guests,
-            mail: shared.mail,
-            is_over,
-        };
-        accept_all(scope, &lobby, listener);
-    })
+    thread::scope(
+        thread::scope_env(),
+        rt,
+        |scope| -> ()
+            requires { IsSend Y.row × IsSync Y.row × IsSend R.row × IsSync R.row }
+        {
+            let lobby = Lobby {
+                rt,
+                alloc: shared.alloc,
+                users: shared.users,
+                doors: shared.doors,
+                guests: shared.guests,
+                mail: shared.mail,
+                is_over,
+            };
+            accept_all(scope, &lobby, listener);
+        },
+    )
 }
 
 // Drains the lanes until the bell says stop, by so many threads. Where they can't be started this
@@ -278,30 +284,36 @@ where
     F: Write + Drop,
 {
     let rt = shared.rt;
-    thread::scope(thread::scope_env(), rt, |scope| {
-        let mut foreman = Foreman {
-            office: Office {
-                rt,
-                alloc: shared.alloc,
-                workers: shared.workers,
-                builds: shared.builds,
-                cancels: shared.cancels,
-                doors: shared.doors,
-                mail: shared.mail,
-            },
-            roster,
-            seats,
-            output,
-            faults,
-            clock: Ticker::new(rt),
-            is_stale: true,
-            is_closed: false,
-            has_reported: false,
-            has_failed: false,
-        };
-        foreman.preside(scope, &letters);
-        foreman.leave()
-    })
+    thread::scope(
+        thread::scope_env(),
+        rt,
+        |scope| -> Left<Y, O>
+            requires { IsSend Y.row × IsSync Y.row × IsSend R.row × IsSync R.row }
+        {
+            let mut foreman = Foreman {
+                office: Office {
+                    rt,
+                    alloc: shared.alloc,
+                    workers: shared.workers,
+                    builds: shared.builds,
+                    cancels: shared.cancels,
+                    doors: shared.doors,
+                    mail: shared.mail,
+                },
+                roster,
+                seats,
+                output,
+                faults,
+                clock: Ticker::new(rt),
+                is_stale: true,
+                is_closed: false,
+                has_reported: false,
+                has_failed: false,
+            };
+            foreman.preside(scope, &letters);
+            foreman.leave()
+        },
+    )
 }
 
 // Serves the logs until the stop. The answer is whether that could begin.

@@ -1,6 +1,6 @@
 -- What a roster does to its board. On the board a build is one step, whose outcome is what the
 -- build's runner reports.
-use Rattle.std.specs.Prelude.{◌≡◌, ◌<◌, ℕ, Bool, true, false, List, [], ◌∷◌, Option, Some, None, Result, Ok, Err}
+use Rattle.std.specs.Prelude.{◌≡◌, ◌<◌, ℕ, true, false, [], ◌∷◌, Option, Some, None, Result, Ok, Err}
 use Rattle.bm_session.specs.declared.results.Results.{Results}
 use Rattle.bm_session.specs.declared.results.Results.TheVariants.{Retry}
 use Rattle.bm_board.specs.declared.plan.StepPlan.{StepPlan}
