@@ -1,6 +1,7 @@
 //! New connections of workers.
 
-use crate::news::{Mail, News, refusal_of};
+use crate::news::{Mail, News};
+use crate::notices::refusal_of;
 use crate::visit::Visit;
 use bm_clerk::{Caller, Door, Guests, greet};
 use bm_lane::Yard;
@@ -10,9 +11,9 @@ use std::alloc::Global;
 use std::net::{TcpListener, TcpStream};
 use std::sync::atomic::{AtomicBool, Ordering};
 use std::sync::{Arc, Wait};
-use std::thread;
 use std::thread::{Scope, Threads};
 use std::time::{Clock, Duration};
+use std::{io, thread};
 
 /// How long the acceptor waits before it looks for the next connection, in milliseconds.
 const PAUSE: u64 = 20;
@@ -79,7 +80,7 @@ pub fn accept_all<'s, E, Y, R>(
                 receive(scope, lobby, stream);
             }
             Err(error) => {
-                if error.kind() != std::io::ErrorKind::WouldBlock && !is_paused {
+                if error.kind() != io::ErrorKind::WouldBlock && !is_paused {
                     is_paused = true;
                     lobby.mail.tell(rt, News::Paused);
                 }

@@ -1,13 +1,14 @@
 //! The foreman: it alone knows all builds and workers, and does what follows from the news.
 
-use crate::news::{Letters, News, Returned, refusal_of};
+use crate::news::{Letters, News, Returned};
+use crate::notices::{event_of, fills, refusal_of};
 use crate::office::{Office, start_build};
 use crate::seat::Seat;
 use bm_clerk::{Notice, Order};
 use bm_lane::{Viewer, Yard};
 use bm_roster::{Bench, Cancelled, Roster};
 use bm_rules::{
-    Duty, LogId, LoginRefusal, LossCause, Pace, ProcessDuty, Remark, Report, WorkerEvent,
+    Duty, LogId, Pace, ProcessDuty, Remark, Report, WorkerEvent,
 };
 use bm_session::Results;
 use std::io::Write;
@@ -283,36 +284,21 @@ where
     fn hear_clerk(&mut self, at: usize, notice: Notice) {
         let worker = self.name(at);
         match notice {
-            Notice::Attached => {
-                self.remark(&Remark::LoggedIn { worker });
-                self.happens(at, WorkerEvent::Attached);
-            }
-            Notice::Resumed => {
-                self.remark(&Remark::Resumed { worker });
-                self.happens(at, WorkerEvent::Attached);
-            }
-            Notice::Cut(cause) => {
-                self.remark(&Remark::Cut { worker, cause });
-                self.happens(at, WorkerEvent::Cut);
-            }
-            Notice::Lost(cause) => {
-                self.remark(&Remark::Lost { worker, cause });
-                self.happens(at, WorkerEvent::Lost);
-                if cause == LossCause::Full {
-                    self.happens(at, WorkerEvent::Filled);
-                }
-            }
-            Notice::Declined(fault) => {
-                let why = refusal_of(fault);
-                self.remark(&Remark::LoginRefused { name: worker, why });
-                if why == LoginRefusal::Full {
-                    self.happens(at, WorkerEvent::Filled);
-                }
-            }
-            Notice::Filled => {
-                self.remark(&Remark::Filled { worker });
-                self.happens(at, WorkerEvent::Filled);
-            }
+            Notice::Attached => self.remark(&Remark::LoggedIn { worker }),
+            Notice::Resumed => self.remark(&Remark::Resumed { worker }),
+            Notice::Cut(cause) => self.remark(&Remark::Cut { worker, cause }),
+            Notice::Lost(cause) => self.remark(&Remark::Lost { worker, cause }),
+            Notice::Declined(fault) => self.remark(&Remark::LoginRefused {
+                name: worker,
+                why: refusal_of(fault),
+            }),
+            Notice::Filled => self.remark(&Remark::Filled { worker }),
+        }
+        if let Some(event) = event_of(notice) {
+            self.happens(at, event);
+        }
+        if fills(notice) {
+            self.happens(at, WorkerEvent::Filled);
         }
     }
 

@@ -10,6 +10,7 @@ mod closing;
 mod foreman;
 mod input;
 mod news;
+mod notices;
 mod office;
 mod parts;
 mod process;

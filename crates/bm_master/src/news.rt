@@ -1,11 +1,10 @@
 //! What the foreman is told.
 
 use bm_clerk::Notice;
-use bm_lane::{HearRefusal, Viewer, Yard};
+use bm_lane::{Viewer, Yard};
 use bm_lines::Text;
-use bm_link::LinkFault;
 use bm_rules::LoginRefusal;
-use bm_session::{Refusal, Results};
+use bm_session::Results;
 use crossbeam_channel::{Receiver, Sender, unbounded};
 use std::alloc::{AllocError, Global};
 use std::sync::Wait;
@@ -108,20 +107,5 @@ impl<Y: Yard> Letters<Y> {
     /// The next news, if there is one.
     pub fn look<R: Wait>(&self, rt: &R) -> Option<News<Y>> {
         self.receiver.try_recv(rt).ok()
-    }
-}
-
-/// Why a connection whose link met this fault was not taken up.
-pub fn refusal_of(fault: LinkFault) -> LoginRefusal {
-    match fault {
-        LinkFault::BadLogin => LoginRefusal::BadLogin,
-        LinkFault::Closed => LoginRefusal::Closed,
-        LinkFault::Stream => LoginRefusal::Stream,
-        LinkFault::BadMessage => LoginRefusal::BadMessage,
-        LinkFault::Full => LoginRefusal::Full,
-        LinkFault::Lane(HearRefusal::Busy) => LoginRefusal::Busy,
-        LinkFault::Lane(HearRefusal::Session(Refusal::AlreadyUp)) => LoginRefusal::AlreadyUp,
-        LinkFault::Lane(HearRefusal::Session(Refusal::Full)) => LoginRefusal::Full,
-        _ => LoginRefusal::Memory,
     }
 }
