@@ -20,6 +20,11 @@ const RESUMABLE: &str = "worker = [{name=\"w0\",password=\"p\",resume_ticks=2000
 build = [{worker=\"w0\", step=[{name=\"s\",command=[\"a\"]}]}]
 ";
 
+/// One worker that may resume its session for a moment, and a build of one step.
+const SHORT: &str = "worker = [{name=\"w0\",password=\"p\",resume_ticks=5}]
+build = [{worker=\"w0\", step=[{name=\"s\",command=[\"a\"]}]}]
+";
+
 /// One worker, and a build of two steps.
 const TWO_STEPS: &str = "worker = [{name=\"w0\",password=\"p\"}]
 build = [{worker=\"w0\", step=[{name=\"s\",command=[\"a\"]}, {name=\"s\",command=[\"b\"]}]}]
@@ -212,5 +217,31 @@ where
 fn a_session_goes_on_after_a_cut(rt: HostRuntime) -> Result<(), Fail> {
     let stage = start(rt, RESUMABLE).ok_or("no master")?;
     assert!(rt; is_resumed(stage));
+    Ok(())
+}
+
+// Whether a session that isn't resumed in time is given up, with its command and its build; and a later
+// login begins another one.
+fn is_given_up<R>(stage: Stage<R>) -> bool
+where
+    R: Wait + Threads + Clock + RandomSource + AllocGlobal + Net<Stream = TcpStream> + Copy + Drop,
+{
+    let Ok(mut hand) = stage.worker("w0", "p", Some("s")) else {
+        return false;
+    };
+    hand.runs(0, "a")
+        && hand.says(0, Letter::O, "x\n")
+        && hand.leaves()
+        && stage.awaits("worker w0 cut, ")
+        && stage.awaits("worker w0 lost, not resumed in time")
+        && stage.reports("build 0 RETRY")
+        && !hand.returns("w0", "p", "s")
+        && stage.ends(&["lane w0 1 1"], 1)
+}
+
+#[test]
+fn a_session_that_is_not_resumed_is_given_up(rt: HostRuntime) -> Result<(), Fail> {
+    let stage = start(rt, SHORT).ok_or("no master")?;
+    assert!(rt; is_given_up(stage));
     Ok(())
 }
