@@ -1,8 +1,9 @@
 //! The foreman: it alone knows all builds and workers, and does what follows from the news.
 
-use crate::news::{Letters, News, Returned};
+use crate::builds::start_build;
+use crate::common::Common;
+use crate::news::{Letters, News, Returned, Step};
 use crate::notices::{event_of, fills, refusal_of};
-use crate::office::{Office, start_build};
 use crate::seat::Seat;
 use bm_clerk::{Notice, Order};
 use bm_lane::{Viewer, Yard};
@@ -44,7 +45,7 @@ pub struct Left<Y: Yard, O> {
 /// are started on demand; it alone writes reports and remarks while builds may run.
 #[derive(Drop)]
 pub struct Foreman<'s, Y: Yard, R: Wait + Clock + Drop, O, F> {
-    pub office: Office<'s, Y, R>,
+    pub common: &'s Common<Y, R>,
     pub roster: Roster<Y>,
     pub seats: Vec<Seat>,
     pub output: O,
@@ -96,12 +97,12 @@ where
 {
     // Tells the operator. What can't be told is passed over.
     fn remark(&mut self, remark: &Remark<'_>) {
-        let _ = remark.write(self.office.alloc, &mut self.faults);
+        let _ = remark.write(self.common.alloc, &mut self.faults);
     }
 
     // The name of a worker.
     fn name(&self, worker: usize) -> &'s str {
-        match self.office.workers.get(worker) {
+        match self.common.config.workers.as_slice().get(worker) {
             Some(worker) => worker.name.as_str(),
             None => "",
         }
@@ -156,8 +157,8 @@ where
 
     // Has the worker told to shut down.
     fn dismiss(&mut self, worker: usize) {
-        if let Some(door) = self.office.doors.get(worker) {
-            door.tell(self.office.rt, Order::ShutDown);
+        if let Some(door) = self.common.doors.get(worker) {
+            door.tell(&self.common.rt, Order::ShutDown);
             let worker = self.name(worker);
             self.remark(&Remark::Dismissed { worker });
         }
@@ -167,7 +168,7 @@ where
     fn start_process(&mut self, worker: usize) -> Option<Duty> {
         let name = self.name(worker);
         let seat = self.seats.get_mut(worker)?;
-        if seat.start(self.office.rt, self.office.alloc) {
+        if seat.start(&self.common.rt, self.common.alloc) {
             let duty = seat.post.hear(WorkerEvent::Started);
             self.remark(&Remark::ProgramStarted { worker: name });
             Some(duty)
@@ -182,8 +183,8 @@ where
     fn stopped(&mut self, worker: usize) {
         let name = self.name(worker);
         self.remark(&Remark::ProgramEnded { worker: name });
-        if let Some(door) = self.office.doors.get(worker) {
-            door.tell(self.office.rt, Order::Ended);
+        if let Some(door) = self.common.doors.get(worker) {
+            door.tell(&self.common.rt, Order::Ended);
         }
         self.happens(worker, WorkerEvent::Stopped);
     }
@@ -221,7 +222,7 @@ where
                 return;
             };
             let (number, worker) = (commission.number, commission.worker);
-            match start_build(scope, &self.office, commission) {
+            match start_build(scope, self.common, commission) {
                 Ok(()) => {
                     let worker = self.name(worker);
                     self.remark(&Remark::BuildStarted {
@@ -258,7 +259,7 @@ where
                 result: Results::Cancelled,
             }),
             Cancelled::Running => {
-                if let Some(cancelled) = self.office.cancels.get(number as usize) {
+                if let Some(cancelled) = self.common.cancels.get(number as usize) {
                     cancelled.store(true, Ordering::SeqCst);
                 }
                 self.remark(&Remark::BuildCancelled { build: number });
@@ -267,17 +268,49 @@ where
         }
     }
 
-    // The log of a build's command.
-    fn log(&self, build: u64, command: u64) -> LogId {
-        let lane = match self.office.builds.get(build as usize) {
+    // A step of a build was started, or has ended.
+    fn hear_step(&mut self, step: &Step) {
+        let config = &self.common.config;
+        let lane = match config.builds.as_slice().get(step.build as usize) {
             Some(build) => build.worker as u64,
             None => 0,
         };
-        LogId {
-            command,
+        let log = LogId {
+            command: step.command,
             lane,
-            lanes: self.office.workers.len() as u64,
+            lanes: config.workers.as_slice().len() as u64,
+        };
+        let name = match &step.name {
+            Some(name) => name.as_str(),
+            None => "",
+        };
+        let build = step.build;
+        match step.outcome {
+            None => self.remark(&Remark::StepStarted {
+                build,
+                log,
+                step: name,
+            }),
+            Some(result) => self.remark(&Remark::StepEnded {
+                build,
+                log,
+                result,
+                step: name,
+            }),
         }
+    }
+
+    // A build's thread hands its build back.
+    fn hear_build(&mut self, returned: Returned<Y>) {
+        let Returned {
+            number,
+            result,
+            viewer,
+        } = returned;
+        if result.is_none() {
+            self.has_failed = true;
+        }
+        self.ends(number, result.unwrap_or(Results::Retry), viewer);
     }
 
     // The clerk of a worker's lane has news.
@@ -302,61 +335,19 @@ where
         }
     }
 
-    // Does what follows from the news.
+    // Does what follows from the news. Builds may then be wanted or started that were not before, but
+    // for what is only remarked.
     fn hear(&mut self, news: News<Y>) {
         match news {
-            News::Lane(worker, notice) => {
-                self.is_stale = true;
-                self.hear_clerk(worker, notice);
-            }
-            News::Ended(Returned {
-                number,
-                result,
-                viewer,
-            }) => {
-                self.is_stale = true;
-                if result.is_none() {
-                    self.has_failed = true;
-                }
-                self.ends(number, result.unwrap_or(Results::Retry), viewer);
-            }
-            News::StepStarted {
-                build,
-                command,
-                name,
-            } => {
-                let log = self.log(build, command);
-                self.remark(&Remark::StepStarted {
-                    build,
-                    log,
-                    step: text_of(&name),
-                });
-            }
-            News::StepEnded {
-                build,
-                command,
-                outcome,
-                name,
-            } => {
-                let log = self.log(build, command);
-                self.remark(&Remark::StepEnded {
-                    build,
-                    log,
-                    result: outcome,
-                    step: text_of(&name),
-                });
-            }
-            News::Refused(why) => self.remark(&Remark::ConnectionRefused { why }),
-            News::Paused => self.remark(&Remark::AcceptingPaused),
-            News::Cancel(number) => {
-                self.is_stale = true;
-                self.cancel(number);
-            }
-            News::InputEnded => {
-                self.is_stale = true;
-                self.is_closed = true;
-            }
+            News::Step(step) => return self.hear_step(&step),
+            News::Refused(why) => return self.remark(&Remark::ConnectionRefused { why }),
+            News::Paused => return self.remark(&Remark::AcceptingPaused),
+            News::Lane(worker, notice) => self.hear_clerk(worker, notice),
+            News::Ended(returned) => self.hear_build(returned),
+            News::Cancel(number) => self.cancel(number),
+            News::InputEnded => self.is_closed = true,
         }
+        self.is_stale = true;
     }
 
     // Reports the results once every build has one.
@@ -368,7 +359,7 @@ where
         for number in 0..self.roster.builds() {
             if let Some(result) = self.roster.result(number) {
                 let report = Report::Build { number, result };
-                if report.write(self.office.alloc, &mut self.output).is_err() {
+                if report.write(self.common.alloc, &mut self.output).is_err() {
                     self.has_failed = true;
                 }
             }
@@ -378,10 +369,22 @@ where
         }
     }
 
-    // Serves until standard input has ended and every build is over.
+    // The next news, or none within a tick where ticks count.
+    fn next_news(&self, letters: &Letters<Y>) -> Option<News<Y>> {
+        let rt = &self.common.rt;
+        if self.is_stale {
+            letters.look(rt)
+        } else if self.is_timed() {
+            letters.wait_for(rt, Duration::from_millis(TICK))
+        } else {
+            letters.wait(rt)
+        }
+    }
+
+    /// Serves until standard input has ended and every build is over.
     pub fn preside<E>(&mut self, scope: &Scope<'s, E>, letters: &Letters<Y>) {
-        let rt = self.office.rt;
-        for _ in rt.forever() {
+        let common = self.common;
+        for _ in common.rt.forever() {
             if self.is_stale {
                 self.is_stale = false;
                 self.press(scope);
@@ -391,14 +394,8 @@ where
                 break;
             }
             let is_timed = self.is_timed();
-            let news = if self.is_stale {
-                letters.look(rt)
-            } else if is_timed {
-                letters.wait_for(rt, Duration::from_millis(TICK))
-            } else {
-                letters.wait(rt)
-            };
-            let ticks = self.clock.ticks(rt);
+            let news = self.next_news(letters);
+            let ticks = self.clock.ticks(&common.rt);
             if is_timed {
                 self.is_stale = self.is_stale || self.roster.is_short();
                 for _ in 0..ticks {
@@ -414,7 +411,7 @@ where
 
     // Has the processes of workers ended, and ends those that don't in time.
     fn end_processes(&mut self) {
-        let rt = self.office.rt;
+        let common = self.common;
         for worker in 0..self.seats.len() {
             let is_running = match self.seats.get(worker) {
                 Some(seat) => seat.is_running(),
@@ -428,7 +425,7 @@ where
             if !self.seats.iter().any(|seat| seat.is_running()) {
                 return;
             }
-            thread::sleep(rt, Duration::from_millis(TICK));
+            thread::sleep(&common.rt, Duration::from_millis(TICK));
             for seat in self.seats.iter_mut() {
                 seat.has_ended();
             }
@@ -464,13 +461,5 @@ where
             is_bad,
             has_failed,
         }
-    }
-}
-
-// The name of a step, where there was memory for it.
-fn text_of(name: &Option<bm_lines::Text>) -> &str {
-    match name {
-        Some(name) => name.as_str(),
-        None => "",
     }
 }

@@ -6,16 +6,18 @@
 #![tactic(auto)]
 
 mod acceptor;
+mod builds;
 mod closing;
+mod common;
 mod foreman;
 mod input;
 mod news;
 mod notices;
-mod office;
 mod parts;
 mod process;
 mod seat;
 mod serving;
+mod threads;
 mod visit;
 mod words;
 

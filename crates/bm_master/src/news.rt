@@ -21,6 +21,19 @@ pub struct Returned<Y: Yard> {
     pub viewer: Viewer<Y>,
 }
 
+/// A step of a build that was started, or has ended.
+#[derive(Drop)]
+pub struct Step {
+    /// The build's number.
+    pub build: u64,
+    /// The command's number on its worker's lane.
+    pub command: u64,
+    /// The step's name, where there was memory for it.
+    pub name: Option<Text>,
+    /// How it ended. None at its start.
+    pub outcome: Option<Results>,
+}
+
 /// What the foreman is told.
 #[derive(Drop)]
 pub enum News<Y: Yard> {
@@ -28,20 +41,8 @@ pub enum News<Y: Yard> {
     Lane(usize, Notice),
     /// By the thread of a build that has ended.
     Ended(Returned<Y>),
-    /// A step of a build was started as this command of its worker's lane. Its name is missing where
-    /// there was no memory for it.
-    StepStarted {
-        build: u64,
-        command: u64,
-        name: Option<Text>,
-    },
-    /// The step's command ended.
-    StepEnded {
-        build: u64,
-        command: u64,
-        outcome: Results,
-        name: Option<Text>,
-    },
+    /// A step of a build was started, or has ended.
+    Step(Step),
     /// A connection was not taken up.
     Refused(LoginRefusal),
     /// No connection could be accepted just now.

@@ -1,11 +1,11 @@
-//! What a build's thread is given, and how it is started.
+//! The threads of builds.
 ghost use Rattle.std.specs.Prelude.{◌≡◌, IfSome};
 
-use crate::news::{Mail, News, Returned};
+use crate::common::Common;
+use crate::news::{Mail, News, Returned, Step};
 use crate::visit::Visit;
 use bm_board::{Build, StepPlan};
 use bm_clerk::{Caller, Door, LanePort, Watch};
-use bm_config::WorkerConfig;
 use bm_lane::{Viewer, Yard};
 use bm_lines::Text;
 use bm_roster::Commission;
@@ -20,20 +20,6 @@ use std::time::Clock;
 
 /// How often a command is asked for its end before it is interrupted.
 const TURNS: u64 = 1 << 32;
-
-/// What the foreman shares with the threads of builds.
-#[derive(Drop)]
-pub struct Office<'s, Y: Yard, R: Wait + Clock + Drop> {
-    pub rt: &'s R,
-    pub alloc: Global,
-    pub workers: &'s [WorkerConfig],
-    pub builds: &'s [Build],
-    /// For each build, whether it is cancelled.
-    pub cancels: &'s [AtomicBool],
-    /// The doors of the lanes, in their order.
-    pub doors: &'s [Door<Caller<Visit, R>>],
-    pub mail: &'s Mail<Y>,
-}
 
 /// A build that is to run, with what it needs of its worker's lane.
 #[derive(Drop)]
@@ -55,26 +41,28 @@ struct StepTeller<'s, Y: Yard, R: Wait + Clock> {
 }
 
 impl<'s, Y: Yard, R: Wait + Clock> StepTeller<'s, Y, R> {
-    // The step's name, where there was memory for it.
-    fn name(&self) -> Option<Text> {
-        match &self.name {
+    // Tells that the step was started, or has ended.
+    fn tell(&self, command: u64, outcome: Option<Results>) {
+        let name = match &self.name {
             Some(name) => name.copy().ok(),
             None => None,
-        }
+        };
+        self.mail.tell(
+            self.rt,
+            News::Step(Step {
+                build: self.build,
+                command,
+                name,
+                outcome,
+            }),
+        );
     }
 }
 
 impl<'s, Y: Yard, R: Wait + Clock> Watch for StepTeller<'s, Y, R> {
     fn started(&mut self, step: &StepPlan, command: u64) {
         self.name = step.name.copy().ok();
-        self.mail.tell(
-            self.rt,
-            News::StepStarted {
-                build: self.build,
-                command,
-                name: self.name(),
-            },
-        );
+        self.tell(command, None);
     }
 
     // A cancel ends one step: those that always run are run after it.
@@ -82,15 +70,7 @@ impl<'s, Y: Yard, R: Wait + Clock> Watch for StepTeller<'s, Y, R> {
         if outcome == Results::Cancelled {
             self.cancelled.store(false, Ordering::SeqCst);
         }
-        self.mail.tell(
-            self.rt,
-            News::StepEnded {
-                build: self.build,
-                command,
-                outcome,
-                name: self.name(),
-            },
-        );
+        self.tell(command, Some(outcome));
     }
 }
 
@@ -142,52 +122,53 @@ fn run<Y, R>(
     );
 }
 
-impl<'s, Y: Yard, R: Wait + Clock + Drop> Office<'s, Y, R> {
-    // The job of a commission. The commission comes back where memory is wanting.
-    fn job(&self, commission: Commission<Y>) -> Result<Job<Y, R>, Commission<Y>> {
-        let Some(door) = door_of(self.doors, commission.worker) else {
-            return Err(commission);
-        };
-        let Ok(door) = door.copy() else {
-            return Err(commission);
-        };
-        let Commission {
-            number,
-            worker: _,
-            viewer,
-        } = commission;
-        Ok(Job {
-            number,
-            viewer,
-            door,
-        })
-    }
+// The job of a commission. The commission comes back where memory is wanting.
+fn job_of<Y: Yard, R: Wait + Clock + Drop>(
+    doors: &[Door<Caller<Visit, R>>],
+    commission: Commission<Y>,
+) -> Result<Job<Y, R>, Commission<Y>> {
+    let Some(door) = door_of(doors, commission.worker) else {
+        return Err(commission);
+    };
+    let Ok(door) = door.copy() else {
+        return Err(commission);
+    };
+    let Commission {
+        number,
+        worker: _,
+        viewer,
+    } = commission;
+    Ok(Job {
+        number,
+        viewer,
+        door,
+    })
 }
 
 /// Runs a commissioned build in a thread of its own, which tells its end. Where no thread can be
 /// started, or memory is wanting, its viewer comes back.
 pub fn start_build<'s, E, Y, R>(
     scope: &Scope<'s, E>,
-    office: &Office<'s, Y, R>,
+    common: &'s Common<Y, R>,
     commission: Commission<Y>,
 ) -> Result<(), Viewer<Y>>
 where
     Y: Yard + Send + Sync + 's,
     R: Wait + Clock + Threads + Drop + Send + Sync + 's,
 {
-    let (rt, alloc) = (office.rt, office.alloc);
+    let (rt, alloc) = (&common.rt, common.alloc);
     let number = commission.number as usize;
-    let (Some(build), Some(cancelled)) = (office.builds.get(number), office.cancels.get(number))
-    else {
+    let build = common.config.builds.as_slice().get(number);
+    let (Some(build), Some(cancelled)) = (build, common.cancels.get(number)) else {
         return Err(commission.viewer);
     };
-    let (Ok(mail), Ok(told)) = (office.mail.copy(), office.mail.copy()) else {
+    let (Ok(mail), Ok(told)) = (common.mail.copy(), common.mail.copy()) else {
         return Err(commission.viewer);
     };
     let Ok((give, take)) = bounded::<Job<Y, R>, Global>(alloc, 1) else {
         return Err(commission.viewer);
     };
-    let job = match office.job(commission) {
+    let job = match job_of(common.doors.as_slice(), commission) {
         Ok(job) => job,
         Err(commission) => return Err(commission.viewer),
     };
