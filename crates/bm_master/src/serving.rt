@@ -210,14 +210,14 @@ where
         is_over: Arc::new(alloc, AtomicBool::new(false)).ok()?,
         config,
     };
-    let is_told = report(alloc, Report::Listening { workers, web }, &mut given.output);
+    let is_told = write_report(alloc, Report::Listening { workers, web }, &mut given.output);
     let came = run_threads(&common, service, given, input)?;
     let is_ended = end(common, Site::into_viewers(site)?, came);
     Some(is_told && is_ended)
 }
 
 // Writes a report at once. The answer is whether it was written.
-fn report<O: Write>(alloc: Global, report: Report<'_>, output: &mut O) -> bool {
+fn write_report<O: Write>(alloc: Global, report: Report<'_>, output: &mut O) -> bool {
     report.write(alloc, output).is_ok() && output.flush().is_ok()
 }
 
@@ -278,7 +278,7 @@ fn close<Y: Yard, R: Wait + Drop, O: Write + Drop>(
                     commands: tally.commands,
                     lines: u128::from(tally.lines),
                 };
-                is_good = report(alloc, lane, &mut output) && is_good;
+                is_good = write_report(alloc, lane, &mut output) && is_good;
             }
             Err(_) => is_good = false,
         }

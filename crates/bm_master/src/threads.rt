@@ -272,7 +272,7 @@ impl<Y: Yard> Staff<Y> {
 }
 
 // Does the foreman's work, with the threads of builds below it.
-fn lead<Y, R, O, F>(common: &Common<Y, R>, given: Lead<Y, O, F>) -> Left<Y, O>
+fn run_foreman<Y, R, O, F>(common: &Common<Y, R>, given: Lead<Y, O, F>) -> Left<Y, O>
 where
     Y: Yard + Send + Sync,
     R: Wait + Clock + Threads + Processes<Started = SystemProcess> + Drop + Send + Sync,
@@ -324,7 +324,7 @@ where
     O: Write + Drop + Send + 's,
     F: Write + Drop + Send + 's,
 {
-    let led = scope.spawn(move || lead(common, given)).ok()?;
+    let led = scope.spawn(move || run_foreman(common, given)).ok()?;
     read_input(&common.rt, common.alloc, input, &common.mail);
     common.mail.tell(&common.rt, News::InputEnded);
     Some(led.join(&common.rt))
