@@ -95,32 +95,37 @@ pub fn settle_all<Y: Yard, W: Wait + Drop, R: Wait>(
     let mut tallies = Vec::with_capacity(alloc, readers.len())?;
     for reader in readers {
         let viewers = whole(benches.next(), site.next());
-        tallies.push(match (writers.next(), viewers) {
-            (Some(writer), Ok(viewers)) => tally_of(
-                rt,
-                alloc,
-                Ends {
-                    reader,
-                    writer: writer.into_inner(),
-                    viewers,
-                },
-            ),
-            (_, Err(loose)) => Err(loose),
-            (None, _) => Err(Loose::Mixed),
-        })?;
+        let tally = tally_of(rt, alloc, reader, writers.next(), viewers);
+        tallies.push(tally)?;
     }
     Ok(tallies)
 }
 
-// Settles a lane, and answers what it had.
+// Settles a lane whose ends are all there, and answers what it had.
 fn tally_of<Y: Yard, W: Wait + Drop, R: Wait>(
     rt: &R,
     alloc: Global,
-    ends: Ends<Y, W>,
+    reader: ReaderEnd<Y>,
+    writer: Option<Mutex<WriterEnd<Y, W>>>,
+    viewers: Result<Vec<Viewer<Y>>, Loose>,
 ) -> Result<Tally, Loose> {
-    let settled = settle_lane(rt, alloc, ends)?;
-    Ok(Tally {
-        commands: settled.book.commands(),
-        lines: settled.book.stdio_lines(),
-    })
+    let Some(writer) = writer else {
+        return Err(Loose::Mixed);
+    };
+    let viewers = match viewers {
+        Ok(viewers) => viewers,
+        Err(loose) => return Err(loose),
+    };
+    let ends = Ends {
+        reader,
+        writer: writer.into_inner(),
+        viewers,
+    };
+    match settle_lane(rt, alloc, ends) {
+        Ok(settled) => Ok(Tally {
+            commands: settled.book.commands(),
+            lines: settled.book.stdio_lines(),
+        }),
+        Err(loose) => Err(loose),
+    }
 }

@@ -239,35 +239,44 @@ impl<Y: Yard> Staff<Y> {
     }
 
     // Ends all of them: the clerks first, while the pool still drains. The lanes' reader's ends come
-    // back, for which there is room. The answer is whether the pool and the web did their work.
+    // back in `room`, where there is room for them. The answer is also whether the pool and the web did
+    // their work.
     fn dismiss<R: Wait + Clock + Threads + Drop>(
         self,
         common: &Common<Y, R>,
         stop: oneshot::Sender<()>,
-        readers: &mut Vec<ReaderEnd<Y>>,
-    ) -> bool {
+        room: Vec<ReaderEnd<Y>>,
+    ) -> (Vec<ReaderEnd<Y>>, bool) {
+        let Staff {
+            pool,
+            web,
+            host,
+            clerks,
+            ..
+        } = self;
         let rt = &common.rt;
+        let mut readers = room;
         for door in common.doors.iter() {
             door.tell(rt, Order::Leave);
         }
-        for clerk in self.clerks {
+        for clerk in clerks {
             let _ = readers.push(clerk.join(rt));
         }
         common.is_over.store(true, Ordering::SeqCst);
-        if let Some(host) = self.host {
+        if let Some(host) = host {
             host.join(rt);
         }
         common.bell.stop();
-        let is_drained = match self.pool {
+        let is_drained = match pool {
             Some(pool) => pool.join(rt),
             None => false,
         };
         let _ = stop.send(());
-        let is_served = match self.web {
+        let is_served = match web {
             Some(web) => web.join(rt),
             None => false,
         };
-        is_drained && is_served
+        (readers, is_drained && is_served)
     }
 }
 
@@ -356,27 +365,27 @@ where
     F: Write + Drop + Send,
 {
     let lanes = common.lanes.len();
+    let clerks = Vec::with_capacity(common.alloc, lanes).ok()?;
     let room = Vec::with_capacity(common.alloc, lanes).ok()?;
-    let mut readers = Vec::with_capacity(common.alloc, lanes).ok()?;
     let (stop, stopped) = oneshot::channel(common.alloc).ok()?;
-    thread::scope(
+    let (left, (readers, is_whole)) = thread::scope(
         thread::scope_env(),
         &common.rt,
-        |scope| -> Option<Came<Y, O>>
+        |scope| -> (Option<Left<Y, O>>, (Vec<ReaderEnd<Y>>, bool))
             requires { IsSend Y.row × IsSync Y.row × IsSend R.row × IsSync R.row × IsSend O.row × IsSend F.row }
         {
-            let staff = start_staff(scope, common, service, stopped, room);
+            let staff = start_staff(scope, common, service, stopped, clerks);
             let left = if staff.is_complete() {
                 employ(scope, common, given, input)
             } else {
                 None
             };
-            let is_whole = staff.dismiss(common, stop, &mut readers);
-            Some(Came {
-                readers,
-                left: left?,
-                is_whole,
-            })
+            (left, staff.dismiss(common, stop, room))
         },
-    )
+    );
+    Some(Came {
+        readers,
+        left: left?,
+        is_whole,
+    })
 }
