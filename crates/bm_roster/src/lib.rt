@@ -7,6 +7,7 @@
 
 mod bench;
 mod commission;
+pub mod laws;
 mod roster;
 
 pub use bench::Bench;
