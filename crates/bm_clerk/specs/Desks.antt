@@ -1,0 +1,140 @@
+-- What a clerk's desk is, and what each of its calls does to the lane, by what the lane's link and the lane themselves do.
+use Rattle.std.specs.Prelude.{◌≡◌, ℕ, ◌==◌, Bool, true, false, not, if◌then◌else◌, List, length, Option, Some, None, Result, Ok, Err}
+use Rattle.bm_session.specs.declared.refusal.Refusal.TheVariants.{Mem, Full}
+use Rattle.bm_session.specs.Trace.{is_up, is_cut, commands, orders}
+use Rattle.bm_lane.specs.Ends.{Heard}
+use Rattle.bm_lane.specs.declared.refusals.HearRefusal.TheVariants.{Session, Busy}
+use Rattle.bm_link.specs.declared.asks.Ask.TheVariants.{Shutdown}
+use Rattle.bm_link.specs.declared.attaching.Attached.{Attached}
+use Rattle.bm_link.specs.declared.fault.LinkFault.{LinkFault}
+use Rattle.bm_link.specs.declared.fault.LinkFault.TheVariants.{Lane}
+use Rattle.bm_link.specs.declared.parts.Ended.TheVariants as ended
+use Rattle.bm_link.specs.declared.parts.Turn.{Turn}
+use Rattle.bm_link.specs.declared.parts.Turn.TheVariants.{Quiet}
+use Rattle.bm_link.specs.Asking.{AsksFor}
+use Rattle.bm_link.specs.Attaching.{TakesUpFor}
+use Rattle.bm_link.specs.Carries.{Carried}
+use Rattle.bm_link.specs.Endings.{Falls}
+use Rattle.bm_link.specs.Link.{LinkState, Turned}
+use Rattle.bm_link.specs.Orders.{Starts as LinkStarts, Interrupts as LinkInterrupts}
+use Rattle.bm_rules.specs.Tenure.{Term, begun, cut_off, dismissed, is_over, passed}
+use Rattle.bm_clerk.specs.declared.desk.Rest.{Rest}
+use Rattle.bm_clerk.specs.declared.desk.Rest.TheVariants as rest
+use Rattle.bm_clerk.specs.declared.door.Told.{Told}
+use Rattle.bm_clerk.specs.declared.door.Told.TheVariants as told
+use Rattle.bm_clerk.specs.declared.notice.Standing.{Standing}
+use Rattle.bm_clerk.specs.declared.notice.Standing.TheVariants as standing
+use Rattle.bm_clerk.specs.Notices.{standing_of}
+
+-- a lane's reader's end, what the lane carries from one link to the next, the link by which it is up, and how long a cut
+-- one waits for its worker
+pub record Seat (S : Type 0) : Type 0 where
+  pub lane : Heard
+  pub carry : Carried
+  pub link : Option (LinkState S)
+  pub tenure : Term
+
+-- what is waited for: a lane that is up waits for messages where its worker has something to say
+abbrev pub rest_of : Bool → Standing → Rest
+rest_of true standing.Up = rest.Message
+rest_of false standing.Up = rest.Glance
+rest_of lively standing.Cut = rest.Tick
+rest_of lively standing.Down = rest.Order
+
+-- ticks are counted from a cut on, until the session was given up
+abbrev pub term_in : Standing → Term → Term
+term_in standing.Up t = t
+term_in standing.Cut t = cut_off t
+term_in standing.Down t = begun t
+
+abbrev pub counting : Heard → Term → Term
+counting lane t = term_in (standing_of lane.trace) t
+
+-- the lane had events
+abbrev pub is_changed : Heard → Heard → Bool
+is_changed old new = not (length old.trace == length new.trace)
+
+-- what a build is told of a start: the command's number; to try it later where the lane is busy, or the link failed and the
+-- lane took no order; or that it is refused, for a full lane with that reason
+abbrev pub told_start : Bool → Result ℕ LinkFault → Told
+told_start taken (Ok k) = told.Started k
+told_start taken (Err (Lane Busy)) = told.Later
+told_start taken (Err (Lane (Session Full))) = told.Full
+told_start taken (Err (Lane why)) = told.Refused
+told_start taken (Err f) = if taken then told.Refused else told.Later
+
+-- of an interruption: an order that the lane took is sent again where its session is resumed
+abbrev pub told_interrupt : Bool → Result (Unit {0}) LinkFault → Told
+told_interrupt taken (Ok _) = told.Interrupted
+told_interrupt taken (Err (Lane Busy)) = told.Later
+told_interrupt taken (Err (Lane (Session Mem))) = told.Later
+told_interrupt taken (Err (Lane why)) = told.Refused
+told_interrupt taken (Err f) = if taken then told.Interrupted else told.Later
+
+-- where the lane has no link: to try it later while it is cut, and else that it is refused
+abbrev pub told_unlinked : Heard → Told
+told_unlinked lane = if is_cut lane.trace then told.Later else told.Refused
+
+module _ {S : Type 0} where
+  abbrev pub with_term : Seat S → Term → Seat S
+  with_term d t = record d { tenure = t }
+
+  -- a link is kept while its lane is up
+  abbrev pub kept : Heard → Option (LinkState S) → Option (LinkState S)
+  kept lane link = if is_up lane.trace then link else None
+
+  -- a link of the desk did something to the lane, and this is left of it
+  abbrev pub Leaves : Seat S → Term → LinkState S → Seat S → Type 0
+  Leaves old term link new = (new.link ≡ kept new.lane (Some link)) × (new.tenure ≡ counting new.lane term)
+
+  -- a link takes the lane up, or is declined; where another one has the lane, that goes on unharmed
+  abbrev pub Attaches : (S → Option (List ℕ)) → LinkState S → Option (LinkState S) → Seat S → Result Attached LinkFault → Seat S → Type 0
+  Attaches contents link (Some first) old r new = (new ≡ old) × ((f : LinkFault) × (r ≡ Err f))
+  Attaches contents link None old r new =
+      (link2 : LinkState S) × TakesUpFor contents link.login link old.lane old.carry r link2 new.lane new.carry
+      × Leaves old (if is_changed old.lane new.lane then begun old.tenure else old.tenure) link2 new
+
+  -- a turn of the link
+  abbrev pub Turns : (S → Option (List ℕ)) → (S → Option (List ℕ)) → Option (LinkState S) → Seat S → Result Turn LinkFault → Seat S → Type 0
+  Turns remaining contents None old r new = (r ≡ Ok Quiet) × (new ≡ old)
+  Turns remaining contents (Some link) old r new =
+      (link2 : LinkState S) × Turned remaining contents link.stage link old.lane old.carry r link2 new.lane new.carry
+      × Leaves old old.tenure link2 new
+
+  -- a start: without a link nothing is sent
+  abbrev pub Starts : (S → Option (List ℕ)) → List (List ℕ) → Option (LinkState S) → Seat S → Told → Seat S → Type 0
+  Starts contents argv None old t new = (t ≡ told_unlinked old.lane) × (new ≡ old)
+  Starts contents argv (Some link) old t new =
+      (r : Result ℕ LinkFault) × (link2 : LinkState S)
+      × LinkStarts contents argv link.stage link old.lane old.carry r link2 new.lane new.carry × Leaves old old.tenure link2 new
+      × (t ≡ told_start (not (commands old.lane.trace == commands new.lane.trace)) r)
+
+  -- an interruption of command k: without a link nothing is sent
+  abbrev pub Interrupts : (S → Option (List ℕ)) → ℕ → Option (LinkState S) → Seat S → Told → Seat S → Type 0
+  Interrupts contents k None old t new = (t ≡ told_unlinked old.lane) × (new ≡ old)
+  Interrupts contents k (Some link) old t new =
+      (r : Result (Unit {0}) LinkFault) × (link2 : LinkState S)
+      × LinkInterrupts contents k link.stage link old.lane old.carry r link2 new.lane new.carry × Leaves old old.tenure link2 new
+      × (t ≡ told_interrupt (not (orders old.lane.trace == orders new.lane.trace)) r)
+
+  -- the worker is asked to shut down, and is not awaited after a cut
+  abbrev pub ShutsDown : (S → Option (List ℕ)) → Option (LinkState S) → Seat S → Seat S → Type 0
+  ShutsDown contents None old new = new ≡ with_term old (dismissed old.tenure)
+  ShutsDown contents (Some link) old new =
+      (r : Result (Unit {0}) LinkFault) × (link2 : LinkState S) × AsksFor contents Shutdown link.stage link old.carry r link2 new.carry
+      × (new.link ≡ Some link2) × (new.lane ≡ old.lane) × (new.tenure ≡ dismissed old.tenure)
+
+  -- the session is given up, if there is one; or that waits, since the lane is busy
+  abbrev pub GivesUp : Seat S → Bool → Seat S → Type 0
+  GivesUp old true new =
+      Falls old.lane new.lane ended.Down × (new.carry ≡ old.carry) × (new.link ≡ kept new.lane old.link)
+      × (new.tenure ≡ counting new.lane old.tenure)
+  GivesUp old false new = Falls old.lane new.lane ended.Waits × (new ≡ old)
+
+  -- the session is given up where its worker is awaited no more
+  abbrev pub Expires : Seat S → Seat S → Type 0
+  Expires old new = if is_over old.tenure then ((done : Bool) × GivesUp old done new) else (new ≡ old)
+
+  -- that, after one tick more
+  abbrev pub Ticks : Seat S → Seat S → Type 0
+  Ticks old new = Expires (with_term old (passed old.tenure)) new

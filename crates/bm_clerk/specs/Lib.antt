@@ -1,0 +1,5 @@
+pub mod Desks
+pub mod Guests
+pub mod Notices
+pub mod Greeting
+pub mod Ports
