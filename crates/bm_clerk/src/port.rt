@@ -72,7 +72,7 @@ fn polled(state: Result<LogState, ViewRefusal>, is_cancelled: bool) -> Polled
     }
 }
 
-impl<'a, Y: Yard, S: Drop, R: Wait + Clock, W: Watch> LanePort<'a, Y, S, R, W> {
+impl<'a, Y: Yard, S: Drop, R: Wait + Clock, W: Watch + Drop> LanePort<'a, Y, S, R, W> {
     /// A port that has started nothing. It takes no memory.
     pub fn over(
         rt: &'a R,
@@ -105,7 +105,7 @@ impl<'a, Y: Yard, S: Drop, R: Wait + Clock, W: Watch> LanePort<'a, Y, S, R, W> {
     }
 }
 
-impl<'a, Y: Yard, S: Drop, R: Wait + Clock, W: Watch> Port for LanePort<'a, Y, S, R, W> {
+impl<'a, Y: Yard, S: Drop, R: Wait + Clock, W: Watch + Drop> Port for LanePort<'a, Y, S, R, W> {
     ghost told = { λ p. p.told };
 
     ghost refused = { λ p. p.refused };
@@ -194,7 +194,7 @@ fn interrupt<S: Drop, R: Wait + Clock>(rt: &R, alloc: Global, door: &Door<S>, co
     }
 }
 
-impl<'a, Y: Yard, S: Drop, R: Wait + Clock, W: Watch> LanePort<'a, Y, S, R, W> {
+impl<'a, Y: Yard, S: Drop, R: Wait + Clock, W: Watch + Drop> LanePort<'a, Y, S, R, W> {
     /// Starts the step's command, with room for its entry.
     fn begin(&mut self, step: &StepPlan) -> Option<u64> {
         if self.entries.reserve().is_err() {
