@@ -1,20 +1,23 @@
 -- What a clerk's desk is, and what each of its calls does to the lane, by what the lane's link and the lane themselves do.
-use Rattle.std.specs.Prelude.{◌≡◌, ℕ, ◌==◌, Bool, true, false, not, if◌then◌else◌, List, length, Option, Some, None, Result, Ok, Err}
+use Rattle.std.specs.Prelude.{◌≡◌, ◌×◌, ℕ, ◌==◌, Bool, true, false, not, if◌then◌else◌, List, length, Option, Some, None, Result, Ok, Err}
 use Rattle.bm_session.specs.declared.refusal.Refusal.TheVariants.{Mem, Full}
 use Rattle.bm_session.specs.Trace.{is_up, is_cut, commands, orders}
+use Rattle.bm_session.specs.declared.event.Event.{Event}
+use Rattle.bm_session.specs.declared.event.Event.TheVariants.{Down}
+use Rattle.bm_session.specs.declared.reply.Reply.{Reply}
 use Rattle.bm_lane.specs.Ends.{Heard}
+use Rattle.bm_lane.specs.Hearing.{Hears}
+use Rattle.bm_lane.specs.declared.refusals.HearRefusal.{HearRefusal}
 use Rattle.bm_lane.specs.declared.refusals.HearRefusal.TheVariants.{Session, Busy}
 use Rattle.bm_link.specs.declared.asks.Ask.TheVariants.{Shutdown}
 use Rattle.bm_link.specs.declared.attaching.Attached.{Attached}
 use Rattle.bm_link.specs.declared.fault.LinkFault.{LinkFault}
 use Rattle.bm_link.specs.declared.fault.LinkFault.TheVariants.{Lane}
-use Rattle.bm_link.specs.declared.parts.Ended.TheVariants as ended
 use Rattle.bm_link.specs.declared.parts.Turn.{Turn}
 use Rattle.bm_link.specs.declared.parts.Turn.TheVariants.{Quiet}
 use Rattle.bm_link.specs.Asking.{AsksFor}
 use Rattle.bm_link.specs.Attaching.{TakesUpFor}
 use Rattle.bm_link.specs.Carries.{Carried}
-use Rattle.bm_link.specs.Endings.{Falls}
 use Rattle.bm_link.specs.Link.{LinkState, Turned}
 use Rattle.bm_link.specs.Orders.{Starts as LinkStarts, Interrupts as LinkInterrupts}
 use Rattle.bm_rules.specs.Tenure.{Term, begun, cut_off, dismissed, is_over, passed}
@@ -75,6 +78,15 @@ told_interrupt taken (Err f) = if taken then told.Interrupted else told.Later
 abbrev pub told_unlinked : Heard → Told
 told_unlinked lane = if is_cut lane.trace then told.Later else told.Refused
 
+abbrev pub is_busy_refusal : HearRefusal → Bool
+is_busy_refusal Busy = true
+is_busy_refusal (Session why) = false
+
+-- the lane was busy
+abbrev pub is_busy : Result Reply (Event × HearRefusal) → Bool
+is_busy (Ok reply) = false
+is_busy (Err back) = is_busy_refusal back.1
+
 module _ {S : Type 0} where
   abbrev pub with_term : Seat S → Term → Seat S
   with_term d t = record d { tenure = t }
@@ -124,12 +136,11 @@ module _ {S : Type 0} where
       (r : Result (Unit {0}) LinkFault) × (link2 : LinkState S) × AsksFor contents Shutdown link.stage link old.carry r link2 new.carry
       × (new.link ≡ Some link2) × (new.lane ≡ old.lane) × (new.tenure ≡ dismissed old.tenure)
 
-  -- the session is given up, if there is one; or that waits, since the lane is busy
+  -- the lane hears a Down: the session is given up, if there was one; or nothing changed, since the lane is busy
   abbrev pub GivesUp : Seat S → Bool → Seat S → Type 0
-  GivesUp old true new =
-      Falls old.lane new.lane ended.Down × (new.carry ≡ old.carry) × (new.link ≡ kept new.lane old.link)
-      × (new.tenure ≡ counting new.lane old.tenure)
-  GivesUp old false new = Falls old.lane new.lane ended.Waits × (new ≡ old)
+  GivesUp old done new =
+      (r : Result Reply (Event × HearRefusal)) × Hears old.lane Down r new.lane × (done ≡ not (is_busy r)) × (new.carry ≡ old.carry)
+      × (new.link ≡ (if done then kept new.lane old.link else old.link)) × (new.tenure ≡ (if done then counting new.lane old.tenure else old.tenure))
 
   -- the session is given up where its worker is awaited no more
   abbrev pub Expires : Seat S → Seat S → Type 0

@@ -240,15 +240,18 @@ where
 
     /// Gives the session up, and hands the lane's end back.
     fn leave(self) -> ReaderEnd<Y> {
-        let mut clerk = self;
-        for _ in clerk.rt.forever() {
-            let took = clerk.bell.took(clerk.place);
-            if clerk.desk.give_up(clerk.rt) {
+        let rt = self.rt;
+        let bell = self.bell;
+        let place = self.place;
+        let mut desk = self.desk;
+        for _ in rt.forever() {
+            let took = bell.took(place);
+            if desk.give_up(rt) {
                 break;
             }
-            clerk.bell.wait_for_place(clerk.place, took);
+            bell.wait_for_place(place, took);
         }
-        clerk.bell.ring(clerk.place);
-        clerk.desk.into_reader()
+        bell.ring(place);
+        desk.into_reader()
     }
 }

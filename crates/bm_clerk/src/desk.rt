@@ -1,9 +1,8 @@
 //! A lane's reader's end with the link by which it is up.
 
-ghost use Rattle.std.specs.Prelude.{◌≡◌, []};
-ghost use Rattle.bm_session.specs.Trace.{is_cut};
-ghost use Rattle.bm_link.specs.Carries.{new_carried};
-ghost use Rattle.bm_rules.specs.Tenure.{kept as kept_term, is_over};
+ghost use Rattle.std.specs.Prelude.{◌≡◌, [], true};
+ghost use Rattle.bm_session.specs.Trace.{is_up};
+ghost use Rattle.bm_rules.specs.Tenure.{kept as kept_term, dismissed};
 ghost use Rattle.bm_clerk.specs.Desks.{counting, kept, rest_of, told_interrupt, told_start, told_unlinked};
 ghost use Rattle.bm_clerk.specs.Desks.{Attaches, Expires, GivesUp, Interrupts, ShutsDown, Starts, Ticks, Turns, with_term};
 ghost use Rattle.bm_clerk.specs.Notices.{standing_of};
@@ -106,16 +105,36 @@ fn settle<Y: Yard, S: Drop>(
     ensures link { link.new ≡ kept reader.now link.old }
     ensures tenure { tenure.new ≡ counting reader.now tenure.old }
 {
-    match standing_of(reader) {
+    let standing = standing_of(reader);
+    if standing != Standing::Up {
+        *link = None;
+    }
+    match standing {
         Standing::Up => {}
-        Standing::Cut => {
-            *link = None;
-            tenure.cut();
-        }
-        Standing::Down => {
-            *link = None;
-            tenure.end();
-        }
+        Standing::Cut => tenure.cut(),
+        Standing::Down => tenure.end(),
+    }
+}
+
+/// A link that has logged in comes to a lane that is up: it is told so, and answers its fault.
+#[tactic(auto, using(crate::proofs::Declining::declined))]
+fn decline<Y: Yard, S: Read + Write + Drop, R: Wait>(
+    rt: &R,
+    alloc: Global,
+    reader: &mut ReaderEnd<Y>,
+    carry: &mut Carry,
+    link: MasterLink<S>,
+) -> LinkFault
+    requires { is_up reader.old.trace ≡ true }
+    ensures lane { reader.new ≡ reader.old }
+    ensures carry { carry.new ≡ carry.old }
+{
+    let mut link = link;
+    let answer = link.attach(rt, alloc, reader, carry);
+    let _events = reader.trace();
+    match answer {
+        Err(fault) => fault,
+        Ok(_) => unreachable!(),
     }
 }
 
@@ -187,17 +206,17 @@ impl<Y: Yard, S: Read + Write + Drop> Desk<Y, S> {
     ) -> Result<Attached, LinkFault>
         ensures { Attaches S.contents link self.old.link self.old result self.new }
     {
+        if self.link.is_some() {
+            return Err(decline(rt, alloc, &mut self.reader, &mut self.carry, link));
+        }
         let mut link = link;
         let events = self.reader.trace().len();
         let answer = link.attach(rt, alloc, &mut self.reader, &mut self.carry);
-        let is_changed = self.reader.trace().len() != events;
-        if self.link.is_none() {
-            if is_changed {
-                self.tenure.begin();
-            }
-            self.link = Some(link);
-            settle(&self.reader, &mut self.link, &mut self.tenure);
+        if self.reader.trace().len() != events {
+            self.tenure.begin();
         }
+        self.link = Some(link);
+        settle(&self.reader, &mut self.link, &mut self.tenure);
         answer
     }
 

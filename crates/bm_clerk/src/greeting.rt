@@ -1,6 +1,6 @@
 //! The greeting of a new connection: its handshake and its login.
 
-ghost use Rattle.std.specs.Prelude.{◌≡◌, ◌∘◌, IfOk, IfSome};
+ghost use Rattle.std.specs.Prelude.{◌≡◌, IfOk, IfSome};
 ghost use Rattle.bm_clerk.specs.Greeting.{IsLoggedIn};
 
 use crate::caller::{Caller, Timed};

@@ -2,8 +2,7 @@
 //! viewer of its own.
 
 ghost use Rattle.std.specs.Prelude.{◌≡◌, false};
-ghost use Rattle.bm_lane.specs.Looks.{GivesState};
-ghost use Rattle.bm_clerk.specs.Ports.{polled};
+ghost use Rattle.bm_clerk.specs.Ports.{Begins, Looks, polled};
 
 use crate::door::{Door, Order, Told};
 use bm_board::{StepPlan, Words};
@@ -56,7 +55,7 @@ impl<'a, Y: Yard, S, R, W> Model for LanePort<'a, Y, S, R, W> {
 
     ghost Value = { Ordering };
 
-    ghost view = { λ p. record { lane = p.door; told = p.entries.told; refused = p.refused } };
+    ghost view = { λ p. record { viewer = p.viewer; told = p.entries.told; refused = p.refused } };
 
     ghost invariant = { λ p. p.viewer.lane ≡ p.door };
 }
@@ -83,7 +82,7 @@ impl<'a, Y: Yard, S: Drop, R: Wait + Clock, W: Watch + Drop> LanePort<'a, Y, S, 
         watch: W,
     ) -> LanePort<'a, Y, S, R, W>
         requires { viewer.lane ≡ door }
-        ensures { (result.refused ≡ false) × (result.lane ≡ door) }
+        ensures { (result.refused ≡ false) × (result.viewer ≡ viewer) }
     {
         LanePort {
             rt,
@@ -99,7 +98,7 @@ impl<'a, Y: Yard, S: Drop, R: Wait + Clock, W: Watch + Drop> LanePort<'a, Y, S, 
 
     /// The viewer comes back, and the door with it.
     pub fn into_parts(self) -> (Viewer<Y>, Door<S>)
-        ensures { (result.0.lane ≡ self.lane) × (result.1 ≡ self.lane) }
+        ensures { (result.0 ≡ self.entry.viewer) × (result.1 ≡ self.entry.viewer.lane) }
     {
         (self.viewer, self.door)
     }
@@ -196,21 +195,25 @@ fn interrupt<S: Drop, R: Wait + Clock>(rt: &R, alloc: Global, door: &Door<S>, co
 
 impl<'a, Y: Yard, S: Drop, R: Wait + Clock, W: Watch + Drop> LanePort<'a, Y, S, R, W> {
     /// Starts the step's command, with room for its entry.
-    fn begin(&mut self, step: &StepPlan) -> Option<u64> {
+    fn begin(&mut self, step: &StepPlan) -> Option<u64>
+        ensures { Begins self.old result self.new }
+    {
         if self.entries.reserve().is_err() {
             return None;
         }
         let command = start(self.rt, self.alloc, &self.door, &step.argv)?;
         match self.entries.begin(command) {
             Ok(()) => {}
-            Err(_) => return None,
+            Err(_) => unreachable!(),
         }
         self.watch.started(step, command);
         Some(command)
     }
 
     /// How the command does, by what the viewer sees.
-    fn look(&mut self, k: u64) -> Polled {
+    fn look(&mut self, k: u64) -> Polled
+        ensures { Looks self.old k result self.new }
+    {
         let is_cancelled = self.cancelled.load(Ordering::SeqCst);
         polled(self.viewer.state(k, STDIO), is_cancelled)
     }
