@@ -1,5 +1,5 @@
 -- What a clerk's desk is, and what each of its calls does to the lane, by what the lane's link and the lane themselves do.
-use Rattle.std.specs.Prelude.{◌≡◌, ◌×◌, ℕ, ◌==◌, Bool, true, false, not, if◌then◌else◌, List, length, Option, Some, None, Result, Ok, Err}
+use Rattle.std.specs.Prelude.{◌≡◌, ℕ, ◌==◌, Bool, true, false, not, if◌then◌else◌, List, length, Option, Some, None, Result, Ok, Err}
 use Rattle.bm_session.specs.declared.refusal.Refusal.TheVariants.{Mem, Full}
 use Rattle.bm_session.specs.Trace.{is_up, is_cut, commands, orders}
 use Rattle.bm_session.specs.declared.event.Event.{Event}
@@ -99,12 +99,16 @@ module _ {S : Type 0} where
   abbrev pub Leaves : Seat S → Term → LinkState S → Seat S → Type 0
   Leaves old term link new = (new.link ≡ kept new.lane (Some link)) × (new.tenure ≡ counting new.lane term)
 
-  -- a link takes the lane up, or is declined; where another one has the lane, that goes on unharmed
+  -- a link takes up a lane that has none, and stays its link while the lane is up
+  abbrev pub TakesUp : (S → Option (List ℕ)) → LinkState S → Heard → Carried → Term → Result Attached LinkFault × Option (LinkState S) → Heard → Carried → Term → Type 0
+  TakesUp contents link lane carry term r lane2 carry2 term2 =
+      (link2 : LinkState S) × TakesUpFor contents link.login link lane carry r.0 link2 lane2 carry2 × (r.1 ≡ kept lane2 (Some link2))
+      × (term2 ≡ counting lane2 (if is_changed lane lane2 then begun term else term))
+
+  -- a link comes to the lane; where another one has it, that goes on unharmed
   abbrev pub Attaches : (S → Option (List ℕ)) → LinkState S → Option (LinkState S) → Seat S → Result Attached LinkFault → Seat S → Type 0
   Attaches contents link (Some first) old r new = (new ≡ old) × ((f : LinkFault) × (r ≡ Err f))
-  Attaches contents link None old r new =
-      (link2 : LinkState S) × TakesUpFor contents link.login link old.lane old.carry r link2 new.lane new.carry
-      × Leaves old (if is_changed old.lane new.lane then begun old.tenure else old.tenure) link2 new
+  Attaches contents link None old r new = TakesUp contents link old.lane old.carry old.tenure (r, new.link) new.lane new.carry new.tenure
 
   -- a turn of the link
   abbrev pub Turns : (S → Option (List ℕ)) → (S → Option (List ℕ)) → Option (LinkState S) → Seat S → Result Turn LinkFault → Seat S → Type 0
@@ -143,8 +147,12 @@ module _ {S : Type 0} where
       × (new.link ≡ (if done then kept new.lane old.link else old.link)) × (new.tenure ≡ (if done then counting new.lane old.tenure else old.tenure))
 
   -- the session is given up where its worker is awaited no more
+  abbrev pub ExpiresWhere : Bool → Seat S → Seat S → Type 0
+  ExpiresWhere true old new = (done : Bool) × GivesUp old done new
+  ExpiresWhere false old new = new ≡ old
+
   abbrev pub Expires : Seat S → Seat S → Type 0
-  Expires old new = if is_over old.tenure then ((done : Bool) × GivesUp old done new) else (new ≡ old)
+  Expires old new = ExpiresWhere (is_over old.tenure) old new
 
   -- that, after one tick more
   abbrev pub Ticks : Seat S → Seat S → Type 0

@@ -1,10 +1,11 @@
 //! A lane's reader's end with the link by which it is up.
 
-ghost use Rattle.std.specs.Prelude.{◌≡◌, [], true};
+ghost use Rattle.std.specs.Prelude.{◌≡◌, [], nat_lt, true, None};
 ghost use Rattle.bm_session.specs.Trace.{is_up};
+ghost use Rattle.bm_link.specs.Carries.{new_carried};
 ghost use Rattle.bm_rules.specs.Tenure.{kept as kept_term, dismissed};
 ghost use Rattle.bm_clerk.specs.Desks.{counting, kept, rest_of, told_interrupt, told_start, told_unlinked};
-ghost use Rattle.bm_clerk.specs.Desks.{Attaches, Expires, GivesUp, Interrupts, ShutsDown, Starts, Ticks, Turns, with_term};
+ghost use Rattle.bm_clerk.specs.Desks.{Attaches, Expires, GivesUp, Interrupts, ShutsDown, Starts, TakesUp, Ticks, Turns, with_term};
 ghost use Rattle.bm_clerk.specs.Notices.{standing_of};
 
 use crate::door::Told;
@@ -116,6 +117,34 @@ fn settle<Y: Yard, S: Drop>(
     }
 }
 
+fn put<S: Drop>(place: &mut Option<MasterLink<S>>, link: Option<MasterLink<S>>)
+    ensures { place.new ≡ link }
+{
+    *place = link;
+}
+
+/// A link that has logged in takes a lane up that has none, and stays its link while the lane is up.
+fn take_up<Y: Yard, S: Read + Write + Drop, R: Wait>(
+    rt: &R,
+    alloc: Global,
+    reader: &mut ReaderEnd<Y>,
+    carry: &mut Carry,
+    tenure: &mut Tenure,
+    link: MasterLink<S>,
+) -> (Result<Attached, LinkFault>, Option<MasterLink<S>>)
+    ensures { TakesUp S.contents link reader.old carry.old tenure.old result reader.new carry.new tenure.new }
+{
+    let mut link = link;
+    let events = reader.trace().len();
+    let answer = link.attach(rt, alloc, reader, carry);
+    if events != reader.trace().len() {
+        tenure.begin();
+    }
+    let mut link = Some(link);
+    settle(reader, &mut link, tenure);
+    (answer, link)
+}
+
 /// A link that has logged in comes to a lane that is up: it is told so, and answers its fault.
 #[tactic(auto, using(crate::proofs::Declining::declined))]
 fn decline<Y: Yard, S: Read + Write + Drop, R: Wait>(
@@ -144,6 +173,8 @@ impl<Y: Yard, S> Desk<Y, S> {
     pub fn new(alloc: Global, reader: ReaderEnd<Y>, resume_ticks: u32) -> Desk<Y, S>
         requires { reader.trace ≡ [] }
         ensures lane { result.lane ≡ reader }
+        ensures carry { result.carry ≡ new_carried (nat_lt 0 resume_ticks) }
+        ensures link { result.link ≡ None }
         ensures tenure { result.tenure ≡ kept_term resume_ticks }
     {
         Desk {
@@ -198,6 +229,7 @@ impl<Y: Yard, S: Read + Write + Drop> Desk<Y, S> {
     ///
     /// Those of the link's `attach`. The link is let go, unless the lane then stays up by it until its
     /// end can be taken.
+    #[tactic(auto, using(crate::proofs::Serving::attached))]
     pub fn attach<R: Wait>(
         &mut self,
         rt: &R,
@@ -209,14 +241,15 @@ impl<Y: Yard, S: Read + Write + Drop> Desk<Y, S> {
         if self.link.is_some() {
             return Err(decline(rt, alloc, &mut self.reader, &mut self.carry, link));
         }
-        let mut link = link;
-        let events = self.reader.trace().len();
-        let answer = link.attach(rt, alloc, &mut self.reader, &mut self.carry);
-        if self.reader.trace().len() != events {
-            self.tenure.begin();
-        }
-        self.link = Some(link);
-        settle(&self.reader, &mut self.link, &mut self.tenure);
+        let (answer, link) = take_up(
+            rt,
+            alloc,
+            &mut self.reader,
+            &mut self.carry,
+            &mut self.tenure,
+            link,
+        );
+        put(&mut self.link, link);
         answer
     }
 
@@ -253,7 +286,7 @@ impl<Y: Yard, S: Read + Write + Drop> Desk<Y, S> {
         let command = self.reader.next_command();
         let answer = link.start(rt, alloc, &mut self.reader, &mut self.carry, argv);
         settle(&self.reader, &mut self.link, &mut self.tenure);
-        told_start(answer, self.reader.next_command() != command)
+        told_start(answer, command != self.reader.next_command())
     }
 
     /// Interrupts a command, as `start` starts one.
@@ -266,7 +299,7 @@ impl<Y: Yard, S: Read + Write + Drop> Desk<Y, S> {
         let order = self.reader.next_order();
         let answer = link.interrupt(rt, alloc, &mut self.reader, &mut self.carry, command);
         settle(&self.reader, &mut self.link, &mut self.tenure);
-        told_interrupt(answer, self.reader.next_order() != order)
+        told_interrupt(answer, order != self.reader.next_order())
     }
 
     /// Asks the worker to shut down, where the lane has a link. From now on a cut lane is given up

@@ -1,6 +1,6 @@
 -- A lane that is up takes no second link.
-use Rattle.std.proofs.Common.{◌≡◌, refl, sym, ◌∙◌, ap, subst, ℕ, Bool, true, false, ◌||◌, List, [], ◌∷◌, ◌++◌, Option, Some, None, Result, Ok, Err, inl, inr, absurd}
-use Rattle.std.specs.Prelude.{◌⊎◌, is_none}
+use Rattle.std.proofs.Common.{◌≡◌, refl, sym, ◌∙◌, ap, subst, ℕ, Bool, true, false, ◌||◌, List, [], ◌∷◌, ◌++◌, Option, Some, None, Result, Ok, Err, inl, inr}
+use Rattle.std.specs.Prelude.{◌⊎◌, is_none, if◌then◌else◌}
 use Rattle.bm_session.proofs.Snoc.{snoc_induction}
 use Rattle.bm_session.proofs.Pushed.{is_up-push, is_cut-push}
 use Rattle.bm_session.proofs.Taken.{and-left, and-right, was_taken-push}
@@ -84,10 +84,10 @@ module _ {S : Type 0} where
       → is_up lane.trace ≡ true → was_taken lane2.trace ≡ true → TakesUpFor contents login link lane carry r link2 lane2 carry2
       → IsUnharmed lane carry r lane2 carry2
   unharmed contents None link lane carry r link2 lane2 carry2 u w (e, n, (l, c)) = (l, c, (Closed, e))
-  unharmed contents (Some login) link lane carry (Ok a) link2 lane2 carry2 u w (((told, (d, kept)), up), none) =
+  unharmed contents (Some login) link lane carry (Ok a) link2 lane2 carry2 u w (((told, d, kept, sent), up), none) =
       absurd (not-taken-up (resumes lane.trace carry login.session) lane u (subst (λ (l : Heard). was_taken l.trace ≡ true) d w))
   unharmed contents (Some login) link lane carry (Err f) link2 lane2 carry2 u w (h, none) = go h
     where
       go : AttachesAs contents (resumes lane.trace carry login.session) login link.socket lane carry (Err (link2.stage, f)) link2.socket lane2 carry2 → IsUnharmed lane carry (Err f) lane2 carry2
       go (inl (failed, d, c)) = (declined-same (resumes lane.trace carry login.session) lane lane2 u d, c, (f, refl))
-      go (inr ((e, (ends, at)), c)) = absurd (not-ended _ (resumes lane.trace carry login.session) lane lane2 e u w ends)
+      go (inr ((e, ends, at), c)) = absurd (not-ended _ (resumes lane.trace carry login.session) lane lane2 e u w ends)
