@@ -1,5 +1,5 @@
 -- What a clerk's desk is, and what each of its calls does to the lane, by what the lane's link and the lane themselves do.
-use Rattle.std.specs.Prelude.{◌≡◌, ℕ, ◌==◌, Bool, true, false, not, if◌then◌else◌, List, length, Option, Some, None, Result, Ok, Err}
+use Rattle.std.specs.Prelude.{◌≡◌, ℕ, ◌==◌, Bool, true, false, not, ◌||◌, if◌then◌else◌, List, length, Option, Some, None, Result, Ok, Err}
 use Rattle.bm_session.specs.declared.refusal.Refusal.TheVariants.{Mem, Full}
 use Rattle.bm_session.specs.Trace.{is_up, is_cut, commands, orders}
 use Rattle.bm_session.specs.declared.event.Event.{Event}
@@ -53,9 +53,9 @@ term_in standing.Down t = begun t
 abbrev pub counting : Heard → Term → Term
 counting lane t = term_in (standing_of lane.trace) t
 
--- the lane had events
-abbrev pub is_changed : Heard → Heard → Bool
-is_changed old new = not (length old.trace == length new.trace)
+-- a login came to a lane that had n events: the count begins anew where the lane had more of them
+abbrev pub renewed : ℕ → Heard → Term → Term
+renewed n lane t = if is_up lane.trace || not (n == length lane.trace) then begun t else t
 
 -- what a build is told of a start: the command's number; to try it later where the lane is busy, or the link failed and the
 -- lane took no order; or that it is refused, for a full lane with that reason
@@ -100,15 +100,15 @@ module _ {S : Type 0} where
   Leaves old term link new = (new.link ≡ kept new.lane (Some link)) × (new.tenure ≡ counting new.lane term)
 
   -- a link takes up a lane that has none, and stays its link while the lane is up
-  abbrev pub TakesUp : (S → Option (List ℕ)) → LinkState S → Heard → Carried → Term → Result Attached LinkFault × Option (LinkState S) → Heard → Carried → Term → Type 0
-  TakesUp contents link lane carry term r lane2 carry2 term2 =
-      (link2 : LinkState S) × TakesUpFor contents link.login link lane carry r.0 link2 lane2 carry2 × (r.1 ≡ kept lane2 (Some link2))
-      × (term2 ≡ counting lane2 (if is_changed lane lane2 then begun term else term))
+  abbrev pub TakesUp : (S → Option (List ℕ)) → LinkState S → Heard → Carried → Term → Result Attached LinkFault → Option (LinkState S) → Heard → Carried → Term → Type 0
+  TakesUp contents link lane carry term r second lane2 carry2 term2 =
+      (link2 : LinkState S) × TakesUpFor contents link.login link lane carry r link2 lane2 carry2 × (second ≡ kept lane2 (Some link2))
+      × (term2 ≡ counting lane2 (renewed (length lane.trace) lane2 term))
 
   -- a link comes to the lane; where another one has it, that goes on unharmed
   abbrev pub Attaches : (S → Option (List ℕ)) → LinkState S → Option (LinkState S) → Seat S → Result Attached LinkFault → Seat S → Type 0
   Attaches contents link (Some first) old r new = (new ≡ old) × ((f : LinkFault) × (r ≡ Err f))
-  Attaches contents link None old r new = TakesUp contents link old.lane old.carry old.tenure (r, new.link) new.lane new.carry new.tenure
+  Attaches contents link None old r new = TakesUp contents link old.lane old.carry old.tenure r new.link new.lane new.carry new.tenure
 
   -- a turn of the link
   abbrev pub Turns : (S → Option (List ℕ)) → (S → Option (List ℕ)) → Option (LinkState S) → Seat S → Result Turn LinkFault → Seat S → Type 0

@@ -1,4 +1,5 @@
 pub mod Desks
+pub mod Gates
 pub mod Guests
 pub mod Notices
 pub mod Greeting

@@ -4,7 +4,7 @@ ghost use Rattle.std.specs.Prelude.{◌≡◌, [], nat_lt, true, None};
 ghost use Rattle.bm_session.specs.Trace.{is_up};
 ghost use Rattle.bm_link.specs.Carries.{new_carried};
 ghost use Rattle.bm_rules.specs.Tenure.{kept as kept_term, dismissed};
-ghost use Rattle.bm_clerk.specs.Desks.{counting, kept, rest_of, told_interrupt, told_start, told_unlinked};
+ghost use Rattle.bm_clerk.specs.Desks.{counting, kept, renewed, rest_of, told_interrupt, told_start, told_unlinked};
 ghost use Rattle.bm_clerk.specs.Desks.{Attaches, Expires, GivesUp, Interrupts, ShutsDown, Starts, TakesUp, Ticks, Turns, with_term};
 ghost use Rattle.bm_clerk.specs.Notices.{standing_of};
 
@@ -123,6 +123,15 @@ fn put<S: Drop>(place: &mut Option<MasterLink<S>>, link: Option<MasterLink<S>>)
     *place = link;
 }
 
+/// After a login at a lane that had so many events: the count begins anew where it had more of them.
+fn renew<Y: Yard>(reader: &ReaderEnd<Y>, events: usize, tenure: &mut Tenure)
+    ensures { tenure.new ≡ renewed events reader.now tenure.old }
+{
+    if reader.is_up() || events != reader.trace().len() {
+        tenure.begin();
+    }
+}
+
 /// A link that has logged in takes a lane up that has none, and stays its link while the lane is up.
 fn take_up<Y: Yard, S: Read + Write + Drop, R: Wait>(
     rt: &R,
@@ -132,14 +141,12 @@ fn take_up<Y: Yard, S: Read + Write + Drop, R: Wait>(
     tenure: &mut Tenure,
     link: MasterLink<S>,
 ) -> (Result<Attached, LinkFault>, Option<MasterLink<S>>)
-    ensures { TakesUp S.contents link reader.old carry.old tenure.old result reader.new carry.new tenure.new }
+    ensures { TakesUp S.contents link reader.old carry.old tenure.old result.0 result.1 reader.new carry.new tenure.new }
 {
     let mut link = link;
     let events = reader.trace().len();
     let answer = link.attach(rt, alloc, reader, carry);
-    if events != reader.trace().len() {
-        tenure.begin();
-    }
+    renew(reader, events, tenure);
     let mut link = Some(link);
     settle(reader, &mut link, tenure);
     (answer, link)
@@ -229,7 +236,6 @@ impl<Y: Yard, S: Read + Write + Drop> Desk<Y, S> {
     ///
     /// Those of the link's `attach`. The link is let go, unless the lane then stays up by it until its
     /// end can be taken.
-    #[tactic(auto, using(crate::proofs::Serving::attached))]
     pub fn attach<R: Wait>(
         &mut self,
         rt: &R,
