@@ -49,9 +49,10 @@ module _ {S : Type 0} where
       (r : Result Attached LinkFault) (lane2 : Heard) (carry2 : Carried) (second place : Option (LinkState S)) (term2 : Term)
       → TakesUp contents link lane carry term r second lane2 carry2 term2 → place ≡ second
       → (is_some place ≡ is_up lane2.trace) × (is_some term2.cut ≡ is_awaited (standing_of lane2.trace))
-  seated contents link lane carry term r lane2 carry2 second place term2 (l2, t, k, c) same =
-      (ap (λ (x : Option (LinkState S)). is_some x) (same ∙ k) ∙ kept-while (is_up lane2.trace) l2,
-      ap (λ (x : Term). is_some x.cut) c ∙ counted (is_up lane2.trace) (is_cut lane2.trace) (not (length lane.trace == length lane2.trace)) term)
+  seated contents link lane carry term r lane2 carry2 second place term2 (l2, t, k, c) same = (
+    ap (λ (x : Option (LinkState S)). is_some x) (same ∙ k) ∙ kept-while (is_up lane2.trace) l2,
+    ap (λ (x : Term). is_some x.cut) c ∙ counted (is_up lane2.trace) (is_cut lane2.trace) (not (length lane.trace == length lane2.trace)) term,
+  )
 
   pub turned : (remaining contents : S → Option (List ℕ)) (old new : Seat S) (l l2 : LinkState S) (r : Result Turn LinkFault)
       → old.link ≡ Some l → Turned remaining contents l.stage l old.lane old.carry r l2 new.lane new.carry

@@ -1,5 +1,6 @@
 -- What a clerk's desk is, and what each of its calls does to the lane, by what the lane's link and the lane themselves do.
-use Rattle.std.specs.Prelude.{◌≡◌, ℕ, ◌==◌, Bool, true, false, not, ◌||◌, if◌then◌else◌, List, length, Option, Some, None, Result, Ok, Err}
+use Rattle.std.specs.Prelude.{◌≡◌, ℕ, ◌==◌, Bool, true, false, not, ◌||◌, if◌then◌else◌, List, length}
+use Rattle.std.specs.Prelude.{Option, Some, None, Result, Ok, Err}
 use Rattle.bm_session.specs.declared.refusal.Refusal.TheVariants.{Mem, Full}
 use Rattle.bm_session.specs.Trace.{is_up, is_cut, commands, orders}
 use Rattle.bm_session.specs.declared.event.Event.{Event}
@@ -100,18 +101,22 @@ module _ {S : Type 0} where
   Leaves old term link new = (new.link ≡ kept new.lane (Some link)) × (new.tenure ≡ counting new.lane term)
 
   -- a link takes up a lane that has none, and stays its link while the lane is up
-  abbrev pub TakesUp : (S → Option (List ℕ)) → LinkState S → Heard → Carried → Term → Result Attached LinkFault → Option (LinkState S) → Heard → Carried → Term → Type 0
+  abbrev pub TakesUp : (S → Option (List ℕ)) → LinkState S → Heard → Carried → Term → Result Attached LinkFault → Option (LinkState S)
+      → Heard → Carried → Term → Type 0
   TakesUp contents link lane carry term r second lane2 carry2 term2 =
-      (link2 : LinkState S) × TakesUpFor contents link.login link lane carry r link2 lane2 carry2 × (second ≡ kept lane2 (Some link2))
+      (link2 : LinkState S) × TakesUpFor contents link.login link lane carry r link2 lane2 carry2
+      × (second ≡ kept lane2 (Some link2))
       × (term2 ≡ counting lane2 (renewed (length lane.trace) lane2 term))
 
   -- a link comes to the lane; where another one has it, that goes on unharmed
-  abbrev pub Attaches : (S → Option (List ℕ)) → LinkState S → Option (LinkState S) → Seat S → Result Attached LinkFault → Seat S → Type 0
+  abbrev pub Attaches : (S → Option (List ℕ)) → LinkState S → Option (LinkState S) → Seat S
+      → Result Attached LinkFault → Seat S → Type 0
   Attaches contents link (Some first) old r new = (new ≡ old) × ((f : LinkFault) × (r ≡ Err f))
   Attaches contents link None old r new = TakesUp contents link old.lane old.carry old.tenure r new.link new.lane new.carry new.tenure
 
   -- a turn of the link
-  abbrev pub Turns : (S → Option (List ℕ)) → (S → Option (List ℕ)) → Option (LinkState S) → Seat S → Result Turn LinkFault → Seat S → Type 0
+  abbrev pub Turns : (S → Option (List ℕ)) → (S → Option (List ℕ)) → Option (LinkState S) → Seat S
+      → Result Turn LinkFault → Seat S → Type 0
   Turns remaining contents None old r new = (r ≡ Ok Quiet) × (new ≡ old)
   Turns remaining contents (Some link) old r new =
       (link2 : LinkState S) × Turned remaining contents link.stage link old.lane old.carry r link2 new.lane new.carry
@@ -144,7 +149,8 @@ module _ {S : Type 0} where
   abbrev pub GivesUp : Seat S → Bool → Seat S → Type 0
   GivesUp old done new =
       (r : Result Reply (Event × HearRefusal)) × Hears old.lane Down r new.lane × (done ≡ not (is_busy r)) × (new.carry ≡ old.carry)
-      × (new.link ≡ (if done then kept new.lane old.link else old.link)) × (new.tenure ≡ (if done then counting new.lane old.tenure else old.tenure))
+      × (new.link ≡ (if done then kept new.lane old.link else old.link))
+      × (new.tenure ≡ (if done then counting new.lane old.tenure else old.tenure))
 
   -- the session is given up where its worker is awaited no more
   abbrev pub ExpiresWhere : Bool → Seat S → Seat S → Type 0

@@ -56,11 +56,7 @@ impl Latch {
 
 impl<S, R: Clock> Caller<S, R> {
     /// A caller whose time begins, and what lets it in.
-    pub(crate) fn new(
-        rt: R,
-        alloc: Global,
-        stream: S,
-    ) -> Result<(Caller<S, R>, Latch), AllocError>
+    pub(crate) fn new(rt: R, alloc: Global, stream: S) -> Result<(Caller<S, R>, Latch), AllocError>
     where
         S: Drop,
         R: Drop,

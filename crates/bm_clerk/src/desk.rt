@@ -42,7 +42,8 @@ impl<Y: Yard, S> Model for Desk<Y, S> {
 
     ghost view = { λ d. record { lane = d.reader; carry = d.carry; link = d.link; tenure = d.tenure } };
 
-    ghost invariant = { λ d. (is_some d.link ≡ is_up d.reader.trace) × (is_some d.tenure.cut ≡ is_awaited (standing_of d.reader.trace)) };
+    ghost invariant = { λ d. (is_some d.link ≡ is_up d.reader.trace)
+        × (is_some d.tenure.cut ≡ is_awaited (standing_of d.reader.trace)) };
 }
 
 /// What a clerk waits for.

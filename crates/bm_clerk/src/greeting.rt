@@ -79,7 +79,10 @@ where
 {
     let mut stream = stream;
     let read = Duration::from_millis(READ_TIME);
-    if stream.bound(read, Duration::from_millis(WRITE_TIME)).is_err() {
+    if stream
+        .bound(read, Duration::from_millis(WRITE_TIME))
+        .is_err()
+    {
         return Err(LinkFault::Stream);
     }
     let Ok((caller, latch)) = Caller::new(*rt, alloc, stream) else {

@@ -67,7 +67,8 @@ pub(crate) fn loss_of(fault: LinkFault) -> LossCause
         LinkFault::Stream => LossCause::Stream,
         LinkFault::BadMessage | LinkFault::BadLogin => LossCause::BadMessage,
         LinkFault::Full | LinkFault::Lane(HearRefusal::Session(Refusal::Full)) => LossCause::Full,
-        LinkFault::Mem | LinkFault::Arena | LinkFault::Lane(HearRefusal::Session(Refusal::Mem)) => LossCause::Memory,
+        LinkFault::Mem | LinkFault::Arena | LinkFault::Lane(HearRefusal::Session(Refusal::Mem)) =>
+            LossCause::Memory,
         LinkFault::Closed | LinkFault::Lane(_) => LossCause::Closed,
     }
 }

@@ -65,7 +65,12 @@ fn polled(state: Result<LogState, ViewRefusal>, is_cancelled: bool) -> Polled
     ensures { result ≡ polled is_cancelled state }
 {
     match state {
-        Ok(LogState { ended: Some(outcome), .. }) => Polled::Ended(outcome),
+        Ok(
+            LogState {
+                ended: Some(outcome),
+                ..
+            },
+        ) => Polled::Ended(outcome),
         _ if is_cancelled => Polled::Cancel,
         _ => Polled::Running,
     }

@@ -104,7 +104,10 @@ struct Visit<R> {
     second: Talker,
 }
 
-fn visit_with<R: Drop>(alloc: Global, door: Door<Caller<Talker, R>>) -> Result<Visit<R>, AllocError> {
+fn visit_with<R: Drop>(
+    alloc: Global,
+    door: Door<Caller<Talker, R>>,
+) -> Result<Visit<R>, AllocError> {
     let mut doors = Vec::new(alloc);
     doors.push(door)?;
     Ok(Visit {
