@@ -17,4 +17,4 @@ Limit c = (c.max_message_size ≡ Some most_bytes) × (c.max_frame_size ≡ Some
 
 -- a link on which no login was read
 abbrev pub IsAccepted : {S : Type 0} → LinkState S → Type 0
-IsAccepted l = (l.stage ≡ stage.Open) × (l.login ≡ None) × (l.kept ≡ None) × Limit l.socket.conn.config
+IsAccepted l = (l.stage ≡ stage.Open) × (l.login ≡ None) × (l.kept ≡ None) × (l.refused ≡ None) × Limit l.socket.conn.config

@@ -1,5 +1,5 @@
 -- What a master asks of a worker besides its orders.
-use Rattle.std.specs.Prelude.{◌≡◌, ◌≤◌, ◌^◌, ℕ, List, Option, Result, Ok, Err}
+use Rattle.std.specs.Prelude.{◌≡◌, ◌≤◌, ◌<◌, ◌^◌, ◌⊎◌, ℕ, List, Option, Result, Ok, Err}
 use Rattle.tungstenite.specs.Connection.{write_step}
 use Rattle.tungstenite.specs.Content.{binary}
 use Rattle.tungstenite.specs.Socket.{Socket, Writes}
@@ -11,6 +11,7 @@ use Rattle.bm_link.specs.declared.asks.Ask.TheVariants as ask
 use Rattle.bm_link.specs.declared.fault.LinkFault.{LinkFault}
 use Rattle.bm_link.specs.declared.fault.LinkFault.TheVariants.{Full}
 use Rattle.bm_link.specs.Carries.{Carried, has_asked}
+use Rattle.bm_link.specs.Causes.{IsUnsent}
 
 abbrev pub asks_for : Ask → Asked
 asks_for (ask.Print message) = print message
@@ -27,4 +28,6 @@ module _ {S : Type 0} where
   abbrev pub SendsAsk : (S → Option (List ℕ)) → Carried → Ask → Socket S → Result (Unit {0}) LinkFault → Socket S → Carried → Type 0
   SendsAsk contents carry a old (Ok _) new carry2 =
       (carry2 ≡ has_asked carry) × Writes contents old new (write_step old.conn (binary (ask_bytes carry.next_ask a)))
-  SendsAsk contents carry a old (Err f) new carry2 = (carry2 ≡ has_asked carry) × (2 ^ 63 ≤ carry.next_ask → f ≡ Full)
+  SendsAsk contents carry a old (Err f) new carry2 =
+      (carry2 ≡ has_asked carry) × (2 ^ 63 ≤ carry.next_ask → f ≡ Full)
+      × (((f ≡ Full) × (2 ^ 63 ≤ carry.next_ask)) ⊎ ((carry.next_ask < 2 ^ 63) × IsUnsent old.conn (ask_bytes carry.next_ask a) f))

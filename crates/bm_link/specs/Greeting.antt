@@ -11,7 +11,10 @@ use Rattle.bm_msg.specs.Meaning.{Meaning, request, response, auth}
 use Rattle.bm_msg.specs.Messages.{IsMessage}
 use Rattle.bm_msg.specs.Trees.{tree_of}
 use Rattle.bm_link.specs.declared.attaching.Attached.{Attached}
+use Rattle.bm_link.specs.Accepting.{Limit}
 use Rattle.bm_link.specs.Attaching.{IsAttached}
+use Rattle.bm_link.specs.Causes.{FailsAtFirst, IsUnsent}
+use Rattle.bm_link.specs.Faults.{IsHandshakeFault}
 use Rattle.bm_link.specs.declared.fault.LinkFault.{LinkFault}
 use Rattle.bm_link.specs.declared.fault.LinkFault.TheVariants.{BadLogin, BadMessage, Mem}
 
@@ -28,9 +31,13 @@ abbrev pub IsRefused : Meaning → Type 0
 IsRefused (response n result exception) = (n ≡ 0) × (exception ≡ true)
 IsRefused _ = ⊥
 
+-- the message answers the login neither so nor so
+abbrev pub IsOther : Meaning → Type 0
+IsOther m = ((a : Attached) → ¬ IsAnswerOf m a) × ¬ IsRefused m
+
 -- why a message is no answer: it is an exception to the login, or it is no response to it
 abbrev pub IsNoAnswer : Meaning → LinkFault → Type 0
-IsNoAnswer m f = (f ≡ BadMessage) ⊎ ((f ≡ BadLogin) × IsRefused m)
+IsNoAnswer m f = ((f ≡ BadMessage) × IsOther m) ⊎ ((f ≡ BadLogin) × IsRefused m)
 
 -- the bytes spell such a message
 abbrev pub AreAnswer : List ℕ → Attached → Type 0
@@ -40,9 +47,13 @@ AreAnswer bytes a = (t : Tree) × (m : Meaning) × Spells bytes t × (depth t �
 abbrev pub AreRefusal : List ℕ → Type 0
 AreRefusal bytes = (t : Tree) × (m : Meaning) × Spells bytes t × (depth t ≤ 32) × IsMessage t m × IsRefused m
 
+-- the bytes neither take the login nor refuse it
+abbrev pub AreOther : List ℕ → Type 0
+AreOther bytes = ((a : Attached) → ¬ AreAnswer bytes a) × ¬ AreRefusal bytes
+
 -- why bytes are no answer to the login: memory is wanting, they refuse it, or they say something else
 abbrev pub AreNoAnswer : List ℕ → LinkFault → Type 0
-AreNoAnswer bytes f = (f ≡ Mem) ⊎ (f ≡ BadMessage) ⊎ ((f ≡ BadLogin) × AreRefusal bytes)
+AreNoAnswer bytes f = (f ≡ Mem) ⊎ (((f ≡ BadMessage) × AreOther bytes) ⊎ ((f ≡ BadLogin) × AreRefusal bytes))
 
 module _ {S : Type 0} where
   -- a binary message was read, and its bytes are that answer
@@ -54,3 +65,16 @@ module _ {S : Type 0} where
   abbrev pub Greets : (S → Option (List ℕ)) → (S → Option (List ℕ)) → List ℕ → List ℕ → Option (List ℕ) → Socket S → Socket S → Attached → Type 0
   Greets remaining contents name password session old new a =
       (mid : Socket S) × Writes contents old mid (write_step old.conn (binary (auth_bytes name password session))) × ReadsAnswer remaining mid new a
+
+  -- why there is no answer: the login was not sent, or the message after it is none
+  abbrev pub FailsToGreet : (S → Option (List ℕ)) → (S → Option (List ℕ)) → List ℕ → List ℕ → Option (List ℕ) → Socket S → LinkFault → Type 0
+  FailsToGreet remaining contents name password session old f =
+      IsUnsent old.conn (auth_bytes name password session) f
+      ⊎ ((mid : Socket S) × Writes contents old mid (write_step old.conn (binary (auth_bytes name password session)))
+      × FailsAtFirst AreNoAnswer remaining mid f)
+
+  -- why a worker gets no link: memory is wanting, the handshake fails, or the login
+  abbrev pub FailsToConnect : (S → Option (List ℕ)) → (S → Option (List ℕ)) → List ℕ → List ℕ → Option (List ℕ) → LinkFault → Type 0
+  FailsToConnect remaining contents name password session f =
+      (f ≡ Mem) ⊎ (IsHandshakeFault f
+      ⊎ ((start : Socket S) × Limit start.conn.config × FailsToGreet remaining contents name password session start f))

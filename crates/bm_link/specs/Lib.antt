@@ -15,5 +15,6 @@ pub mod Logins
 pub mod Orders
 pub mod Parts
 pub mod Steps
+pub mod Telling
 pub mod Users
 pub mod Working

@@ -4,7 +4,9 @@ ghost use Rattle.std.specs.Prelude.{◌≡◌, IfOk, IfErr};
 ghost use Rattle.std.specs.Option.{option_copied};
 ghost use Rattle.bm_value.specs.View.{tree};
 ghost use Rattle.bm_msg.specs.Meaning.{meaning};
-ghost use Rattle.bm_link.specs.Greeting.{auth_bytes, IsAnswerOf, IsNoAnswer, AreAnswer, AreNoAnswer, ReadsAnswer, Greets};
+ghost use Rattle.bm_link.specs.declared.attaching.Attached.{Attached as How};
+ghost use Rattle.bm_link.specs.Causes.{FailsAtFirst};
+ghost use Rattle.bm_link.specs.Greeting.{auth_bytes, IsAnswerOf, IsNoAnswer, AreAnswer, AreNoAnswer, FailsToGreet, ReadsAnswer, Greets};
 ghost use Rattle.bm_link.specs.Attaching.{IsAttached};
 
 use crate::attaching::Attached;
@@ -51,6 +53,7 @@ fn auth_bytes(
 fn attached_in(value: &Value<Global>) -> Result<Attached, LinkFault>
     ensures attached { IfOk result (IsAttached (tree value.now)) }
     ensures fault { IfErr result (λ f. f ≡ LinkFault.BadMessage) }
+    ensures bad { IfErr result (λ f. (a : How) → ¬ IsAttached (tree value.now) a) }
 {
     match value {
         Value::Bool(true) => Ok(Attached::Plain),
@@ -118,7 +121,8 @@ fn read_answer<S: Read + Write + Drop, K: MaskKeys + Drop>(
     alloc: Global,
     socket: &mut WebSocket<S, K>,
 ) -> Result<Attached, LinkFault>
-    ensures { IfOk result (ReadsAnswer S.remaining socket.old socket.new) }
+    ensures answer { IfOk result (ReadsAnswer S.remaining socket.old socket.new) }
+    ensures fault { IfErr result (FailsAtFirst AreNoAnswer S.remaining socket.old) }
 {
     match socket.read() {
         Ok(Frame::Binary(bytes)) => match answer_of_bytes(alloc, bytes.as_slice()) {
@@ -139,7 +143,8 @@ pub(crate) fn greet<S: Read + Write + Drop, K: MaskKeys + Drop>(
     password: &str,
     session: Option<&str>,
 ) -> Result<Attached, LinkFault>
-    ensures { IfOk result (Greets S.remaining S.contents name.now password.now (option_copied session.entry) socket.old socket.new) }
+    ensures answer { IfOk result (Greets S.remaining S.contents name.now password.now (option_copied session.entry) socket.old socket.new) }
+    ensures fault { IfErr result (FailsToGreet S.remaining S.contents name.now password.now (option_copied session.entry) socket.old) }
 {
     let Ok(bytes) = auth_bytes(alloc, name, password, session) else {
         return Err(LinkFault::Mem);

@@ -23,6 +23,7 @@ mod login;
 mod master;
 mod orders;
 mod parts;
+mod telling;
 #[cfg(test)]
 mod tests;
 mod user;
