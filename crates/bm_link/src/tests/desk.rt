@@ -2,6 +2,7 @@
 ghost use Rattle.std.specs.Prelude.{◌≡◌, ◌<◌, ◌≤◌};
 
 use super::both::worker_stream;
+use super::lengths::Long;
 use super::{AUTH, HEAD, Script, joined, script_of};
 use crate::*;
 use bm_lane::{Blank, Drained, Ends, Yard, open};
@@ -20,6 +21,8 @@ use std::test::Fail;
 pub(crate) enum Call {
     /// Another link is accepted, over a stream that gives these messages after the head.
     Accept(&'static [&'static [u8]]),
+    /// The same, over a stream that gives the head in pieces of so many bytes.
+    AcceptInPieces(usize, &'static [&'static [u8]]),
     /// Another link is accepted, over a stream that gives what a worker wrote.
     AcceptWorker,
     Login,
@@ -67,14 +70,18 @@ pub(crate) enum Row {
     /// A call of the link, and its answer.
     Calls(Call, Answer),
     /// What the frames are that a new link reads once its lane is up, and what its turn answers.
-    /// The lane stays up where they are dropped, and is then taken down.
+    /// The lane stays up where that is no fault, and is then taken down.
     Reads(&'static str, &'static [u8], Answer),
+    /// The same of a message of this kind with this many bytes.
+    ReadsLong(Long, Answer),
     /// The link is set aside, and the one that was is called again.
     Changes,
     /// There is one user but `other`, with this name and this password.
     Knows(&'static str, &'static str),
     /// An item of the lane's queue is taken.
     Drains,
+    /// The link has this name of a login that was refused.
+    Names(Option<&'static str>),
     /// These are the last bytes that the link wrote.
     Wrote(&'static [&'static [u8]]),
     /// The lane had so many events.
@@ -164,11 +171,13 @@ impl<Y: Yard, W: Wait + Drop> Desk<Y, W> {
         }
     }
 
-    /// A link over a stream that gives these messages takes the place of the one before.
-    fn accept_from(&mut self, messages: &[&[u8]]) -> Answer {
+    /// A link over a stream that gives the head in pieces of so many bytes, and then these
+    /// messages, takes the place of the one before.
+    fn accept_from(&mut self, messages: &[&[u8]], piece: usize) -> Answer {
         let Ok(mut stream) = script_of(self.alloc, HEAD, messages) else {
             return Answer::Nothing;
         };
+        stream.piece = piece;
         if let Some(calls) = self.calls {
             stream.fails_after(calls);
         }
@@ -253,7 +262,8 @@ impl<Y: Yard, W: Wait + Drop> Desk<Y, W> {
     /// The answer to a call.
     pub fn call<R: Wait>(&mut self, rt: &R, call: Call) -> Answer {
         match call {
-            Call::Accept(messages) => self.accept_from(messages),
+            Call::Accept(messages) => self.accept_from(messages, usize::MAX),
+            Call::AcceptInPieces(piece, messages) => self.accept_from(messages, piece),
             Call::AcceptWorker => self.accept_worker(),
             Call::Login => self.login(),
             Call::Attach => self.attach(rt),
@@ -265,13 +275,27 @@ impl<Y: Yard, W: Wait + Drop> Desk<Y, W> {
     }
 
     fn gives_so<R: Wait>(&mut self, rt: &R, frames: &[u8], gives: Answer) -> bool {
-        let is_attached = self.accept_from(&[AUTH, frames]) == Answer::Done
+        let is_attached = self.accept_from(&[AUTH, frames], usize::MAX) == Answer::Done
             && self.login() == Answer::Place(1)
             && self.attach(rt) == PLAIN;
         let is_told = self.turn(rt) == gives;
-        let is_up = gives == DROPPED;
+        let is_up = matches!(gives, Answer::Turned(_));
         let reader = &mut self.ends.reader;
         is_attached && is_told && reader.is_up() == is_up && (!is_up || reader.down(rt).is_ok())
+    }
+
+    fn gives_long<R: Wait>(&mut self, rt: &R, long: Long, gives: Answer) -> bool {
+        match long.frames(self.alloc) {
+            Ok(frames) => self.gives_so(rt, frames.as_slice(), gives),
+            Err(_) => false,
+        }
+    }
+
+    fn has_refused(&self, name: Option<&str>) -> bool {
+        match &self.link {
+            Some(link) => link.refused() == name,
+            None => false,
+        }
     }
 
     fn wrote(&self, pieces: &[&[u8]]) -> bool {
@@ -314,7 +338,9 @@ impl<Y: Yard, W: Wait + Drop> Desk<Y, W> {
                 true
             }
             Row::Reads(_, frames, gives) => self.gives_so(rt, frames, gives),
+            Row::ReadsLong(long, gives) => self.gives_long(rt, long, gives),
             Row::Knows(name, password) => self.knows(name, password),
+            Row::Names(name) => self.has_refused(name),
             Row::Drains => self.drains(),
             Row::Wrote(pieces) => self.wrote(pieces),
             Row::Had(events) => self.ends.reader.trace().len() == events,

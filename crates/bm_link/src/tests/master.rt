@@ -45,20 +45,26 @@ const REFUSED: Answer = Answer::Fault(LinkFault::BadLogin);
 
 #[test]
 fn logins_are_refused(rt: HostRuntime) -> Result<(), Fail> {
-    static ROWS: [Row; 28] = [
+    static ROWS: [Row; 35] = [
         Row::Knows("w1", "p"),
         Row::Calls(Call::Accept(&[AUTH]), Answer::Done),
+        Row::Names(None),
         Row::Calls(Call::Login, REFUSED),
+        Row::Names(Some("w0")),
         Row::Calls(Call::Login, CLOSED),
         Row::Wrote(&[BAD_LOGIN]),
         Row::Knows("w0", "q"),
         Row::Calls(Call::Accept(&[AUTH]), Answer::Done),
+        Row::Names(None),
         Row::Calls(Call::Login, REFUSED),
+        Row::Names(Some("w0")),
         Row::Calls(Call::Login, CLOSED),
         Row::Wrote(&[BAD_LOGIN]),
         Row::Knows("w0", "pp"),
         Row::Calls(Call::Accept(&[AUTH]), Answer::Done),
+        Row::Names(None),
         Row::Calls(Call::Login, REFUSED),
+        Row::Names(Some("w0")),
         Row::Calls(Call::Login, CLOSED),
         Row::Wrote(&[BAD_LOGIN]),
         Row::Knows("w0", "p"),
@@ -68,12 +74,26 @@ fn logins_are_refused(rt: HostRuntime) -> Result<(), Fail> {
         Row::Wrote(&[ACCEPTED]),
         Row::Calls(Call::Accept(&[TEXT]), Answer::Done),
         Row::Calls(Call::Login, BAD),
+        Row::Names(None),
         Row::Calls(Call::Login, CLOSED),
         Row::Wrote(&[ACCEPTED]),
         Row::Calls(Call::Accept(&[]), Answer::Done),
         Row::Calls(Call::Login, CLOSED),
         Row::Calls(Call::Login, CLOSED),
         Row::Wrote(&[ACCEPTED]),
+    ];
+    assert!(rt; plays(&rt, rt.alloc(), 1, false, &ROWS));
+    Ok(())
+}
+
+/// A handshake that comes in pieces is heard; one that trickles in is taken for an attack.
+#[test]
+fn a_handshake_comes_in_pieces(rt: HostRuntime) -> Result<(), Fail> {
+    static ROWS: [Row; 4] = [
+        Row::Calls(Call::AcceptInPieces(16, &[AUTH]), Answer::Done),
+        Row::Calls(Call::Login, Answer::Place(1)),
+        Row::Calls(Call::Attach, PLAIN),
+        Row::Calls(Call::AcceptInPieces(1, &[AUTH]), BAD),
     ];
     assert!(rt; plays(&rt, rt.alloc(), 1, false, &ROWS));
     Ok(())
