@@ -1,11 +1,11 @@
 -- What the first message of a connection says, the worker's login, and what comes of it.
-use Rattle.std.specs.Prelude.{◌≡◌, ◌≤◌, ◌⊎◌, ℕ, List, codes, Option, Some, None, Result, Ok, Err}
+use Rattle.std.specs.Prelude.{◌≡◌, ◌≤◌, ◌⊎◌, ℕ, Bool, true, false, List, codes, Option, Some, None, Result, Ok, Err}
 use Rattle.tungstenite.specs.Content.{binary}
 use Rattle.tungstenite.specs.Socket.{Socket, Reads, content_of}
 use Rattle.tungstenite.specs.declared.message.Message.{Message}
 use Rattle.bm_value.specs.Spelling.{Spells}
 use Rattle.bm_value.specs.Tree.{Tree, depth}
-use Rattle.bm_msg.specs.Meaning.{request, auth}
+use Rattle.bm_msg.specs.Meaning.{Meaning, request, auth}
 use Rattle.bm_msg.specs.Messages.{IsMessage}
 use Rattle.bm_link.specs.declared.credentials.Credentials.{Credentials}
 use Rattle.bm_link.specs.declared.credentials.Named.{Named}
@@ -21,7 +21,16 @@ use Rattle.bm_link.specs.Link.{LinkState}
 use Rattle.bm_link.specs.Telling.{Tells}
 use Rattle.bm_link.specs.Users.{place_of}
 
--- the tree is an `auth` with this number, name, password and session
+-- the message is an `auth`
+abbrev pub is_login : Meaning → Bool
+is_login (request n (auth username password session)) = true
+is_login _ = false
+
+-- the message is an `auth` with this number, name, password and session
+abbrev pub IsLogin : Meaning → Credentials → Type 0
+IsLogin m l = m ≡ request l.named.seq (auth l.username l.password l.named.session)
+
+-- the tree is such a message
 abbrev pub IsLoginOf : Tree → Credentials → Type 0
 IsLoginOf t l = IsMessage t (request l.named.seq (auth l.username l.password l.named.session))
 

@@ -112,7 +112,9 @@ fn answer_of_bytes(alloc: Global, bytes: &[u8]) -> Result<Attached, LinkFault>
             Err(fault) => Err(fault),
         },
         Err(MsgError::Mem) => Err(LinkFault::Mem),
-        Err(_) => Err(LinkFault::BadMessage),
+        Err(MsgError::NotMap | MsgError::NoSeq | MsgError::NoOp | MsgError::BadArgs(_)) => {
+            Err(LinkFault::BadMessage)
+        }
     }
 }
 

@@ -1,10 +1,11 @@
 //! The first message of a connection: the worker's login.
 
-ghost use Rattle.std.specs.Prelude.{◌≡◌, ◌⊎◌, IfOk, IfErr};
+ghost use Rattle.std.specs.Prelude.{◌≡◌, ◌⊎◌, IfOk, IfErr, IfSome, is_some};
 ghost use Rattle.bm_value.specs.View.{tree};
 ghost use Rattle.bm_link.specs.declared.credentials.Credentials.{Credentials as Login};
 ghost use Rattle.bm_link.specs.Causes.{FailsAtFirst};
-ghost use Rattle.bm_link.specs.Logins.{IsLoginOf, AreLogin, GivesNoLogin, ReadsLogin, AdmitsOrFails};
+ghost use Rattle.bm_msg.specs.Meaning.{meaning};
+ghost use Rattle.bm_link.specs.Logins.{is_login, IsLogin, IsLoginOf, AreLogin, GivesNoLogin, ReadsLogin, AdmitsOrFails};
 
 use crate::credentials::{Credentials, Named};
 use crate::fault::{LinkFault, fault_of};
@@ -27,6 +28,30 @@ pub(crate) enum Unadmitted {
     Unread(LinkFault),
 }
 
+/// The login that a message is.
+fn credentials_of(message: Message) -> Option<Credentials>
+    ensures login { IfSome result (IsLogin (meaning message)) }
+    ensures other { is_some result ≡ is_login (meaning message) }
+{
+    match message {
+        Message::Request(
+            Numbered {
+                seq,
+                request: Request::Auth {
+                    username,
+                    password,
+                    session,
+                },
+            },
+        ) => Some(Credentials {
+            username,
+            password,
+            named: Named { seq, session },
+        }),
+        _ => None,
+    }
+}
+
 /// The login that a tree is. What stays is copied, so the tree may be dropped afterwards.
 fn login_in(alloc: Global, message: &Value<&Bump>) -> Result<Credentials, LinkFault>
     ensures login { IfOk result (IsLoginOf (tree message.now)) }
@@ -34,23 +59,10 @@ fn login_in(alloc: Global, message: &Value<&Bump>) -> Result<Credentials, LinkFa
     ensures fault { IfErr result (λ f. (f ≡ LinkFault.BadMessage) ⊎ (f ≡ LinkFault.Mem)) }
 {
     match read(alloc, message) {
-        Ok(
-            Message::Request(
-                Numbered {
-                    seq,
-                    request: Request::Auth {
-                        username,
-                        password,
-                        session,
-                    },
-                },
-            ),
-        ) => Ok(Credentials {
-            username,
-            password,
-            named: Named { seq, session },
-        }),
-        Ok(_) => Err(LinkFault::BadMessage),
+        Ok(message) => match credentials_of(message) {
+            Some(login) => Ok(login),
+            None => Err(LinkFault::BadMessage),
+        },
         Err(MsgError::Mem) => Err(LinkFault::Mem),
         Err(MsgError::NotMap | MsgError::NoSeq | MsgError::NoOp | MsgError::BadArgs(_)) => {
             Err(LinkFault::BadMessage)
