@@ -6,14 +6,12 @@ use Rattle.bm_value.specs.Tree.{Tree, depth}
 use Rattle.bm_value.specs.Decoding.{DecodesWhole}
 use Rattle.bm_value.specs.View.{tree}
 use Rattle.bm_value.specs.declared.value.Value.{Value}
-use Rattle.bm_msg.specs.Answers.{Reads}
-use Rattle.bm_msg.specs.Meaning.{Meaning, meaning, request, auth}
+use Rattle.bm_msg.specs.Meaning.{Meaning, request, auth}
 use Rattle.bm_msg.specs.Messages.{IsMessage}
-use Rattle.bm_msg.specs.declared.message.Message.{Message}
 use Rattle.bm_link.specs.declared.credentials.Credentials.{Credentials}
 use Rattle.bm_link.specs.declared.fault.LinkFault.{LinkFault}
 use Rattle.bm_link.specs.declared.fault.LinkFault.TheVariants.{BadMessage, Mem}
-use Rattle.bm_link.specs.Greeting.{IsAnswerOf, IsRefused, IsOther, AreOther}
+use Rattle.bm_link.specs.Greeting.{IsAnswerOf, IsRefused, IsOther, AreOther, AreNoAnswer}
 use Rattle.bm_link.specs.Logins.{IsLoginOf, is_login, GivesNoLogin, AreLogin}
 
 ok-over : {T E : Type 0} (P Q : T → Type 0) → ((x : T) → P x → Q x) → (r : Result T E) → IfOk r P → IfOk r Q
@@ -26,9 +24,6 @@ err-over P Q f (Err e) h = f e h
 
 same-tree : {A : Type 0} (v : Value A) (t : Tree) → DecodesWhole (Ok v) (Ok t) → t ≡ tree v
 same-tree v t h = cc
-
-same-message : (m : Message) (n : Meaning) → Reads (Ok m) (Ok n) → n ≡ meaning m
-same-message m n h = cc
 
 -- bytes by the tree that they spell, of which this holds
 module _ {X : Type 0} (P : Tree → X → Type 0) where
@@ -47,12 +42,14 @@ module _ {X : Type 0} (P : Tree → X → Type 0) where
       (λ f g b x i. g b x (subst (λ (t : Tree). P t x) (same-tree v i.0 (only i.0 i.1 i.2)) i.3)) r h
 
 -- a message that is no login, and so a tree that is none
-pub no_login_of_message : (t : Tree) (m : Message) → ((n : Meaning) → IsMessage t n → Reads (Ok m) (Ok n)) → is_login (meaning m) ≡ false
-    → (l : Credentials) → ¬ IsLoginOf t l
-no_login_of_message t m only no l is =
-    let same = same-message m (request l.named.seq (auth l.username l.password l.named.session)) (only (request l.named.seq (auth l.username l.password l.named.session)) is) in
-    let yes : true ≡ is_login (meaning m) = ap is_login same in
+pub no_login_of_message : (t : Tree) (m : Meaning) → ((n : Meaning) → IsMessage t n → n ≡ m) → is_login m ≡ false → (l : Credentials) → ¬ IsLoginOf t l
+no_login_of_message t m only other l is =
+    let yes : true ≡ is_login m = ap is_login (only (request l.named.seq (auth l.username l.password l.named.session)) is) in
     cc
+
+-- a tree that is no message is no login
+pub no_login_of_tree : (t : Tree) → ((n : Meaning) → ¬ IsMessage t n) → (l : Credentials) → ¬ IsLoginOf t l
+no_login_of_tree t none l is = none (request l.named.seq (auth l.username l.password l.named.session)) is
 
 pub gives_no_login : (bytes : List ℕ) (r : Result Credentials LinkFault) → IfErr r (λ f. f ≡ BadMessage → (l : Credentials) → ¬ AreLogin bytes l)
     → IfErr r (λ f. (f ≡ BadMessage) ⊎ (f ≡ Mem)) → IfErr r (GivesNoLogin bytes)
@@ -63,22 +60,32 @@ gives_no_login bytes (Err f) bad fault = elim fault [
 ]
 
 -- bytes that spell no tree answer nothing
-pub other_of_bytes : (bytes : List ℕ) → ((t : Tree) → Spells bytes t → ¬ (depth t ≤ 32)) → AreOther bytes
-other_of_bytes bytes none = ((λ a x. none x.0 x.2 x.3), (λ x. none x.0 x.2 x.3))
+pub no_answer_of_bytes : (bytes : List ℕ) (f : LinkFault) → (f ≡ BadMessage) ⊎ (f ≡ Mem) → (f ≡ BadMessage → (t : Tree) → Spells bytes t → ¬ (depth t ≤ 32))
+    → AreNoAnswer bytes f
+no_answer_of_bytes bytes f fault none = elim fault [
+  | inl bad ↦ inr (inl (bad, (λ a x. none bad x.0 x.2 x.3), (λ x. none bad x.0 x.2 x.3)))
+  | inr mem ↦ inl mem
+]
 
-module _ {A : Type 0} (bytes : List ℕ) (v : Value A) (only : (t : Tree) → Spells bytes t → depth t ≤ 32 → DecodesWhole (Ok v) (Ok t)) where
-  is-message : (t : Tree) (m : Meaning) → Spells bytes t → depth t ≤ 32 → IsMessage t m → IsMessage (tree v) m
-  is-message t m s d is = subst (λ (x : Tree). IsMessage x m) (same-tree v t (only t s d)) is
+module _ (bytes : List ℕ) (v : Tree) (only : (t : Tree) → Spells bytes t → depth t ≤ 32 → t ≡ v) where
+  is-message : (t : Tree) (m : Meaning) → Spells bytes t → depth t ≤ 32 → IsMessage t m → IsMessage v m
+  is-message t m s d is = subst (λ (x : Tree). IsMessage x m) (only t s d) is
 
   -- nor do those of a tree that is no message
-  pub other_of_tree : ((m : Meaning) → ¬ IsMessage (tree v) m) → AreOther bytes
-  other_of_tree none =
-      ((λ a x. none x.1 (is-message x.0 x.1 x.2 x.3 x.4)), (λ x. none x.1 (is-message x.0 x.1 x.2 x.3 x.4)))
+  pub no_answer_of_tree : (f : LinkFault) → (f ≡ BadMessage) ⊎ (f ≡ Mem) → (f ≡ BadMessage → (m : Meaning) → ¬ IsMessage v m) → AreNoAnswer bytes f
+  no_answer_of_tree f fault none = elim fault [
+    | inl bad ↦ inr (inl (
+      bad,
+      (λ a x. none bad x.1 (is-message x.0 x.1 x.2 x.3 x.4)),
+      (λ x. none bad x.1 (is-message x.0 x.1 x.2 x.3 x.4)),
+    ))
+    | inr mem ↦ inl mem
+  ]
 
-  -- nor those of a message that answers nothing
-  pub other_of_message : (m : Message) → ((n : Meaning) → IsMessage (tree v) n → Reads (Ok m) (Ok n)) → IsOther (meaning m) → AreOther bytes
-  other_of_message m reads other =
+  -- nor those of a message that answers neither so nor so
+  pub other_of_message : (m : Meaning) → ((n : Meaning) → IsMessage v n → n ≡ m) → IsOther m → AreOther bytes
+  other_of_message m same other =
       (
-        (λ a x. other.0 a (subst (λ (n : Meaning). IsAnswerOf n a) (same-message m x.1 (reads x.1 (is-message x.0 x.1 x.2 x.3 x.4))) x.5)),
-        (λ x. other.1 (subst (λ (n : Meaning). IsRefused n) (same-message m x.1 (reads x.1 (is-message x.0 x.1 x.2 x.3 x.4))) x.5)),
+        (λ a x. other.0 a (subst (λ (n : Meaning). IsAnswerOf n a) (same x.1 (is-message x.0 x.1 x.2 x.3 x.4)) x.5)),
+        (λ x. other.1 (subst (λ (n : Meaning). IsRefused n) (same x.1 (is-message x.0 x.1 x.2 x.3 x.4)) x.5)),
       )

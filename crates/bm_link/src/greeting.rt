@@ -12,9 +12,10 @@ ghost use Rattle.bm_link.specs.Attaching.{IsAttached};
 use crate::attaching::Attached;
 use crate::fault::{LinkFault, fault_of};
 use crate::parts::send;
+use crate::reading::{message_in, tree_in};
 use bm_lines::Text;
-use bm_msg::{Message, MsgError, Numbered, Request, Response, read, write_request};
-use bm_value::{DecodeError, Value, decode_whole};
+use bm_msg::{Message, Numbered, Request, Response, write_request};
+use bm_value::Value;
 use std::alloc::{AllocError, Global};
 use std::io::{Read, Write};
 use tungstenite::{MaskKeys, Message as Frame, WebSocket};
@@ -101,20 +102,16 @@ fn answer_of_bytes(alloc: Global, bytes: &[u8]) -> Result<Attached, LinkFault>
     ensures answer { IfOk result (AreAnswer bytes.now) }
     ensures fault { IfErr result (AreNoAnswer bytes.now) }
 {
-    let tree = match decode_whole(alloc, bytes) {
+    let tree = match tree_in(alloc, bytes) {
         Ok(tree) => tree,
-        Err(DecodeError::Mem) => return Err(LinkFault::Mem),
-        Err(_) => return Err(LinkFault::BadMessage),
+        Err(fault) => return Err(fault),
     };
-    match read(alloc, &tree) {
+    match message_in(alloc, &tree) {
         Ok(message) => match answered(&message) {
             Ok(attached) => Ok(attached),
             Err(fault) => Err(fault),
         },
-        Err(MsgError::Mem) => Err(LinkFault::Mem),
-        Err(MsgError::NotMap | MsgError::NoSeq | MsgError::NoOp | MsgError::BadArgs(_)) => {
-            Err(LinkFault::BadMessage)
-        }
+        Err(fault) => Err(fault),
     }
 }
 

@@ -9,10 +9,11 @@ ghost use Rattle.bm_link.specs.Logins.{is_login, IsLogin, IsLoginOf, AreLogin, G
 
 use crate::credentials::{Credentials, Named};
 use crate::fault::{LinkFault, fault_of};
+use crate::reading::message_in;
 use crate::telling::send_refusal;
 use crate::user::{User, place_of};
 use bm_lines::Text;
-use bm_msg::{Message, MsgError, Numbered, Request, read};
+use bm_msg::{Message, Numbered, Request};
 use bm_value::{DecodeError, Value, decode_whole};
 use bumpalo::Bump;
 use std::alloc::Global;
@@ -58,15 +59,12 @@ fn login_in(alloc: Global, message: &Value<&Bump>) -> Result<Credentials, LinkFa
     ensures bad { IfErr result (λ f. f ≡ LinkFault.BadMessage → (l : Login) → ¬ IsLoginOf (tree message.now) l) }
     ensures fault { IfErr result (λ f. (f ≡ LinkFault.BadMessage) ⊎ (f ≡ LinkFault.Mem)) }
 {
-    match read(alloc, message) {
+    match message_in(alloc, message) {
         Ok(message) => match credentials_of(message) {
             Some(login) => Ok(login),
             None => Err(LinkFault::BadMessage),
         },
-        Err(MsgError::Mem) => Err(LinkFault::Mem),
-        Err(MsgError::NotMap | MsgError::NoSeq | MsgError::NoOp | MsgError::BadArgs(_)) => {
-            Err(LinkFault::BadMessage)
-        }
+        Err(fault) => Err(fault),
     }
 }
 
