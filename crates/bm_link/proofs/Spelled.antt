@@ -63,7 +63,7 @@ gives_no_login bytes (Err f) bad fault = elim fault [
 pub no_answer_of_bytes : (bytes : List ℕ) (f : LinkFault) → (f ≡ BadMessage) ⊎ (f ≡ Mem) → (f ≡ BadMessage → (t : Tree) → Spells bytes t → ¬ (depth t ≤ 32))
     → AreNoAnswer bytes f
 no_answer_of_bytes bytes f fault none = elim fault [
-  | inl bad ↦ inr (inl (bad, (λ a x. none bad x.0 x.2 x.3), (λ x. none bad x.0 x.2 x.3)))
+  | inl bad ↦ inr (inl (bad, ((λ a x. none bad x.0 x.2 x.3), (λ x. none bad x.0 x.2 x.3))))
   | inr mem ↦ inl mem
 ]
 
@@ -76,8 +76,7 @@ module _ (bytes : List ℕ) (v : Tree) (only : (t : Tree) → Spells bytes t →
   no_answer_of_tree f fault none = elim fault [
     | inl bad ↦ inr (inl (
       bad,
-      (λ a x. none bad x.1 (is-message x.0 x.1 x.2 x.3 x.4)),
-      (λ x. none bad x.1 (is-message x.0 x.1 x.2 x.3 x.4)),
+      ((λ a x. none bad x.1 (is-message x.0 x.1 x.2 x.3 x.4)), (λ x. none bad x.1 (is-message x.0 x.1 x.2 x.3 x.4))),
     ))
     | inr mem ↦ inl mem
   ]

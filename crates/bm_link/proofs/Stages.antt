@@ -93,6 +93,12 @@ module _ {S : Type 0} where
   takes_up contents login old lane carry a new lane2 carry2 waits h s l =
       subst (λ (x : Option Named). TakesUpFor contents x old lane carry (Ok a) new lane2 carry2) (sym waits) ((h, s), l)
 
+  pub declines_up : (contents : S → Option (List ℕ)) (login : Named) (old : LinkState S) (lane : Heard) (carry : Carried) (f : LinkFault) (new : LinkState S) (lane2 : Heard) (carry2 : Carried)
+      → old.login ≡ Some login → Attaches contents login old.socket lane carry (Err (new.stage, f)) new.socket lane2 carry2 → new.login ≡ None
+      → TakesUpFor contents old.login old lane carry (Err f) new lane2 carry2
+  declines_up contents login old lane carry f new lane2 carry2 waits h l =
+      subst (λ (x : Option Named). TakesUpFor contents x old lane carry (Err f) new lane2 carry2) (sym waits) (h, l)
+
   pub start_fails : (contents : S → Option (List ℕ)) (argv : List (List ℕ)) (old : LinkState S) (lane : Heard) (carry : Carried) (f : LinkFault) (new : LinkState S) (lane2 : Heard) (carry2 : Carried)
       → old.stage ≡ stage.Up → carry2 ≡ with_start lane.trace argv carry → UnsentAndUncut (start_bytes (orders lane.trace) (commands lane.trace) argv) f old (with_event lane Go) new lane2 carry2
       → Starts contents argv old.stage old lane carry (Err f) new lane2 carry2

@@ -126,19 +126,16 @@ pub(crate) fn admit<S: Read + Write + Drop>(
 ) -> Result<(usize, Named), Unadmitted>
     ensures { AdmitsOrFails S.remaining S.contents users.now socket.old result socket.new }
 {
-    let Credentials {
-        username,
-        password,
-        named,
-    } = match read_login(alloc, arena, socket) {
+    let credentials = match read_login(alloc, arena, socket) {
         Ok(credentials) => credentials,
         Err(fault) => return Err(Unadmitted::Unread(fault)),
     };
-    match place_of(users, username.as_str(), password.as_str()) {
-        Some(place) => Ok((place, named)),
+    let username = credentials.username.as_str();
+    match place_of(users, username, credentials.password.as_str()) {
+        Some(place) => Ok((place, credentials.named)),
         None => {
-            send_refusal(alloc, socket, named.seq, "bad login");
-            Err(Unadmitted::Rejected(username))
+            send_refusal(alloc, socket, credentials.named.seq, "bad login");
+            Err(Unadmitted::Rejected(credentials.username))
         }
     }
 }

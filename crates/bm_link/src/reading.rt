@@ -6,6 +6,7 @@ ghost use Rattle.bm_value.specs.Tree.{Tree, depth};
 ghost use Rattle.bm_value.specs.View.{tree};
 ghost use Rattle.bm_msg.specs.Meaning.{Meaning, meaning};
 ghost use Rattle.bm_msg.specs.Messages.{IsMessage};
+ghost use Rattle.bm_link.specs.Faults.{unread_fault};
 
 use crate::fault::LinkFault;
 use bm_msg::{Message, MsgError, read};
@@ -26,6 +27,16 @@ pub(crate) fn tree_in(alloc: Global, bytes: &[u8]) -> Result<Value<Global>, Link
     }
 }
 
+/// The fault of a value that is no message, or for which memory is wanting.
+pub(crate) fn unread_fault(error: &MsgError) -> LinkFault
+    ensures { result ≡ unread_fault error.now }
+{
+    match error {
+        MsgError::Mem => LinkFault::Mem,
+        _ => LinkFault::BadMessage,
+    }
+}
+
 /// The message that a tree is. What stays is copied, so the tree may be dropped afterwards.
 pub(crate) fn message_in<A: Allocator>(
     alloc: Global,
@@ -38,9 +49,6 @@ pub(crate) fn message_in<A: Allocator>(
 {
     match read(alloc, value) {
         Ok(message) => Ok(message),
-        Err(MsgError::Mem) => Err(LinkFault::Mem),
-        Err(MsgError::NotMap | MsgError::NoSeq | MsgError::NoOp | MsgError::BadArgs(_)) => {
-            Err(LinkFault::BadMessage)
-        }
+        Err(error) => Err(unread_fault(&error)),
     }
 }

@@ -9,8 +9,8 @@ pub returns-in-Err-clause-fault : goal.returns-in-Err-clause-fault
 returns-in-Err-clause-fault c = no_answer_of_bytes c.args.bytes.now c.in-Err.fault c.in-Err.ensures.fault c.in-Err.ensures.bad
 
 -- they spell no message
-pub returns-in-Err-message_in-clause-fault : goal.returns-in-Err-message_in-clause-fault
-returns-in-Err-message_in-clause-fault c =
+pub returns-clause-fault : goal.returns-clause-fault
+returns-clause-fault c =
     no_answer_of_tree c.args.bytes.now (tree c.in-Ok.tree) c.in-Ok.ensures.only c.in-Err-message_in.fault c.in-Err-message_in.ensures.fault c.in-Err-message_in.ensures.bad
 
 -- they spell a message that is no answer

@@ -1,4 +1,4 @@
-use Rattle.std.proofs.Common.{◌∙◌, sym, ap}
+use Rattle.std.proofs.Common.{◌∙◌, refl, sym, ap}
 use Rattle.tungstenite.specs.Socket.{content_of}
 use Rattle.bm_session.specs.declared.event.Event.TheVariants.{Cut, Go}
 use Rattle.bm_session.specs.Trace.{orders, commands}
