@@ -3,6 +3,7 @@ ghost use Rattle.std.specs.Prelude.{◌≡◌};
 
 use crate::messages::push_update;
 use bm_lane::{Blank, Drained, Ends, ReaderEnd, WriterEnd, Yard};
+use bm_msg::NUMBER_LIMIT;
 use bm_session::{Event, Reply};
 use bm_value::decode_whole;
 use bumpalo::Bump;
@@ -31,7 +32,9 @@ fn is_heard<Y: Yard, R: Wait>(
         return false;
     }
     match reader.hear(rt, event) {
-        Ok(Reply::Answer(seq, verdict)) => verdict.answer(alloc, seq).is_ok(),
+        Ok(Reply::Answer(seq, verdict)) => {
+            seq < NUMBER_LIMIT && verdict.answer(alloc, seq).is_ok()
+        }
         _ => false,
     }
 }

@@ -2,7 +2,7 @@ use Rattle.std.proofs.Common.{◌≡◌, ◌∙◌, ◌⊎◌, sym, subst}
 use Rattle.bm_value.specs.View.{tree}
 use Rattle.bm_link.specs.declared.fault.LinkFault.{LinkFault}
 use Rattle.bm_link.specs.declared.fault.LinkFault.TheVariants.{BadMessage, Mem}
-use Rattle.bm_link.proofs.Reading.{unread_kinds, unsaid}
+use Rattle.bm_link.proofs.Unread.{unread_kinds, unsaid}
 use Rattle.bm_link.proofs.asked.incoming_in.Goals as goal
 
 -- it says nothing
