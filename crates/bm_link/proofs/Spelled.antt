@@ -83,8 +83,7 @@ module _ (bytes : List ℕ) (v : Tree) (only : (t : Tree) → Spells bytes t →
 
   -- nor those of a message that answers neither so nor so
   pub other_of_message : (m : Meaning) → ((n : Meaning) → IsMessage v n → n ≡ m) → IsOther m → AreOther bytes
-  other_of_message m same other =
-      (
-        (λ a x. other.0 a (subst (λ (n : Meaning). IsAnswerOf n a) (same x.1 (is-message x.0 x.1 x.2 x.3 x.4)) x.5)),
-        (λ x. other.1 (subst (λ (n : Meaning). IsRefused n) (same x.1 (is-message x.0 x.1 x.2 x.3 x.4)) x.5)),
-      )
+  other_of_message m same other = (
+    (λ a x. other.0 a (subst (λ (n : Meaning). IsAnswerOf n a) (same x.1 (is-message x.0 x.1 x.2 x.3 x.4)) x.5)),
+    (λ x. other.1 (subst (λ (n : Meaning). IsRefused n) (same x.1 (is-message x.0 x.1 x.2 x.3 x.4)) x.5)),
+  )

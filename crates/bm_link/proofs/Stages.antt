@@ -66,8 +66,8 @@ pub start_unsent : (conn : Connection) (w : Content) (argv : List (List ℕ)) (n
     → n ≡ n2 → k ≡ k2 → ((x : Error) × WriteFails (write_step conn w) x × (f ≡ fault_of x)) → IsUnsent conn (start_bytes n2 k2 argv) f
 start_unsent conn w argv n k n2 k2 f is order command u =
     inr (
-      subst (λ (w : Content). (x : Error) × WriteFails (write_step conn w) x × (f ≡ fault_of x))
-      (is ∙ (ap (λ (x : ℕ). binary (start_bytes x k argv)) order ∙ ap (λ (x : ℕ). binary (start_bytes n2 x argv)) command)) u
+    subst (λ (w : Content). (x : Error) × WriteFails (write_step conn w) x × (f ≡ fault_of x))
+    (is ∙ (ap (λ (x : ℕ). binary (start_bytes x k argv)) order ∙ ap (λ (x : ℕ). binary (start_bytes n2 x argv)) command)) u
     )
 
 module _ {S : Type 0} where

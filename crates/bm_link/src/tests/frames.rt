@@ -29,7 +29,11 @@ const PONG: &[u8] = b"\x8a\x01a";
 static FRAMES: [Row; 54] = [
     Row::Reads("a text", b"\x81\x81\0\0\0\0a", DROPPED),
     Row::Reads("an empty text", b"\x81\x80\0\0\0\0", DROPPED),
-    Row::Reads("a text under a key", b"\x81\x81\x01\x02\x03\x04\x60", DROPPED),
+    Row::Reads(
+        "a text under a key",
+        b"\x81\x81\x01\x02\x03\x04\x60",
+        DROPPED,
+    ),
     Row::Reads(
         "a length that has a shorter form",
         b"\x81\xfe\0\x01\0\0\0\0a",
@@ -79,11 +83,7 @@ static FRAMES: [Row; 54] = [
     Row::Reads("a reserved opcode", b"\x83\x80\0\0\0\0", BAD),
     Row::Reads("the last reserved opcode", b"\x87\x80\0\0\0\0", BAD),
     Row::Reads("a reserved control opcode", b"\x8b\x80\0\0\0\0", BAD),
-    Row::Reads(
-        "the last reserved control opcode",
-        b"\x8f\x80\0\0\0\0",
-        BAD,
-    ),
+    Row::Reads("the last reserved control opcode", b"\x8f\x80\0\0\0\0", BAD),
     Row::Reads("a ping in pieces", b"\x09\x80\0\0\0\0", BAD),
     Row::Reads("a close in pieces", b"\x08\x80\0\0\0\0", BAD),
     Row::Reads("a ping of 126 bytes", LONG_PING, BAD),
@@ -96,11 +96,7 @@ static FRAMES: [Row; 54] = [
     ),
     Row::Reads("a frame without a mask", b"\x82\0", BAD),
     Row::Reads("a text that is no UTF-8", b"\x81\x81\0\0\0\0\xff", BAD),
-    Row::Reads(
-        "a text that ends in a letter",
-        b"\x81\x81\0\0\0\0\xc3",
-        BAD,
-    ),
+    Row::Reads("a text that ends in a letter", b"\x81\x81\0\0\0\0\xc3", BAD),
     Row::Reads(
         "a letter in more bytes than it takes",
         b"\x81\x82\0\0\0\0\xc0\x80",

@@ -28,6 +28,6 @@ returns-in-Err-send_attached g c = inr (
   subst (λ (a : Attached). FailsToSendAttached g.S.Write.contents c.args.socket.now c.args.login.seq a c.resume_or_begin.new.self.orders c.in-Err-send_attached.fault)
       c.attached_as-attached.ensures (
       subst (λ (os : List Sent). FailsToSendAttached g.S.Write.contents c.args.socket.now c.args.login.seq c.attached_as-attached.result os c.in-Err-send_attached.fault)
-          c.orders.ensures c.in-Err-send_attached.ensures.unsent
-  ),
+      c.orders.ensures c.in-Err-send_attached.ensures.unsent
+      ),
 )
