@@ -34,8 +34,8 @@ Opens k words follows old new = (said : List Said) × IsHeader (words_line words
 
 -- A command begins: the line of its words waits, and nothing of it before that line. Where its process can't be
 -- started, its end follows at once.
-abbrev pub Begins : ℕ → List (List ℕ) → List Item → List Item → Type 0
-Begins k words old new = Opens k words [] old new ⊎ Opens k words (item.End k CannotStart ∷ []) old new
+abbrev pub Starts : ℕ → List (List ℕ) → List Item → List Item → Type 0
+Starts k words old new = Opens k words [] old new ⊎ Opens k words (item.End k CannotStart ∷ []) old new
 
 -- a command has ended with an exit code: the line of that code waits behind all that was told, and its end behind that
 abbrev pub Closes : ℕ → ℤ → List Item → List Item → Type 0
