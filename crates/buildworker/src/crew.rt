@@ -163,7 +163,8 @@ impl Crew {
     fn leave(&mut self, job: Job) -> Result<(), AllocError> {
         let Job { child, stop, .. } = job;
         stop.store(true, Ordering::SeqCst);
-        self.left.push(child)
+        self.left.push(child)?;
+        Ok(())
     }
 
     /// Leaves all processes, whose session was lost: their pipes are closed after their next reads.
