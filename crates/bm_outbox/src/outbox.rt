@@ -80,12 +80,7 @@ impl Outbox {
     /// # Errors
     ///
     /// Want of memory. A part of the line may wait then.
-    pub fn open(
-        &mut self,
-        alloc: Global,
-        command: u64,
-        words: &[Text],
-    ) -> Result<(), AllocError>
+    pub fn open(&mut self, alloc: Global, command: u64, words: &[Text]) -> Result<(), AllocError>
         ensures { OnOk result (Opens command words.now [] self.old self.new) }
     {
         let line = words_line(alloc, words)?;

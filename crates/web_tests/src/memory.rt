@@ -30,7 +30,11 @@ fn seen<Y: Yard>(routes: &Routes, alloc: Global, viewers: &mut [Viewer<Y>], row:
     for call in 0..CALLS {
         let answer = routes.answer(alloc, method, target, viewers);
         if answer.status == *status && answer.body.as_slice() == body.as_bytes() {
-            return if call == 0 { Seen::AtOnce } else { Seen::AtLast };
+            return if call == 0 {
+                Seen::AtOnce
+            } else {
+                Seen::AtLast
+            };
         }
         if answer.status != 503 || !answer.body.is_empty() {
             return Seen::Wrongly;
