@@ -49,21 +49,40 @@ struct Desk<Y: Yard, W: Wait + Drop> {
     argv: Vec<Text>,
 }
 
-fn users_of(alloc: Global) -> Result<Vec<User>, AllocError> {
-    let mut users = Vec::new(alloc);
-    users.push(User {
+fn user_of(alloc: Global) -> Result<User, AllocError> {
+    Ok(User {
         name: Text::from_str(alloc, "w0")?,
         password: Text::from_str(alloc, "p")?,
-    })?;
-    Ok(users)
+    })
 }
 
-fn argv_of(alloc: Global, line: &str) -> Result<Vec<Text>, AllocError> {
-    let mut argv = Vec::new(alloc);
-    for word in ["sh", "-c", line] {
-        argv.push(Text::from_str(alloc, word)?)?;
+impl<Y: Yard, W: Wait + Drop> Desk<Y, W> {
+    /// A lane without a link. No user is known, and there is no command to start.
+    fn new(alloc: Global, ends: Ends<Y, W>) -> Desk<Y, W> {
+        Desk {
+            alloc,
+            ends,
+            carry: Carry::new(alloc, true),
+            users: Vec::new(alloc),
+            argv: Vec::new(alloc),
+        }
     }
-    Ok(argv)
+
+    /// From now on it knows the worker, and starts this line of a shell.
+    fn is_ready(&mut self, line: &str) -> bool {
+        let is_known = match user_of(self.alloc) {
+            Ok(user) => self.users.push(user).is_ok(),
+            Err(_) => false,
+        };
+        is_known && self.orders("sh") && self.orders("-c") && self.orders(line)
+    }
+
+    fn orders(&mut self, word: &str) -> bool {
+        match Text::from_str(self.alloc, word) {
+            Ok(word) => self.argv.push(word).is_ok(),
+            Err(_) => false,
+        }
+    }
 }
 
 impl<Y: Yard, W: Wait + Drop> Desk<Y, W> {
@@ -166,6 +185,34 @@ where
     worker.ok()
 }
 
+/// Whether a desk served a worker whose first connections are cut after so many bytes, and the worker then left.
+fn has_served<Y: Yard, W: Wait + Drop, R>(
+    rt: R,
+    desk: &mut Desk<Y, W>,
+    cuts: [usize; 2],
+) -> Option<bool>
+where
+    R: Wait
+        + Threads
+        + Clock
+        + RandomSource
+        + AllocGlobal
+        + Net<Listener = TcpListener, Stream = TcpStream>
+        + Processes<Started = SystemProcess>
+        + Copy
+        + Drop
+        + Send
+        + Sync
+        + 'static,
+{
+    let listener = TcpListener::bind(&rt, "127.0.0.1:0").ok()?;
+    let address = listener.local_addr().ok()?;
+    let worker = cut_worker(rt, address, cuts)?;
+    let is_served = desk.serve_all(&rt, &listener).is_some();
+    drop(listener);
+    Some(worker.join(&rt) == 0 && is_served)
+}
+
 /// What a lane has of a command of a worker whose first connections are cut after so many bytes.
 fn log_over<Y: Yard, W: Wait + Drop, R>(
     rt: R,
@@ -188,20 +235,9 @@ where
         + 'static,
     requires { (blank.queue ≡ Y.queue 0) × (blank.copy ≡ Y.copy 0) }
 {
-    let alloc = rt.alloc();
-    let mut desk = Desk {
-        alloc,
-        ends: blank.ends::<Y>(alloc, 0).ok()?,
-        carry: Carry::new(alloc, true),
-        users: users_of(alloc).ok()?,
-        argv: argv_of(alloc, line).ok()?,
-    };
-    let listener = TcpListener::bind(&rt, "127.0.0.1:0").ok()?;
-    let worker = cut_worker(rt, listener.local_addr().ok()?, cuts)?;
-    let served = desk.serve_all(&rt, &listener);
-    drop(listener);
-    let status = worker.join(&rt);
-    if served.is_some() && status == 0 {
+    let ends = blank.ends::<Y>(rt.alloc(), 0).ok()?;
+    let mut desk = Desk::new(rt.alloc(), ends);
+    if desk.is_ready(line) && has_served(rt, &mut desk, cuts) == Some(true) {
         desk.log()
     } else {
         None
@@ -233,17 +269,20 @@ fn a_lane_has_the_log(rt: HostRuntime) -> Result<(), Fail> {
     let line = "echo a; echo b >&2; exit 3";
     let log = log_of(rt, line, [UNCUT, UNCUT]).ok_or("no log")?;
     let content = log.content.as_str();
-    assert!(rt; content.starts_with("hsh -c echo a; echo b >&2; exit 3\n")
-        && content.contains("\noa\n")
-        && content.contains("\neb\n")
-        && content.ends_with("\nhprogram finished with exit code 3\n")
-        && content.matches('\n').count() == 4
-        && log.ended == Some(Results::Failure));
+    assert!(rt;
+        content.starts_with("hsh -c echo a; echo b >&2; exit 3\n")
+            && content.contains("\noa\n")
+            && content.contains("\neb\n")
+            && content.ends_with("\nhprogram finished with exit code 3\n")
+            && content.matches('\n').count() == 4
+            && log.ended == Some(Results::Failure)
+    );
     Ok(())
 }
 
 /// What a lane has where each line came once, in order.
-const ONCE: &str = "hsh -c seq 1 9\no1\no2\no3\no4\no5\no6\no7\no8\no9\nhprogram finished with exit code 0\n";
+const ONCE: &str =
+    "hsh -c seq 1 9\no1\no2\no3\no4\no5\no6\no7\no8\no9\nhprogram finished with exit code 0\n";
 
 /// Whether each line comes once where these connections are cut.
 fn is_once<R>(rt: R, cuts: [usize; 2]) -> bool
@@ -269,7 +308,7 @@ where
 
 #[test]
 fn each_line_comes_once_through_cuts(rt: HostRuntime) -> Result<(), Fail> {
-    // The handshake is cut at each of its bytes, and what follows the login at each second one.
+    // The first connection is cut at each of its first 200 bytes, in the handshake; the second one behind its login.
     for place in 0..200usize {
         assert!(rt; is_once(rt, [place, 400 + 2 * place]), "at byte {place}");
     }
