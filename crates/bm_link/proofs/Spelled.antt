@@ -1,18 +1,18 @@
 -- What is said of a tree is said of the bytes that spell it.
-use Rattle.std.proofs.Common.{◌≡◌, ◌≤◌, subst, ℕ, List, Ok, Err, Result}
+use Rattle.std.proofs.Common.{◌≡◌, ◌≤◌, ◌⊎◌, ap, subst, inl, inr, true, false, ℕ, List, Ok, Err, Result}
 use Rattle.std.specs.Result.{IfOk, IfErr}
 use Rattle.bm_value.specs.Spelling.{Spells}
 use Rattle.bm_value.specs.Tree.{Tree, depth}
 use Rattle.bm_value.specs.Decoding.{DecodesWhole}
 use Rattle.bm_value.specs.View.{tree}
 use Rattle.bm_value.specs.declared.value.Value.{Value}
-use Rattle.bm_session.specs.declared.event.Event.{Event}
-use Rattle.bm_session.specs.Heard.{IsEvent}
+use Rattle.bm_msg.specs.Meaning.{Meaning, request, auth}
+use Rattle.bm_msg.specs.Messages.{IsMessage}
 use Rattle.bm_link.specs.declared.credentials.Credentials.{Credentials}
 use Rattle.bm_link.specs.declared.fault.LinkFault.{LinkFault}
-use Rattle.bm_link.specs.declared.fault.LinkFault.TheVariants.{BadMessage}
-use Rattle.bm_link.specs.Incoming.{IsEventOf}
-use Rattle.bm_link.specs.Logins.{IsLoginOf, AreLogin}
+use Rattle.bm_link.specs.declared.fault.LinkFault.TheVariants.{BadMessage, Mem}
+use Rattle.bm_link.specs.Greeting.{IsAnswerOf, IsRefused, IsOther, AreOther, AreNoAnswer}
+use Rattle.bm_link.specs.Logins.{IsLoginOf, is_login, GivesNoLogin, AreLogin}
 
 ok-over : {T E : Type 0} (P Q : T → Type 0) → ((x : T) → P x → Q x) → (r : Result T E) → IfOk r P → IfOk r Q
 ok-over P Q f (Ok x) h = f x h
@@ -25,15 +25,65 @@ err-over P Q f (Err e) h = f e h
 same-tree : {A : Type 0} (v : Value A) (t : Tree) → DecodesWhole (Ok v) (Ok t) → t ≡ tree v
 same-tree v t h = cc
 
-pub login_of_tree : (bytes : List ℕ) (t : Tree) (r : Result Credentials LinkFault) → Spells bytes t → depth t ≤ 32 → IfOk r (IsLoginOf t) → IfOk r (AreLogin bytes)
-login_of_tree bytes t r s d h = ok-over (IsLoginOf t) (AreLogin bytes) (λ l i. (t, s, d, i)) r h
+-- bytes by the tree that they spell, of which this holds
+module _ {X : Type 0} (P : Tree → X → Type 0) where
+  abbrev pub Told : List ℕ → X → Type 0
+  Told bytes x = (t : Tree) × Spells bytes t × (depth t ≤ 32) × P t x
 
-pub event_of_tree : (bytes : List ℕ) (t : Tree) (r : Result Event LinkFault) → Spells bytes t → depth t ≤ 32 → IfOk r (IsEvent t) → IfOk r (IsEventOf bytes)
-event_of_tree bytes t r s d h = ok-over (IsEvent t) (IsEventOf bytes) (λ e i. (t, s, d, i)) r h
+  pub told_of_tree : (bytes : List ℕ) (t : Tree) (r : Result X LinkFault) → Spells bytes t → depth t ≤ 32 → IfOk r (P t) → IfOk r (Told bytes)
+  told_of_tree bytes t r s d h = ok-over (P t) (Told bytes) (λ x i. (t, s, d, i)) r h
 
--- a value that is no event: the bytes that spell it are none
-pub no_event_of_tree : {A : Type 0} (bytes : List ℕ) (v : Value A) (r : Result Event LinkFault) → ((t : Tree) → Spells bytes t → depth t ≤ 32 → DecodesWhole (Ok v) (Ok t))
-    → IfErr r (λ f. f ≡ BadMessage → (e : Event) → ¬ IsEvent (tree v) e) → IfErr r (λ f. f ≡ BadMessage → (e : Event) → ¬ IsEventOf bytes e)
-no_event_of_tree bytes v r only h =
-    err-over (λ f. f ≡ BadMessage → (e : Event) → ¬ IsEvent (tree v) e) (λ f. f ≡ BadMessage → (e : Event) → ¬ IsEventOf bytes e)
-    (λ f g b e i. g b e (subst (λ (t : Tree). IsEvent t e) (same-tree v i.0 (only i.0 i.1 i.2)) i.3)) r h
+  -- it holds of nothing for this tree, and so of nothing for the bytes
+  pub untold_of_tree : {A : Type 0} (bytes : List ℕ) (v : Value A) (r : Result X LinkFault)
+      → ((t : Tree) → Spells bytes t → depth t ≤ 32 → DecodesWhole (Ok v) (Ok t))
+      → IfErr r (λ f. f ≡ BadMessage → (x : X) → ¬ P (tree v) x) → IfErr r (λ f. f ≡ BadMessage → (x : X) → ¬ Told bytes x)
+  untold_of_tree bytes v r only h =
+      err-over (λ f. f ≡ BadMessage → (x : X) → ¬ P (tree v) x) (λ f. f ≡ BadMessage → (x : X) → ¬ Told bytes x)
+      (λ f g b x i. g b x (subst (λ (t : Tree). P t x) (same-tree v i.0 (only i.0 i.1 i.2)) i.3)) r h
+
+-- a message that is no login, and so a tree that is none
+pub no_login_of_message : (t : Tree) (m : Meaning) → ((n : Meaning) → IsMessage t n → n ≡ m) → is_login m ≡ false → (l : Credentials) → ¬ IsLoginOf t l
+no_login_of_message t m only other l is =
+    let yes : true ≡ is_login m = ap is_login (only (request l.named.seq (auth l.username l.password l.named.session)) is) in
+    cc
+
+-- a tree that is no message is no login
+pub no_login_of_tree : (t : Tree) → ((n : Meaning) → ¬ IsMessage t n) → (l : Credentials) → ¬ IsLoginOf t l
+no_login_of_tree t none l is = none (request l.named.seq (auth l.username l.password l.named.session)) is
+
+pub gives_no_login : (bytes : List ℕ) (r : Result Credentials LinkFault) → IfErr r (λ f. f ≡ BadMessage → (l : Credentials) → ¬ AreLogin bytes l)
+    → IfErr r (λ f. (f ≡ BadMessage) ⊎ (f ≡ Mem)) → IfErr r (GivesNoLogin bytes)
+gives_no_login bytes (Ok l) bad fault = tt
+gives_no_login bytes (Err f) bad fault = elim fault [
+  | inl b ↦ inl (b, bad b)
+  | inr mem ↦ inr (inl mem)
+]
+
+-- bytes that spell no tree answer nothing
+pub no_answer_of_bytes : (bytes : List ℕ) (f : LinkFault) → (f ≡ BadMessage) ⊎ (f ≡ Mem) → (f ≡ BadMessage → (t : Tree) → Spells bytes t → ¬ (depth t ≤ 32))
+    → AreNoAnswer bytes f
+no_answer_of_bytes bytes f fault none = elim fault [
+  | inl bad ↦ inr (inl (bad, ((λ a x. none bad x.0 x.2 x.3), (λ x. none bad x.0 x.2 x.3))))
+  | inr mem ↦ inl mem
+]
+
+module _ (bytes : List ℕ) (v : Tree) (only : (t : Tree) → Spells bytes t → depth t ≤ 32 → t ≡ v) where
+  is-message : (t : Tree) (m : Meaning) → Spells bytes t → depth t ≤ 32 → IsMessage t m → IsMessage v m
+  is-message t m s d is = subst (λ (x : Tree). IsMessage x m) (only t s d) is
+
+  -- nor do those of a tree that is no message
+  pub no_answer_of_tree : (f : LinkFault) → (f ≡ BadMessage) ⊎ (f ≡ Mem) → (f ≡ BadMessage → (m : Meaning) → ¬ IsMessage v m) → AreNoAnswer bytes f
+  no_answer_of_tree f fault none = elim fault [
+    | inl bad ↦ inr (inl (
+      bad,
+      ((λ a x. none bad x.1 (is-message x.0 x.1 x.2 x.3 x.4)), (λ x. none bad x.1 (is-message x.0 x.1 x.2 x.3 x.4))),
+    ))
+    | inr mem ↦ inl mem
+  ]
+
+  -- nor those of a message that answers neither so nor so
+  pub other_of_message : (m : Meaning) → ((n : Meaning) → IsMessage v n → n ≡ m) → IsOther m → AreOther bytes
+  other_of_message m same other = (
+    (λ a x. other.0 a (subst (λ (n : Meaning). IsAnswerOf n a) (same x.1 (is-message x.0 x.1 x.2 x.3 x.4)) x.5)),
+    (λ x. other.1 (subst (λ (n : Meaning). IsRefused n) (same x.1 (is-message x.0 x.1 x.2 x.3 x.4)) x.5)),
+  )

@@ -1,8 +1,6 @@
 -- What a master asks of a worker besides its orders.
-use Rattle.std.specs.Prelude.{◌≡◌, ◌≤◌, ◌^◌, ℕ, List, Option, Result, Ok, Err}
-use Rattle.tungstenite.specs.Connection.{write_step}
-use Rattle.tungstenite.specs.Content.{binary}
-use Rattle.tungstenite.specs.Socket.{Socket, Writes}
+use Rattle.std.specs.Prelude.{◌≡◌, ◌≤◌, ◌<◌, ◌^◌, ◌⊎◌, ℕ, List, Option, Result, Ok, Err}
+use Rattle.tungstenite.specs.Socket.{Socket}
 use Rattle.bm_value.specs.Writing.{written}
 use Rattle.bm_msg.specs.Meaning.{Asked, request, print, keepalive, get_worker_info, shutdown}
 use Rattle.bm_msg.specs.Trees.{tree_of}
@@ -11,6 +9,8 @@ use Rattle.bm_link.specs.declared.asks.Ask.TheVariants as ask
 use Rattle.bm_link.specs.declared.fault.LinkFault.{LinkFault}
 use Rattle.bm_link.specs.declared.fault.LinkFault.TheVariants.{Full}
 use Rattle.bm_link.specs.Carries.{Carried, has_asked}
+use Rattle.bm_link.specs.Causes.{IsUnsent}
+use Rattle.bm_link.specs.Sending.{SendsBytes}
 
 abbrev pub asks_for : Ask → Asked
 asks_for (ask.Print message) = print message
@@ -26,5 +26,7 @@ module _ {S : Type 0} where
   -- the request was sent under the next number; or the numbers are used up, or it was not sent: its number is not given again
   abbrev pub SendsAsk : (S → Option (List ℕ)) → Carried → Ask → Socket S → Result (Unit {0}) LinkFault → Socket S → Carried → Type 0
   SendsAsk contents carry a old (Ok _) new carry2 =
-      (carry2 ≡ has_asked carry) × Writes contents old new (write_step old.conn (binary (ask_bytes carry.next_ask a)))
-  SendsAsk contents carry a old (Err f) new carry2 = (carry2 ≡ has_asked carry) × (2 ^ 63 ≤ carry.next_ask → f ≡ Full)
+      (carry.next_ask < 2 ^ 63) × (carry2 ≡ has_asked carry) × SendsBytes contents (ask_bytes carry.next_ask a) old new
+  SendsAsk contents carry a old (Err f) new carry2 =
+      (carry2 ≡ has_asked carry) × (2 ^ 63 ≤ carry.next_ask → f ≡ Full)
+      × (((f ≡ Full) × (2 ^ 63 ≤ carry.next_ask)) ⊎ ((carry.next_ask < 2 ^ 63) × IsUnsent old.conn (ask_bytes carry.next_ask a) f))

@@ -1,5 +1,5 @@
 -- Why a link fails.
-use Rattle.std.specs.Prelude.{◌≡◌, ◌⊎◌, ℕ, List, Option, Ok, Err}
+use Rattle.std.specs.Prelude.{◌≡◌, ◌⊎◌, ℕ, false, List, Option, Ok, Err}
 use Rattle.tungstenite.specs.Connection.{write_step, Connection}
 use Rattle.tungstenite.specs.Content.{binary}
 use Rattle.tungstenite.specs.Failure.{WriteFails}
@@ -10,8 +10,14 @@ use Rattle.tungstenite.specs.declared.message.Message.TheVariants as message
 use Rattle.bm_session.specs.declared.event.Event.{Event}
 use Rattle.bm_link.specs.declared.fault.LinkFault.{LinkFault}
 use Rattle.bm_link.specs.declared.fault.LinkFault.TheVariants.{Closed, BadMessage, Arena, Mem}
-use Rattle.bm_link.specs.Faults.{fault_of}
+use Rattle.bm_link.specs.Faults.{fault_of, is_quiet}
 use Rattle.bm_link.specs.Incoming.{IsEventOf}
+
+-- a message that is passed over: a text, a ping or a pong
+abbrev pub IsPassedOver : Message → Type 0
+IsPassedOver (message.Binary bs) = ⊥
+IsPassedOver (message.Close frame) = ⊥
+IsPassedOver _ = Unit {0}
 
 abbrev pub IsCloseFrame : Message → Type 0
 IsCloseFrame (message.Close reason) = Unit {0}
@@ -26,9 +32,22 @@ abbrev pub IsUnsent : Connection → List ℕ → LinkFault → Type 0
 IsUnsent conn bytes f = (f ≡ Mem) ⊎ ((x : Error) × WriteFails (write_step conn (binary bytes)) x × (f ≡ fault_of x))
 
 module _ {S : Type 0} where
-  -- no event is read: the socket fails, a close frame comes, or a binary message that gives none
+  -- a close frame comes
+  abbrev pub IsClosing : (S → Option (List ℕ)) → Socket S → LinkFault → Type 0
+  IsClosing remaining old f = (m : Message) × (new : Socket S) × Reads remaining old new (Ok m) × IsCloseFrame m × (f ≡ Closed)
+
+  -- no event is read: the socket fails, and not only since nothing has come yet; a close frame comes; or a binary message that gives none
   abbrev pub FailsToRead : (S → Option (List ℕ)) → Socket S → LinkFault → Type 0
   FailsToRead remaining old f =
-      ((x : Error) × (new : Socket S) × Reads remaining old new (Err x) × (f ≡ fault_of x))
-      ⊎ (((m : Message) × (new : Socket S) × Reads remaining old new (Ok m) × IsCloseFrame m × (f ≡ Closed))
+      ((x : Error) × (new : Socket S) × Reads remaining old new (Err x) × (f ≡ fault_of x) × (is_quiet x ≡ false))
+      ⊎ (IsClosing remaining old f
       ⊎ ((bs : List ℕ) × (m : Message) × (new : Socket S) × Reads remaining old new (Ok m) × (content_of m ≡ binary bs) × GivesNoEvent bs f))
+
+  -- a first message does not come, or is not what it is to be: the socket fails; a close frame comes; a message that is passed
+  -- over elsewhere; or a binary one, whose bytes fail so
+  abbrev pub FailsAtFirst : (List ℕ → LinkFault → Type 0) → (S → Option (List ℕ)) → Socket S → LinkFault → Type 0
+  FailsAtFirst Fails remaining old f =
+      ((x : Error) × (new : Socket S) × Reads remaining old new (Err x) × (f ≡ fault_of x))
+      ⊎ (IsClosing remaining old f
+      ⊎ (((m : Message) × (new : Socket S) × Reads remaining old new (Ok m) × IsPassedOver m × (f ≡ BadMessage))
+      ⊎ ((bs : List ℕ) × (m : Message) × (new : Socket S) × Reads remaining old new (Ok m) × (content_of m ≡ binary bs) × Fails bs f)))

@@ -41,3 +41,7 @@ Ends may_cut lane lane2 e =
 -- that, and how far the link has come
 abbrev pub EndsAt : Bool → Heard → Heard → Stage → Type 0
 EndsAt may_cut lane lane2 s = (e : Ended) × Ends may_cut lane lane2 e × (s ≡ stage_after e)
+
+-- the lane was not cut, since it may not be or refuses that; it falls, and how far the link has come
+abbrev pub FallsAt : Bool → Heard → Heard → Stage → Type 0
+FallsAt may_cut lane lane2 s = (e : Ended) × NoCut may_cut lane × Falls lane lane2 e × (s ≡ stage_after e)

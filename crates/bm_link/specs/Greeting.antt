@@ -1,8 +1,7 @@
 -- How a worker logs in, and what its master answers.
 use Rattle.std.specs.Prelude.{◌≡◌, ◌≤◌, ◌⊎◌, ℕ, true, false, List, Option, Ok}
-use Rattle.tungstenite.specs.Connection.{write_step}
 use Rattle.tungstenite.specs.Content.{binary}
-use Rattle.tungstenite.specs.Socket.{Socket, Reads, Writes, content_of}
+use Rattle.tungstenite.specs.Socket.{Socket, Reads, content_of}
 use Rattle.tungstenite.specs.declared.message.Message.{Message}
 use Rattle.bm_value.specs.Spelling.{Spells}
 use Rattle.bm_value.specs.Tree.{Tree, depth}
@@ -11,7 +10,11 @@ use Rattle.bm_msg.specs.Meaning.{Meaning, request, response, auth}
 use Rattle.bm_msg.specs.Messages.{IsMessage}
 use Rattle.bm_msg.specs.Trees.{tree_of}
 use Rattle.bm_link.specs.declared.attaching.Attached.{Attached}
+use Rattle.bm_link.specs.Accepting.{IsConnected}
 use Rattle.bm_link.specs.Attaching.{IsAttached}
+use Rattle.bm_link.specs.Causes.{FailsAtFirst, IsUnsent}
+use Rattle.bm_link.specs.Faults.{IsHandshakeFault}
+use Rattle.bm_link.specs.Sending.{SendsBytes}
 use Rattle.bm_link.specs.declared.fault.LinkFault.{LinkFault}
 use Rattle.bm_link.specs.declared.fault.LinkFault.TheVariants.{BadLogin, BadMessage, Mem}
 
@@ -28,9 +31,13 @@ abbrev pub IsRefused : Meaning → Type 0
 IsRefused (response n result exception) = (n ≡ 0) × (exception ≡ true)
 IsRefused _ = ⊥
 
+-- the message answers the login neither so nor so
+abbrev pub IsOther : Meaning → Type 0
+IsOther m = ((a : Attached) → ¬ IsAnswerOf m a) × ¬ IsRefused m
+
 -- why a message is no answer: it is an exception to the login, or it is no response to it
 abbrev pub IsNoAnswer : Meaning → LinkFault → Type 0
-IsNoAnswer m f = (f ≡ BadMessage) ⊎ ((f ≡ BadLogin) × IsRefused m)
+IsNoAnswer m f = ((f ≡ BadMessage) × IsOther m) ⊎ ((f ≡ BadLogin) × IsRefused m)
 
 -- the bytes spell such a message
 abbrev pub AreAnswer : List ℕ → Attached → Type 0
@@ -40,9 +47,17 @@ AreAnswer bytes a = (t : Tree) × (m : Meaning) × Spells bytes t × (depth t �
 abbrev pub AreRefusal : List ℕ → Type 0
 AreRefusal bytes = (t : Tree) × (m : Meaning) × Spells bytes t × (depth t ≤ 32) × IsMessage t m × IsRefused m
 
+-- the bytes neither take the login nor refuse it
+abbrev pub AreOther : List ℕ → Type 0
+AreOther bytes = ((a : Attached) → ¬ AreAnswer bytes a) × ¬ AreRefusal bytes
+
 -- why bytes are no answer to the login: memory is wanting, they refuse it, or they say something else
 abbrev pub AreNoAnswer : List ℕ → LinkFault → Type 0
-AreNoAnswer bytes f = (f ≡ Mem) ⊎ (f ≡ BadMessage) ⊎ ((f ≡ BadLogin) × AreRefusal bytes)
+AreNoAnswer bytes f = (f ≡ Mem) ⊎ (((f ≡ BadMessage) × AreOther bytes) ⊎ ((f ≡ BadLogin) × AreRefusal bytes))
+
+-- why no WebSocket is agreed: memory is wanting, or the handshake fails
+abbrev pub IsNotAgreed : LinkFault → Type 0
+IsNotAgreed f = (f ≡ Mem) ⊎ IsHandshakeFault f
 
 module _ {S : Type 0} where
   -- a binary message was read, and its bytes are that answer
@@ -53,4 +68,16 @@ module _ {S : Type 0} where
   -- the login was sent, and the answer was read
   abbrev pub Greets : (S → Option (List ℕ)) → (S → Option (List ℕ)) → List ℕ → List ℕ → Option (List ℕ) → Socket S → Socket S → Attached → Type 0
   Greets remaining contents name password session old new a =
-      (mid : Socket S) × Writes contents old mid (write_step old.conn (binary (auth_bytes name password session))) × ReadsAnswer remaining mid new a
+      (mid : Socket S) × SendsBytes contents (auth_bytes name password session) old mid × ReadsAnswer remaining mid new a
+
+  -- why there is no answer: the login was not sent, or the message after it is none
+  abbrev pub FailsToGreet : (S → Option (List ℕ)) → (S → Option (List ℕ)) → List ℕ → List ℕ → Option (List ℕ) → Socket S → LinkFault → Type 0
+  FailsToGreet remaining contents name password session old f =
+      IsUnsent old.conn (auth_bytes name password session) f
+      ⊎ ((mid : Socket S) × SendsBytes contents (auth_bytes name password session) old mid
+      × FailsAtFirst AreNoAnswer remaining mid f)
+
+  -- why a worker gets no link: no WebSocket is agreed, or the login fails
+  abbrev pub FailsToConnect : (S → Option (List ℕ)) → (S → Option (List ℕ)) → List ℕ → List ℕ → Option (List ℕ) → LinkFault → Type 0
+  FailsToConnect remaining contents name password session f =
+      IsNotAgreed f ⊎ ((start : Socket S) × IsConnected start × FailsToGreet remaining contents name password session start f)

@@ -14,6 +14,8 @@ pub mod Link
 pub mod Logins
 pub mod Orders
 pub mod Parts
+pub mod Sending
 pub mod Steps
+pub mod Telling
 pub mod Users
 pub mod Working

@@ -4,15 +4,18 @@ ghost use Rattle.std.specs.Prelude.{◌≡◌, IfOk, IfErr};
 ghost use Rattle.std.specs.Option.{option_copied};
 ghost use Rattle.bm_value.specs.View.{tree};
 ghost use Rattle.bm_msg.specs.Meaning.{meaning};
-ghost use Rattle.bm_link.specs.Greeting.{auth_bytes, IsAnswerOf, IsNoAnswer, AreAnswer, AreNoAnswer, ReadsAnswer, Greets};
+ghost use Rattle.bm_link.specs.declared.attaching.Attached.{Attached as How};
+ghost use Rattle.bm_link.specs.Causes.{FailsAtFirst};
+ghost use Rattle.bm_link.specs.Greeting.{auth_bytes, IsAnswerOf, IsNoAnswer, AreAnswer, AreNoAnswer, FailsToGreet, ReadsAnswer, Greets};
 ghost use Rattle.bm_link.specs.Attaching.{IsAttached};
 
 use crate::attaching::Attached;
 use crate::fault::{LinkFault, fault_of};
 use crate::parts::send;
+use crate::reading::{message_in, tree_in};
 use bm_lines::Text;
-use bm_msg::{Message, MsgError, Numbered, Request, Response, read, write_request};
-use bm_value::{DecodeError, Value, decode_whole};
+use bm_msg::{Message, Numbered, Request, Response, write_request};
+use bm_value::Value;
 use std::alloc::{AllocError, Global};
 use std::io::{Read, Write};
 use tungstenite::{MaskKeys, Message as Frame, WebSocket};
@@ -51,6 +54,7 @@ fn auth_bytes(
 fn attached_in(value: &Value<Global>) -> Result<Attached, LinkFault>
     ensures attached { IfOk result (IsAttached (tree value.now)) }
     ensures fault { IfErr result (λ f. f ≡ LinkFault.BadMessage) }
+    ensures bad { IfErr result (λ f. (a : How) → ¬ IsAttached (tree value.now) a) }
 {
     match value {
         Value::Bool(true) => Ok(Attached::Plain),
@@ -98,18 +102,16 @@ fn answer_of_bytes(alloc: Global, bytes: &[u8]) -> Result<Attached, LinkFault>
     ensures answer { IfOk result (AreAnswer bytes.now) }
     ensures fault { IfErr result (AreNoAnswer bytes.now) }
 {
-    let tree = match decode_whole(alloc, bytes) {
+    let tree = match tree_in(alloc, bytes) {
         Ok(tree) => tree,
-        Err(DecodeError::Mem) => return Err(LinkFault::Mem),
-        Err(_) => return Err(LinkFault::BadMessage),
+        Err(fault) => return Err(fault),
     };
-    match read(alloc, &tree) {
+    match message_in(alloc, &tree) {
         Ok(message) => match answered(&message) {
             Ok(attached) => Ok(attached),
             Err(fault) => Err(fault),
         },
-        Err(MsgError::Mem) => Err(LinkFault::Mem),
-        Err(_) => Err(LinkFault::BadMessage),
+        Err(fault) => Err(fault),
     }
 }
 
@@ -118,14 +120,19 @@ fn read_answer<S: Read + Write + Drop, K: MaskKeys + Drop>(
     alloc: Global,
     socket: &mut WebSocket<S, K>,
 ) -> Result<Attached, LinkFault>
-    ensures { IfOk result (ReadsAnswer S.remaining socket.old socket.new) }
+    ensures answer { IfOk result (ReadsAnswer S.remaining socket.old socket.new) }
+    ensures fault { IfErr result (FailsAtFirst AreNoAnswer S.remaining socket.old) }
 {
     match socket.read() {
         Ok(Frame::Binary(bytes)) => match answer_of_bytes(alloc, bytes.as_slice()) {
             Ok(attached) => Ok(attached),
             Err(fault) => Err(fault),
         },
-        Ok(Frame::Close(_)) => Err(LinkFault::Closed),
+        Ok(Frame::Close(_)) => {
+            // The answer to the close may not leave, since the link ends all the same.
+            let _ = socket.flush();
+            Err(LinkFault::Closed)
+        }
         Ok(_) => Err(LinkFault::BadMessage),
         Err(error) => Err(fault_of(&error)),
     }
@@ -139,7 +146,8 @@ pub(crate) fn greet<S: Read + Write + Drop, K: MaskKeys + Drop>(
     password: &str,
     session: Option<&str>,
 ) -> Result<Attached, LinkFault>
-    ensures { IfOk result (Greets S.remaining S.contents name.now password.now (option_copied session.entry) socket.old socket.new) }
+    ensures answer { IfOk result (Greets S.remaining S.contents name.now password.now (option_copied session.entry) socket.old socket.new) }
+    ensures fault { IfErr result (FailsToGreet S.remaining S.contents name.now password.now (option_copied session.entry) socket.old) }
 {
     let Ok(bytes) = auth_bytes(alloc, name, password, session) else {
         return Err(LinkFault::Mem);

@@ -23,6 +23,8 @@ mod login;
 mod master;
 mod orders;
 mod parts;
+mod reading;
+mod telling;
 #[cfg(test)]
 mod tests;
 mod user;

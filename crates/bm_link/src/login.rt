@@ -1,50 +1,78 @@
 //! The first message of a connection: the worker's login.
 
-ghost use Rattle.std.specs.Prelude.{IfOk};
+ghost use Rattle.std.specs.Prelude.{◌≡◌, ◌⊎◌, IfOk, IfErr, IfSome, is_some};
 ghost use Rattle.bm_value.specs.View.{tree};
-ghost use Rattle.bm_link.specs.Logins.{IsLoginOf, AreLogin, ReadsLogin, AdmitsOrFails};
+ghost use Rattle.bm_link.specs.declared.credentials.Credentials.{Credentials as Login};
+ghost use Rattle.bm_link.specs.Causes.{FailsAtFirst};
+ghost use Rattle.bm_msg.specs.Meaning.{meaning};
+ghost use Rattle.bm_link.specs.Logins.{is_login, IsLogin, IsLoginOf, AreLogin, GivesNoLogin, ReadsLogin, AdmitsOrFails};
 
-use crate::attaching::send_refusal;
 use crate::credentials::{Credentials, Named};
 use crate::fault::{LinkFault, fault_of};
+use crate::reading::message_in;
+use crate::telling::send_refusal;
 use crate::user::{User, place_of};
-use bm_msg::{Message, MsgError, Numbered, Request, read};
+use bm_lines::Text;
+use bm_msg::{Message, Numbered, Request};
 use bm_value::{DecodeError, Value, decode_whole};
 use bumpalo::Bump;
 use std::alloc::Global;
 use std::io::{Read, Write};
 use tungstenite::{Message as Frame, NoMask, WebSocket};
 
-/// The login that a tree is. What stays is copied, so the tree may be dropped afterwards.
-fn login_in(alloc: Global, message: &Value<&Bump>) -> Result<Credentials, LinkFault>
-    ensures login { IfOk result (IsLoginOf (tree message.now)) }
+/// Why no user is let in.
+#[derive(Drop)]
+pub(crate) enum Unadmitted {
+    /// A login with this name was read, which is that of no user.
+    Rejected(Text),
+    /// No login was read.
+    Unread(LinkFault),
+}
+
+/// The login that a message is.
+fn credentials_of(message: Message) -> Option<Credentials>
+    ensures login { IfSome result (IsLogin (meaning message)) }
+    ensures other { is_some result ≡ is_login (meaning message) }
 {
-    match read(alloc, message) {
-        Ok(
-            Message::Request(
-                Numbered {
-                    seq,
-                    request: Request::Auth {
-                        username,
-                        password,
-                        session,
-                    },
+    match message {
+        Message::Request(
+            Numbered {
+                seq,
+                request: Request::Auth {
+                    username,
+                    password,
+                    session,
                 },
-            ),
-        ) => Ok(Credentials {
+            },
+        ) => Some(Credentials {
             username,
             password,
             named: Named { seq, session },
         }),
-        Ok(_) => Err(LinkFault::BadMessage),
-        Err(MsgError::Mem) => Err(LinkFault::Mem),
-        Err(_) => Err(LinkFault::BadMessage),
+        _ => None,
+    }
+}
+
+/// The login that a tree is. What stays is copied, so the tree may be dropped afterwards.
+fn login_in(alloc: Global, message: &Value<&Bump>) -> Result<Credentials, LinkFault>
+    ensures login { IfOk result (IsLoginOf (tree message.now)) }
+    ensures bad { IfErr result (λ f. f ≡ LinkFault.BadMessage → (l : Login) → ¬ IsLoginOf (tree message.now) l) }
+    ensures fault { IfErr result (λ f. (f ≡ LinkFault.BadMessage) ⊎ (f ≡ LinkFault.Mem)) }
+{
+    match message_in(alloc, message) {
+        Ok(message) => match credentials_of(message) {
+            Some(login) => Ok(login),
+            None => Err(LinkFault::BadMessage),
+        },
+        Err(fault) => Err(fault),
     }
 }
 
 /// The login that bytes are, by a tree in the arena that is gone when the call returns.
 fn login_from(alloc: Global, arena: &Bump, bytes: &[u8]) -> Result<Credentials, LinkFault>
     ensures login { IfOk result (AreLogin bytes.now) }
+    ensures bad { IfErr result (λ f. f ≡ LinkFault.BadMessage → (l : Login) → ¬ AreLogin bytes.now l) }
+    ensures fault { IfErr result (λ f. (f ≡ LinkFault.BadMessage) ⊎ (f ≡ LinkFault.Mem)) }
 {
     match decode_whole(arena, bytes) {
         Ok(tree) => login_in(alloc, &tree),
@@ -56,6 +84,7 @@ fn login_from(alloc: Global, arena: &Bump, bytes: &[u8]) -> Result<Credentials, 
 /// The login that bytes are. The arena holds the tree during the call, and is reset at its end.
 fn login_of_bytes(alloc: Global, arena: &mut Bump, bytes: &[u8]) -> Result<Credentials, LinkFault>
     ensures login { IfOk result (AreLogin bytes.now) }
+    ensures fault { IfErr result (GivesNoLogin bytes.now) }
 {
     let login = login_from(alloc, arena, bytes);
     match arena.reset() {
@@ -70,7 +99,8 @@ fn read_login<S: Read + Write + Drop>(
     arena: &mut Bump,
     socket: &mut WebSocket<S, NoMask>,
 ) -> Result<Credentials, LinkFault>
-    ensures { IfOk result (ReadsLogin S.remaining socket.old socket.new) }
+    ensures login { IfOk result (ReadsLogin S.remaining socket.old socket.new) }
+    ensures fault { IfErr result (FailsAtFirst GivesNoLogin S.remaining socket.old) }
 {
     match socket.read() {
         Ok(Frame::Binary(bytes)) => match login_of_bytes(alloc, arena, bytes.as_slice()) {
@@ -93,19 +123,19 @@ pub(crate) fn admit<S: Read + Write + Drop>(
     arena: &mut Bump,
     socket: &mut WebSocket<S, NoMask>,
     users: &[User],
-) -> Result<(usize, Named), LinkFault>
-    ensures { AdmitsOrFails S.remaining users.now socket.old result socket.new }
+) -> Result<(usize, Named), Unadmitted>
+    ensures { AdmitsOrFails S.remaining S.contents users.now socket.old result socket.new }
 {
     let credentials = match read_login(alloc, arena, socket) {
         Ok(credentials) => credentials,
-        Err(fault) => return Err(fault),
+        Err(fault) => return Err(Unadmitted::Unread(fault)),
     };
     let username = credentials.username.as_str();
     match place_of(users, username, credentials.password.as_str()) {
         Some(place) => Ok((place, credentials.named)),
         None => {
             send_refusal(alloc, socket, credentials.named.seq, "bad login");
-            Err(LinkFault::BadLogin)
+            Err(Unadmitted::Rejected(credentials.username))
         }
     }
 }

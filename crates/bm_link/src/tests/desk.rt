@@ -2,15 +2,16 @@
 ghost use Rattle.std.specs.Prelude.{◌≡◌, ◌<◌, ◌≤◌};
 
 use super::both::worker_stream;
+use super::lengths::Long;
 use super::{AUTH, HEAD, Script, joined, script_of};
 use crate::*;
 use bm_lane::{Blank, Drained, Ends, Yard, open};
 use bm_lines::Text;
-use bm_session::Event;
+use bm_session::{Body, Event};
 use bumpalo::Bump;
 use std::alloc::{AllocError, Global};
 use std::marker::Brand;
-use std::mem::swap;
+use std::mem::{forget, swap};
 use std::process::Abort;
 use std::sync::Wait;
 use std::test::Fail;
@@ -20,6 +21,14 @@ use std::test::Fail;
 pub(crate) enum Call {
     /// Another link is accepted, over a stream that gives these messages after the head.
     Accept(&'static [&'static [u8]]),
+    /// The same, over a stream that gives a head of these pieces and no message.
+    AcceptHead(&'static [&'static [u8]]),
+    /// The same, over a stream that gives these messages after the head, and would then block.
+    AcceptWaiting(&'static [&'static [u8]]),
+    /// The same, over a stream that gives the first bytes of the head, and would then block.
+    AcceptSome(usize),
+    /// The same, over a stream that gives the head in pieces of so many bytes.
+    AcceptInPieces(usize, &'static [&'static [u8]]),
     /// Another link is accepted, over a stream that gives what a worker wrote.
     AcceptWorker,
     Login,
@@ -67,16 +76,26 @@ pub(crate) enum Row {
     /// A call of the link, and its answer.
     Calls(Call, Answer),
     /// What the frames are that a new link reads once its lane is up, and what its turn answers.
-    /// The lane stays up where they are dropped, and is then taken down.
+    /// The lane stays up where that is no fault, and is then taken down.
     Reads(&'static str, &'static [u8], Answer),
+    /// The same of a message of this kind with this many bytes.
+    ReadsLong(Long, Answer),
     /// The link is set aside, and the one that was is called again.
     Changes,
     /// There is one user but `other`, with this name and this password.
     Knows(&'static str, &'static str),
     /// An item of the lane's queue is taken.
     Drains,
+    /// The link has this name of a login that was refused.
+    Names(Option<&'static str>),
     /// These are the last bytes that the link wrote.
     Wrote(&'static [&'static [u8]]),
+    /// The stream of the link was written to so often.
+    WroteTimes(u32),
+    /// What lies in the arena is forgotten, so that it can't be reset.
+    Leaks,
+    /// The lane was taken up, had as many events as it may, and was taken down.
+    Fills,
     /// The lane had so many events.
     Had(usize),
     /// The lane's last event was its Down.
@@ -97,6 +116,8 @@ pub(crate) struct Desk<Y: Yard, W: Wait + Drop> {
     argv: Vec<Text>,
     /// The calls after which the stream of a link fails, where it does; it then gives single bytes.
     calls: Option<u32>,
+    /// The bytes after which the stream of a link ends, where it is cut.
+    cut: Option<usize>,
     link: Option<MasterLink<Script>>,
     aside: Option<MasterLink<Script>>,
 }
@@ -119,6 +140,7 @@ impl<Y: Yard, W: Wait + Drop> Desk<Y, W> {
             users: Vec::new(alloc),
             argv: Vec::new(alloc),
             calls: None,
+            cut: None,
             link: None,
             aside: None,
         }
@@ -153,6 +175,11 @@ impl<Y: Yard, W: Wait + Drop> Desk<Y, W> {
         self.calls = Some(calls);
     }
 
+    /// From now on a link's stream ends after so many bytes.
+    pub fn is_cut_after(&mut self, bytes: usize) {
+        self.cut = Some(bytes);
+    }
+
     /// A link over this stream takes the place of the one before.
     fn accept(&mut self, stream: Script) -> Answer {
         match MasterLink::accept(self.alloc, stream) {
@@ -164,14 +191,38 @@ impl<Y: Yard, W: Wait + Drop> Desk<Y, W> {
         }
     }
 
-    /// A link over a stream that gives these messages takes the place of the one before.
-    fn accept_from(&mut self, messages: &[&[u8]]) -> Answer {
+    /// A link over a stream that gives the head in pieces of so many bytes, and then these
+    /// messages, takes the place of the one before.
+    fn accept_from(&mut self, messages: &[&[u8]], piece: usize) -> Answer {
         let Ok(mut stream) = script_of(self.alloc, HEAD, messages) else {
             return Answer::Nothing;
         };
+        stream.piece = piece;
+        if let Some(bytes) = self.cut {
+            stream.input.truncate(bytes);
+        }
         if let Some(calls) = self.calls {
             stream.fails_after(calls);
         }
+        self.accept(stream)
+    }
+
+    /// The same, over a stream that gives a head of these pieces.
+    fn accept_head(&mut self, pieces: &[&[u8]]) -> Answer {
+        match joined(self.alloc, pieces) {
+            Ok(head) => self.accept(Script::new(self.alloc, head, usize::MAX)),
+            Err(_) => Answer::Nothing,
+        }
+    }
+
+    /// The same, over a stream that gives the first bytes of the head and these messages, and would
+    /// then block.
+    fn accept_waiting(&mut self, first: usize, messages: &[&[u8]]) -> Answer {
+        let Ok(mut stream) = script_of(self.alloc, HEAD, messages) else {
+            return Answer::Nothing;
+        };
+        stream.input.truncate(first);
+        stream.waits = true;
         self.accept(stream)
     }
 
@@ -253,7 +304,11 @@ impl<Y: Yard, W: Wait + Drop> Desk<Y, W> {
     /// The answer to a call.
     pub fn call<R: Wait>(&mut self, rt: &R, call: Call) -> Answer {
         match call {
-            Call::Accept(messages) => self.accept_from(messages),
+            Call::Accept(messages) => self.accept_from(messages, usize::MAX),
+            Call::AcceptHead(pieces) => self.accept_head(pieces),
+            Call::AcceptWaiting(messages) => self.accept_waiting(usize::MAX, messages),
+            Call::AcceptSome(first) => self.accept_waiting(first, &[]),
+            Call::AcceptInPieces(piece, messages) => self.accept_from(messages, piece),
             Call::AcceptWorker => self.accept_worker(),
             Call::Login => self.login(),
             Call::Attach => self.attach(rt),
@@ -265,13 +320,27 @@ impl<Y: Yard, W: Wait + Drop> Desk<Y, W> {
     }
 
     fn gives_so<R: Wait>(&mut self, rt: &R, frames: &[u8], gives: Answer) -> bool {
-        let is_attached = self.accept_from(&[AUTH, frames]) == Answer::Done
+        let is_attached = self.accept_from(&[AUTH, frames], usize::MAX) == Answer::Done
             && self.login() == Answer::Place(1)
             && self.attach(rt) == PLAIN;
         let is_told = self.turn(rt) == gives;
-        let is_up = gives == DROPPED;
+        let is_up = matches!(gives, Answer::Turned(_));
         let reader = &mut self.ends.reader;
         is_attached && is_told && reader.is_up() == is_up && (!is_up || reader.down(rt).is_ok())
+    }
+
+    fn gives_long<R: Wait>(&mut self, rt: &R, long: Long, gives: Answer) -> bool {
+        match long.frames(self.alloc) {
+            Ok(frames) => self.gives_so(rt, frames.as_slice(), gives),
+            Err(_) => false,
+        }
+    }
+
+    fn has_refused(&self, name: Option<&str>) -> bool {
+        match &self.link {
+            Some(link) => link.refused() == name,
+            None => false,
+        }
     }
 
     fn wrote(&self, pieces: &[&[u8]]) -> bool {
@@ -279,6 +348,33 @@ impl<Y: Yard, W: Wait + Drop> Desk<Y, W> {
             (Some(link), Ok(whole)) => link.stream().output.ends_with(&whole),
             _ => false,
         }
+    }
+
+    fn wrote_times(&self, times: u32) -> bool {
+        match &self.link {
+            Some(link) => link.stream().writes == times,
+            None => false,
+        }
+    }
+
+    fn leaks(&self) -> bool {
+        match Box::new(&self.arena, 0u8) {
+            Ok(leaked) => {
+                forget(leaked);
+                true
+            }
+            Err(_) => false,
+        }
+    }
+
+    fn fills<R: Wait>(&mut self, rt: &R) -> bool {
+        let reader = &mut self.ends.reader;
+        let mut takes = reader.up(rt).is_ok();
+        for _ in 0..999_998 {
+            let noted = Event::In(0, Body::Answered { fault: false });
+            takes &= reader.hear(rt, noted).is_ok();
+        }
+        takes && reader.down(rt).is_ok()
     }
 
     pub fn has_link(&self) -> bool {
@@ -314,9 +410,14 @@ impl<Y: Yard, W: Wait + Drop> Desk<Y, W> {
                 true
             }
             Row::Reads(_, frames, gives) => self.gives_so(rt, frames, gives),
+            Row::ReadsLong(long, gives) => self.gives_long(rt, long, gives),
             Row::Knows(name, password) => self.knows(name, password),
+            Row::Names(name) => self.has_refused(name),
             Row::Drains => self.drains(),
             Row::Wrote(pieces) => self.wrote(pieces),
+            Row::WroteTimes(times) => self.wrote_times(times),
+            Row::Leaks => self.leaks(),
+            Row::Fills => self.fills(rt),
             Row::Had(events) => self.ends.reader.trace().len() == events,
             Row::IsDown => self.is_down() == Some(true),
             Row::IsCut => self.ends.reader.is_cut(),

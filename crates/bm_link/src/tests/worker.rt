@@ -1,6 +1,9 @@
 //! A worker's link over memory.
 
-use super::{AGREED, AUTH, BAD_LOGIN, CLOSE, DONE, ORDER, Script, TEXT, TRUE, script_of};
+use super::{
+    AGREED, AUTH, AUTH_S, BAD_LOGIN, CLOSE, DONE, NEW, ORDER, RESUMED, Script, TEXT, TRUE,
+    script_of,
+};
 use crate::*;
 use bm_lines::Letter;
 use bm_work::{WorkAct, Worker};
@@ -35,12 +38,17 @@ pub(crate) struct Bench {
 }
 
 impl Bench {
-    /// A worker whose link reads these messages after the handshake.
+    /// A worker that names no session, whose link reads these messages after the handshake.
     pub fn new(alloc: Global, messages: &[&[u8]]) -> Result<Bench, LinkFault> {
+        Bench::named(alloc, None, messages)
+    }
+
+    /// The same of a worker that names this session.
+    fn named(alloc: Global, session: Option<&str>, messages: &[&[u8]]) -> Result<Bench, LinkFault> {
         let Ok(stream) = script_of(alloc, AGREED, messages) else {
             return Err(LinkFault::Mem);
         };
-        match WorkerLink::connect(alloc, Zeros {}, stream, "w0", "p", None) {
+        match WorkerLink::connect(alloc, Zeros {}, stream, "w0", "p", session) {
             Ok((link, attached)) => Ok(Bench {
                 alloc,
                 link,
@@ -132,12 +140,94 @@ impl Bench {
             && self.ends()
             && self.ends()
             && self.link.closed() == closed
+            && self.wrote(CLOSING) == closed
     }
 }
+
+/// The worker's answer to a close frame.
+const CLOSING: &[u8] = b"\x88\x80\0\0\0\0";
 
 #[test]
 fn a_close_frame_is_told(rt: HostRuntime) -> Result<(), Fail> {
     assert!(rt; is_closed_by(rt.alloc(), CLOSE, true));
     assert!(rt; is_closed_by(rt.alloc(), b"".as_slice(), false));
+    Ok(())
+}
+
+/// What a turn gives.
+#[derive(Clone, Copy, PartialEq)]
+enum Gives {
+    Turned(Turn),
+    Fault(LinkFault),
+}
+
+const DROPPED: Gives = Gives::Turned(Turn::Dropped);
+
+const BAD: Gives = Gives::Fault(LinkFault::BadMessage);
+
+impl Bench {
+    fn gives(&mut self) -> Gives {
+        match self.link.turn(self.alloc, &mut self.arena, &mut self.core) {
+            Ok((turn, _)) => Gives::Turned(turn),
+            Err(fault) => Gives::Fault(fault),
+        }
+    }
+}
+
+/// What the turn gives that reads these frames.
+fn given(alloc: Global, frames: &[u8]) -> Option<Gives> {
+    match Bench::new(alloc, &[TRUE, frames]) {
+        Ok(mut bench) => Some(bench.gives()),
+        Err(_) => None,
+    }
+}
+
+/// Frames of a master, and what the turn gives that reads them.
+static FRAMES: [(&str, &[u8], Gives); 13] = [
+    ("an order", ORDER, Gives::Turned(Turn::Heard)),
+    ("a response", TRUE, Gives::Turned(Turn::Noted)),
+    ("a text", b"\x81\x01a", DROPPED),
+    ("a ping", b"\x89\x01a", DROPPED),
+    ("a pong", b"\x8a\x00", DROPPED),
+    ("a text in pieces", b"\x01\x01a\x80\x01b", DROPPED),
+    ("a value that is no message", b"\x82\x01\xc0", BAD),
+    ("bytes behind a value", b"\x82\x02\xc0\xc0", BAD),
+    ("a frame under a mask", b"\x82\x80\0\0\0\0", BAD),
+    ("a reserved bit", b"\xc2\x00", BAD),
+    ("a reserved opcode", b"\x83\x00", BAD),
+    ("a text that is no UTF-8", b"\x81\x01\xff", BAD),
+    (
+        "a frame of a byte more than may be",
+        b"\x82\x7f\0\0\0\0\0\x10\0\x01",
+        BAD,
+    ),
+];
+
+#[test]
+fn frames_give_a_worker_their_turns(rt: HostRuntime) -> Result<(), Fail> {
+    for (name, frames, gives) in &FRAMES {
+        assert!(rt; given(rt.alloc(), frames) == Some(*gives), "{name}");
+    }
+    Ok(())
+}
+
+/// How a worker that named the session `s` is answered so.
+fn attached_by(alloc: Global, answer: &[u8]) -> Option<Attached> {
+    match Bench::named(alloc, Some("s"), &[answer]) {
+        Ok(bench) if bench.wrote(AUTH_S) => Some(bench.attached),
+        _ => None,
+    }
+}
+
+#[test]
+fn a_session_is_named(rt: HostRuntime) -> Result<(), Fail> {
+    static ANSWERS: [(&[u8], Attached); 3] = [
+        (NEW, Attached::New),
+        (RESUMED, Attached::Resumed),
+        (TRUE, Attached::Plain),
+    ];
+    for (answer, attached) in &ANSWERS {
+        assert!(rt; attached_by(rt.alloc(), answer) == Some(*attached));
+    }
     Ok(())
 }

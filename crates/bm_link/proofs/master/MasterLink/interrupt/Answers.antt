@@ -16,7 +16,7 @@ pub returns-in-Err-send_message-clause-interrupted : goal.returns-in-Err-send_me
 returns-in-Err-send_message-clause-interrupted g c =
     rw (← c.self.view_is) (
     interrupt_fails g.S.Write.contents c.args.command
-    (record { socket = c.self.inside.socket; stage = c.self.inside.stage; login = c.self.inside.login; kept = c.self.inside.kept })
+    (record { socket = c.self.inside.socket; stage = c.self.inside.stage; login = c.self.inside.login; kept = c.self.inside.kept; refused = c.self.inside.refused })
     c.args.reader.now c.args.carry.now c.in-Err-send_message.fault c.end.new.self c.end.new.reader c.interrupt_order.new.carry
     c.in-Up.is
     (c.in-Ok.ensures.ok.1 ∙ ap (λ (n : ℕ). with_order c.args.carry.now (record { seq = n; bytes = interrupt_bytes n c.args.command })) c.next_order.ensures.number) (

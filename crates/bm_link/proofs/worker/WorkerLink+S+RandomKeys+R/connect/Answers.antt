@@ -1,9 +1,10 @@
-use Rattle.std.proofs.Common.{rules}
-use Rattle.bm_link.specs.Accepting.{Limit}
+use Rattle.std.proofs.Common.{inr}
 use Rattle.bm_link.proofs.worker.WorkerLink+S+RandomKeys+R.connect.Goals as goal
 
--- the socket that the handshake gave, with its limits
+-- the socket that the handshake gave
 pub returns-in-Ok-greet-clause-login : goal.returns-in-Ok-greet-clause-login
-returns-in-Ok-greet-clause-login g c =
-    let limit : Limit c.set_config.new.self.conn.config = search rules in
-    (c.set_config.new.self, limit, c.in-Ok-greet.ensures)
+returns-in-Ok-greet-clause-login g c = (c.in-Ok.socket, c.in-Ok.ensures.connected, c.in-Ok-greet.ensures.answer)
+
+-- the same, over which the login failed
+pub returns-in-Err-greet-clause-fault : goal.returns-in-Err-greet-clause-fault
+returns-in-Err-greet-clause-fault g c = inr (c.in-Ok.socket, c.in-Ok.ensures.connected, c.in-Err-greet.ensures.fault)
