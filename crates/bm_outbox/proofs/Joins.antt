@@ -1,13 +1,14 @@
 -- A text that ends its line, and what follows it, have their lines side by side.
-use Rattle.std.proofs.Common.{◌≡◌, refl, sym, ap, ◌∙◌, subst, inl, inr, ℕ, ◌+◌, ◌<◌, ◌==◌, Bool, true, false, cond, List, [], ◌∷◌, ◌++◌, map, length, append_assoc, arith}
+use Rattle.std.proofs.Common.{◌≡◌, refl, sym, ap, ◌∙◌, subst, inl, inr, ℕ, ◌+◌, ◌<◌, ◌==◌, Bool, true, false, cond, List, [], ◌∷◌, ◌++◌, map, length, get_or, ◌-◌, append_assoc, arith}
 use Rattle.std.specs.List.{slice_split, onto_first}
-use Rattle.std.proofs.lemmas.List.{append-nil, map-append}
+use Rattle.std.proofs.lemmas.List.{append-nil, length-append, map-append}
+use Rattle.std.proofs.Math.Seq.{get_or-append_seam}
 use Rattle.std.proofs.lemmas.List.Concat.{flat_map-append}
 use Rattle.std.proofs.lemmas.List.Splits.{length-slice_split}
 use Rattle.bm_lines.specs.Lines.{without_last_empty, lines_of}
 use Rattle.bm_lines.specs.declared.line.Letter.{Letter}
 use Rattle.bm_lines.specs.declared.line.Line.{Line}
-use Rattle.bm_outbox.specs.Joining.{IsWhole, Adds, lines_in, whole_of}
+use Rattle.bm_outbox.specs.Joining.{IsWhole, Fit, AreApart, Adds, lines_in, whole_of}
 
 abbrev parts : List ℕ → List (List ℕ)
 parts text = slice_split (λ c. c == 10) text
@@ -74,6 +75,29 @@ lines-one letter texts text =
 text-one : (texts : List (List ℕ)) (text : List ℕ) → whole_of (texts ++ text ∷ []) ≡ whole_of texts ++ text
 text-one texts text = flat_map-append (λ t. t) texts (text ∷ []) ∙ ap (λ t. whole_of texts ++ t) (append-nil text)
 
+-- a text that didn't fit fits no more once it has grown
+grown-apart : (texts : List (List ℕ)) (current text : List ℕ) → AreApart (texts ++ current ∷ []) → AreApart (texts ++ (current ++ text) ∷ [])
+grown-apart [] current text h = tt
+grown-apart (first ∷ []) current text h =
+    let longer : length (current ++ text) ≡ length current + length text = length-append current text in
+    (λ fit. h.0 (fit.0, omega arith), tt)
+grown-apart (first ∷ second ∷ rest) current text h = (h.0, grown-apart (second ∷ rest) current text h.1)
+
+one-more-apart : (texts : List (List ℕ)) (current text : List ℕ) → (Fit current text → ⊥) → AreApart (texts ++ current ∷ [])
+    → AreApart ((texts ++ current ∷ []) ++ text ∷ [])
+one-more-apart [] current text other h = (other, tt)
+one-more-apart (first ∷ []) current text other h = (h.0, (other, tt))
+one-more-apart (first ∷ second ∷ rest) current text other h = (h.0, one-more-apart (second ∷ rest) current text other h.1)
+
+-- what ends its line has an end of line as its last byte
+pub ends_line : (text : List ℕ) → IsWhole text → 0 < length text → get_or text (length text - 1) 0 ≡ 10
+ends_line text (inl empty) some = let none : length text ≡ 0 = ap length empty in absurd (omega arith)
+ends_line text (inr h) some =
+    let more : length (h.0 ++ 10 ∷ []) ≡ length h.0 + 1 = length-append h.0 (10 ∷ []) in
+    let last : length (h.0 ++ 10 ∷ []) - 1 ≡ length h.0 = omega arith in
+    subst (λ (t : List ℕ). get_or t (length t - 1) 0 ≡ 10) (sym h.1)
+    (ap (λ n. get_or (h.0 ++ 10 ∷ []) n 0) last ∙ get_or-append_seam h.0 10 [] 0)
+
 -- a text grew by another one
 pub adds_to : (letter : Letter) (done : List (List ℕ)) (current text : List ℕ) → IsWhole current
     → Adds (record { letter = letter; done = done; current = current }) text (record { letter = letter; done = done; current = current ++ text })
@@ -87,13 +111,15 @@ adds_to letter done current text whole = record {
       ∙ (ap (λ ls. lines_in letter done ++ ls) (lines_whole letter current text whole)
       ∙ (sym (append_assoc (lines_in letter done) (lines_of letter current) (lines_of letter text))
       ∙ ap (λ ls. ls ++ lines_of letter text) (sym (lines-one letter done current))));
+  still_apart = grown-apart done current text;
 }
 
 -- another text was begun
-pub adds_one : (letter : Letter) (done : List (List ℕ)) (current text : List ℕ)
+pub adds_one : (letter : Letter) (done : List (List ℕ)) (current text : List ℕ) → (Fit current text → ⊥)
     → Adds (record { letter = letter; done = done; current = current }) text (record { letter = letter; done = done ++ current ∷ []; current = text })
-adds_one letter done current text = record {
+adds_one letter done current text other = record {
   letter = refl;
   text_grew = text-one (done ++ current ∷ []) text;
   lines_grew = lines-one letter (done ++ current ∷ []) text;
+  still_apart = one-more-apart done current text other;
 }

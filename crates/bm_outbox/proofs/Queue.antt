@@ -1,11 +1,16 @@
 -- What waits once its first item was told.
-use Rattle.std.proofs.Common.{◌≡◌, ◌≢◌, refl, sym, subst, List, ◌∷◌, Ok}
+use Rattle.std.proofs.Common.{◌≡◌, ◌≢◌, refl, sym, ap, ◌∙◌, subst, ℕ, ℤ, List, [], ◌∷◌, ◌++◌, Ok}
 use Rattle.bm_work.specs.Core.{Core}
+use Rattle.bm_outbox.specs.Headers.{exit_line}
 use Rattle.bm_outbox.specs.Items.{Tells}
+use Rattle.bm_outbox.specs.Opening.{Closes, IsHeader, waiting_texts}
 use Rattle.bm_outbox.specs.Telling.{TellsNext, waits_on}
+use Rattle.bm_outbox.specs.declared.ending.Ending.TheVariants.{Code}
 use Rattle.bm_outbox.specs.declared.item.Item.{Item}
+use Rattle.bm_outbox.specs.declared.item.Item.TheVariants as item
 use Rattle.bm_outbox.specs.declared.outbox.Told.{Told}
 use Rattle.bm_outbox.specs.declared.outbox.Told.TheVariants as told
+use Rattle.bm_outbox.specs.declared.said.Said.{Said}
 
 goes-on : (first : Item) (rest : List Item) (t : Told) → t ≢ told.Full → rest ≡ waits_on first rest (Ok t)
 goes-on first rest told.Nothing other = refl
@@ -19,3 +24,8 @@ pub told_first : (waiting : List Item) (first : Item) (rest : List Item) (c c2 :
     → Tells first c (Ok t) c2 → TellsNext waiting c (Ok t) rest c2
 told_first waiting first rest c c2 t is other h =
     subst (λ (w : List Item). TellsNext w c (Ok t) rest c2) (sym is) (h, goes-on first rest t other)
+
+-- the texts of the line wait, and then the end does
+pub closes : (k : ℕ) (code : ℤ) (said : List Said) (old mid new : List Item) → IsHeader (exit_line code) said → mid ≡ old ++ waiting_texts k said
+    → new ≡ mid ++ item.End k (Code code) ∷ [] → Closes k code old new
+closes k code said old mid new header is ended = (said, header, ended ∙ ap (λ m. m ++ item.End k (Code code) ∷ []) is)

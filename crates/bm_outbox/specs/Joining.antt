@@ -1,5 +1,5 @@
 -- Texts of one pipe that are joined.
-use Rattle.std.specs.Prelude.{◌≡◌, ◌≤◌, ◌+◌, ◌⊎◌, ℕ, List, [], ◌∷◌, ◌++◌, length, map, All}
+use Rattle.std.specs.Prelude.{◌≡◌, ◌≤◌, ◌+◌, ◌⊎◌, ℕ, List, [], ◌∷◌, ◌++◌, length, map, All, ⊤}
 use Rattle.std.specs.List.{flat_map}
 use Rattle.bm_lines.specs.Lines.{lines_of}
 use Rattle.bm_lines.specs.declared.line.Letter.{Letter}
@@ -20,13 +20,6 @@ lines_in letter texts = flat_map (lines_of letter) texts
 abbrev pub whole_of : List (List ℕ) → List ℕ
 whole_of texts = flat_map (λ text. text) texts
 
--- what is said of these texts is their text, in order, with the letter of their pipe; and its lines are theirs
-pub record IsJoined (letter : Letter) (texts : List (List ℕ)) (said : List Said) : Type 0 where
-  pub same_text : whole_of (texts_of said) ≡ whole_of texts
-  pub same_lines : lines_in letter (texts_of said) ≡ lines_in letter texts
-  pub same_pipe : All (λ (s : Said). s.letter ≡ letter) said
-  pub short : All (λ (s : Said). length s.text ≤ most_bytes) said
-
 -- a text is empty or ends its line
 abbrev pub IsWhole : List ℕ → Type 0
 IsWhole text = (text ≡ []) ⊎ ((front : List ℕ) × (text ≡ front ++ 10 ∷ []))
@@ -34,6 +27,21 @@ IsWhole text = (text ≡ []) ⊎ ((front : List ℕ) × (text ≡ front ++ 10 �
 -- two texts fit into one, in which their lines stay lines of their own
 abbrev pub Fit : List ℕ → List ℕ → Type 0
 Fit first second = IsWhole first × (length first + length second ≤ most_bytes)
+
+-- no text fits to the one before it: nothing more can be joined
+abbrev pub AreApart : List (List ℕ) → Type 0
+AreApart [] = ⊤
+AreApart (text ∷ []) = ⊤
+AreApart (first ∷ second ∷ rest) = (Fit first second → ⊥) × AreApart (second ∷ rest)
+
+-- what is said of these texts is their text, in order, with the letter of their pipe; its lines are theirs, and all that
+-- fits is joined
+pub record IsJoined (letter : Letter) (texts : List (List ℕ)) (said : List Said) : Type 0 where
+  pub same_text : whole_of (texts_of said) ≡ whole_of texts
+  pub same_lines : lines_in letter (texts_of said) ≡ lines_in letter texts
+  pub same_pipe : All (λ (s : Said). s.letter ≡ letter) said
+  pub apart : AreApart (texts_of said)
+  pub short : All (λ (s : Said). length s.text ≤ most_bytes) said
 
 -- texts of a pipe that were joined, and the one that may grow
 pub record Joining : Type 0 where
@@ -54,3 +62,4 @@ pub record Adds (old : Joining) (text : List ℕ) (new : Joining) : Type 0 where
   pub letter : new.letter ≡ old.letter
   pub text_grew : whole_of (all_of new) ≡ whole_of (all_of old) ++ text
   pub lines_grew : lines_in old.letter (all_of new) ≡ lines_in old.letter (all_of old) ++ lines_of old.letter text
+  pub still_apart : AreApart (all_of old) → AreApart (all_of new)

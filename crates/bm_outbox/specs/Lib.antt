@@ -4,3 +4,4 @@ pub mod Joining
 pub mod Headers
 pub mod Pipes
 pub mod Pieces
+pub mod Opening

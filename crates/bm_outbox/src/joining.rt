@@ -1,7 +1,7 @@
 //! Texts of one pipe are joined.
 
-ghost use Rattle.std.specs.Prelude.{◌≡◌, ◌≤◌, [], All, length, IfOk, OnOk, IsTrue, string_bytes, map};
-ghost use Rattle.bm_outbox.specs.Joining.{Fit, Adds, IsJoined, texts_of, all_of, whole_of, lines_in};
+ghost use Rattle.std.specs.Prelude.{◌≡◌, ◌≤◌, [], All, length, IfOk, OnOk, IsFalse, IsTrue, string_bytes, map};
+ghost use Rattle.bm_outbox.specs.Joining.{Fit, Adds, AreApart, IsJoined, texts_of, all_of, whole_of, lines_in};
 
 use crate::said::{MOST_BYTES, Said};
 use bm_lines::{Letter, Text};
@@ -40,7 +40,6 @@ impl Joiner {
     }
 
     /// Adds a text to the one that may grow, where both fit into one; or else begins another one with it.
-    #[tactic(auto, using(crate::proofs::Joins::adds_one))]
     fn add(&mut self, text: &str) -> Result<(), AllocError>
         requires { length text.now ≤ 65536 }
         ensures { OnOk result (Adds self.old text.now self.new) }
@@ -79,10 +78,12 @@ impl Joiner {
 
 /// Whether a text can follow another one in the same update and its lines stay lines of their own: the first one is
 /// empty or ends its line, and both together are short enough.
+#[tactic(auto, using(crate::proofs::Joins::ends_line))]
 fn fit(first: &str, second: &str) -> bool
     requires first { length first.now ≤ 65536 }
     requires second { length second.now ≤ 65536 }
-    ensures { IsTrue result → Fit first.now second.now }
+    ensures fit { IsTrue result → Fit first.now second.now }
+    ensures apart { IsFalse result → Fit first.now second.now → ⊥ }
 {
     if first.len() + second.len() > MOST_BYTES {
         return false;
@@ -99,6 +100,7 @@ fn join_all(alloc: Global, letter: Letter, texts: &[Text]) -> Result<Joiner, All
     ensures letter { IfOk result (λ j. j.letter ≡ letter) }
     ensures text { IfOk result (λ j. whole_of (all_of j) ≡ whole_of texts.now) }
     ensures lines { IfOk result (λ j. lines_in letter (all_of j) ≡ lines_in letter texts.now) }
+    ensures apart { IfOk result (λ j. AreApart (all_of j)) }
 {
     let mut joiner = Joiner::new(alloc, letter);
     for text in texts {
@@ -108,7 +110,7 @@ fn join_all(alloc: Global, letter: Letter, texts: &[Text]) -> Result<Joiner, All
 }
 
 /// The texts of a pipe that lie ready, joined to fewer: what is said is their text in order, each of at most 65,536
-/// bytes, and its lines are their lines.
+/// bytes, and its lines are their lines. All that fits is joined.
 pub(crate) fn joined(
     alloc: Global,
     letter: Letter,

@@ -23,4 +23,3 @@ pub use pipes::Pipes;
 pub use said::{MOST_BYTES, Said};
 pub use session::begin;
 pub use tries::Tries;
-pub use words::{exit_line, words_line};

@@ -1,11 +1,17 @@
 //! What waits to be told, in its order.
 
-ghost use Rattle.std.specs.Prelude.{◌≡◌, ◌==◌, ◌∷◌, ◌++◌, [], length, OnOk, OnErr};
+ghost use Rattle.std.specs.Prelude.{◌≡◌, ◌==◌, ◌∷◌, ◌++◌, [], length, IfOk, OnOk, OnErr};
+ghost use Rattle.bm_outbox.specs.Headers.{exit_line};
 ghost use Rattle.bm_outbox.specs.Items.{without, Tells};
+ghost use Rattle.bm_outbox.specs.Opening.{Closes, IsHeader, Opens, waiting_texts};
 ghost use Rattle.bm_outbox.specs.Telling.{TellsNext};
 
 use crate::ending::Ending;
 use crate::item::Item;
+use crate::pipe_texts::PipeTexts;
+use crate::said::Said;
+use crate::words::{exit_line, words_line};
+use bm_lines::{Letter, Text};
 use bm_work::{Sent, WorkRefusal, Worker};
 use std::alloc::{AllocError, Global};
 use std::collections::VecDeque;
@@ -67,6 +73,45 @@ impl Outbox {
             Ok(()) => Ok(()),
             Err(_) => Err(AllocError),
         }
+    }
+
+    /// Begins to tell of a command: the line of its words waits behind the others.
+    ///
+    /// # Errors
+    ///
+    /// Want of memory. A part of the line may wait then.
+    pub fn open(&mut self, alloc: Global, command: u64, words: &[Text]) -> Result<(), AllocError>
+        ensures { OnOk result (Opens command words.now [] self.old self.new) }
+    {
+        let line = words_line(alloc, words)?;
+        self.push_all(command, header_texts(alloc, line.as_str())?)
+    }
+
+    /// Tells the end of a command whose process gave this exit code: the line of that code waits behind the others,
+    /// and the end behind it.
+    ///
+    /// # Errors
+    ///
+    /// Want of memory. A part of the line may wait then.
+    #[tactic(auto, using(crate::proofs::Queue::closes))]
+    pub fn close(&mut self, alloc: Global, command: u64, code: i64) -> Result<(), AllocError>
+        ensures { OnOk result (Closes command code self.old self.new) }
+    {
+        let texts = exit_texts(alloc, code)?;
+        self.push_all(command, texts)?;
+        let ending = Ending::Code(code);
+        self.push(Item::End { command, ending })?;
+        Ok(())
+    }
+
+    // Puts texts of a command behind the others.
+    fn push_all(&mut self, command: u64, texts: Vec<Said>) -> Result<(), AllocError>
+        ensures { OnOk result (self.new ≡ self.old ++ waiting_texts command texts.items) }
+    {
+        for said in texts {
+            self.push(Item::Text { command, said })?;
+        }
+        Ok(())
     }
 
     /// Ends a command at once: what waits of it is given up, and how it ended waits behind the others. At want of
@@ -140,4 +185,30 @@ fn tell_item(alloc: Global, worker: &mut Worker, item: &Item) -> Result<Told, Al
             }
         }
     }
+}
+
+/// What is said of a line of headers.
+fn header_texts(alloc: Global, line: &str) -> Result<Vec<Said>, AllocError>
+    ensures { IfOk result (λ v. IsHeader line.now v.items) }
+{
+    let mut texts = PipeTexts::new(alloc, Letter::H);
+    let mut all = match texts.take(alloc, line.as_bytes()) {
+        Ok(all) => all,
+        Err(error) => return Err(error),
+    };
+    match texts.last() {
+        Ok(Some(last)) => all.push(last)?,
+        Ok(None) => {}
+        Err(error) => return Err(error),
+    }
+    Ok(all)
+}
+
+/// What is said of an exit code.
+fn exit_texts(alloc: Global, code: i64) -> Result<Vec<Said>, AllocError>
+    ensures { IfOk result (λ v. IsHeader (exit_line code) v.items) }
+{
+    let line = exit_line(alloc, code)?;
+    let texts = header_texts(alloc, line.as_str())?;
+    Ok(texts)
 }

@@ -1,5 +1,6 @@
 //! What waits, is joined and is told, on the happy path and at a full window.
 
+use crate::words::{exit_line, words_line};
 use crate::*;
 use bm_lines::{Letter, Text};
 use bm_msg::{Message, Numbered, Request, Response};

@@ -1,8 +1,11 @@
 //! The processes of the commands that run.
 
+ghost use Rattle.std.specs.Prelude.{OnOk};
+ghost use Rattle.bm_outbox.specs.Opening.{Starts};
+
 use crate::pump::{Part, Piece, Pump};
 use bm_lines::{Letter, Text};
-use bm_outbox::{Ending, Item, Outbox, PipeTexts, Pipes, exit_line, words_line};
+use bm_outbox::{Ending, Item, Outbox, Pipes};
 use bm_work::Argv;
 use crossbeam_channel::{Receiver, Sender};
 use std::alloc::{AllocError, Global};
@@ -61,55 +64,62 @@ impl Crew {
     ) -> Result<(), AllocError>
     where
         R: Wait + Threads + Processes<Started = SystemProcess> + Copy + Send + Sync + 'static,
+        ensures { OnOk result (Starts command argv.now outbox.old outbox.new) }
     {
-        push_header(
-            alloc,
-            outbox,
-            command,
-            words_line(alloc, argv.as_slice())?.as_str(),
-        )?;
+        outbox.open(alloc, command, argv.as_slice())?;
+        if self.starts(rt, alloc, command, argv.as_slice())? {
+            return Ok(());
+        }
+        let ending = Ending::CannotStart;
+        outbox.push(Item::End { command, ending })?;
+        Ok(())
+    }
+
+    /// Starts a process and the threads of its pipes, or answers that one of them can't be started.
+    fn starts<R>(
+        &mut self,
+        rt: &R,
+        alloc: Global,
+        command: u64,
+        words: &[Text],
+    ) -> Result<bool, AllocError>
+    where
+        R: Wait + Threads + Processes<Started = SystemProcess> + Copy + Send + Sync + 'static,
+    {
         self.jobs.reserve(1)?;
         self.left.reserve(1)?;
-        let Some(child) = started(rt, alloc, argv.as_slice()) else {
-            let ending = Ending::CannotStart;
-            return outbox.push(Item::End { command, ending });
+        let Some(child) = started(rt, alloc, words) else {
+            return Ok(false);
         };
         self.started = self.started.wrapping_add(1);
-        let job = Job {
+        let mut job = Job {
             number: self.started,
             command,
             child,
             pipes: Pipes::open(),
             stop: Arc::new(alloc, AtomicBool::new(false))?,
         };
-        self.watch(rt, alloc, job, outbox)
+        if self.watches(rt, alloc, &mut job) {
+            self.jobs.push(job)?;
+            return Ok(true);
+        }
+        self.leave(job)?;
+        Ok(false)
     }
 
-    /// Starts the threads of a process's pipes.
-    fn watch<R>(
-        &mut self,
-        rt: &R,
-        alloc: Global,
-        mut job: Job,
-        outbox: &mut Outbox,
-    ) -> Result<(), AllocError>
+    /// Starts the threads of a process's pipes, or answers that one of them can't be started.
+    fn watches<R>(&self, rt: &R, alloc: Global, job: &mut Job) -> bool
     where
         R: Wait + Threads + Copy + Send + Sync + 'static,
     {
         let (output, errors) = (job.child.stdout.take(), job.child.stderr.take());
-        let is_watched = match (output, errors) {
+        match (output, errors) {
             (Some(output), Some(errors)) => {
-                self.pump(rt, alloc, &job, Letter::O, output)
-                    && self.pump(rt, alloc, &job, Letter::E, errors)
+                self.pump(rt, alloc, job, Letter::O, output)
+                    && self.pump(rt, alloc, job, Letter::E, errors)
             }
             _ => false,
-        };
-        let command = job.command;
-        self.jobs.push(job)?;
-        if is_watched {
-            return Ok(());
         }
-        self.cut_short(command, Ending::CannotStart, outbox)
     }
 
     /// Starts the thread of a pipe.
@@ -143,18 +153,24 @@ impl Crew {
         self.left.reserve(1)?;
         outbox.cut_short(command, ending)?;
         if let Some(at) = self.jobs.iter().position(|job| job.command == command) {
-            let Job { child, stop, .. } = self.jobs.remove(at);
-            stop.store(true, Ordering::SeqCst);
-            self.left.push(child)?;
+            let job = self.jobs.remove(at);
+            self.leave(job)?;
         }
+        Ok(())
+    }
+
+    /// Leaves a process: its pipes are closed after their next reads.
+    fn leave(&mut self, job: Job) -> Result<(), AllocError> {
+        let Job { child, stop, .. } = job;
+        stop.store(true, Ordering::SeqCst);
+        self.left.push(child)?;
         Ok(())
     }
 
     /// Leaves all processes, whose session was lost: their pipes are closed after their next reads.
     pub fn leave_all(&mut self, alloc: Global) -> Result<(), AllocError> {
-        for Job { child, stop, .. } in mem::replace(&mut self.jobs, Vec::new(alloc)) {
-            stop.store(true, Ordering::SeqCst);
-            self.left.push(child)?;
+        for job in mem::replace(&mut self.jobs, Vec::new(alloc)) {
+            self.leave(job)?;
         }
         Ok(())
     }
@@ -187,9 +203,7 @@ impl Crew {
         };
         if at < self.jobs.len() {
             let Job { command, .. } = self.jobs.remove(at);
-            push_header(alloc, outbox, command, exit_line(alloc, code)?.as_str())?;
-            let ending = Ending::Code(code);
-            outbox.push(Item::End { command, ending })?;
+            outbox.close(alloc, command, code)?;
         }
         Ok(())
     }
@@ -234,21 +248,4 @@ where
     command.stdout(Stdio::piped());
     command.stderr(Stdio::piped());
     command.spawn(rt).ok()
-}
-
-/// Puts a line of headers into the outbox.
-fn push_header(
-    alloc: Global,
-    outbox: &mut Outbox,
-    command: u64,
-    line: &str,
-) -> Result<(), AllocError> {
-    let mut texts = PipeTexts::new(alloc, Letter::H);
-    for said in texts.take(alloc, line.as_bytes())? {
-        outbox.push(Item::Text { command, said })?;
-    }
-    if let Some(said) = texts.last()? {
-        outbox.push(Item::Text { command, said })?;
-    }
-    Ok(())
 }

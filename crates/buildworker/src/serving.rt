@@ -56,10 +56,10 @@ impl Work {
         K: MaskKeys + Drop,
         R: Wait + Threads + Processes<Started = SystemProcess> + Copy + Send + Sync + 'static,
     {
-        if let Err(left) = self.begin(alloc, link, attached) {
+        let mut arena = Bump::new(alloc);
+        if let Err(left) = self.begin(rt, alloc, &mut arena, link, attached) {
             return left;
         }
-        let mut arena = Bump::new(alloc);
         for _ in rt.forever() {
             if let Err(left) = self.step(rt, alloc, &mut arena, link) {
                 return left;
@@ -68,25 +68,33 @@ impl Work {
         unreachable!()
     }
 
-    /// Goes on with the session, or begins anew.
-    fn begin<S, K>(
+    /// Goes on with the session, or begins anew. It listens after each request that is sent again, so
+    /// that answers count although the connection should not last until the end of them.
+    fn begin<S, K, R>(
         &mut self,
+        rt: &R,
         alloc: Global,
+        arena: &mut Bump,
         link: &mut WorkerLink<S, K>,
         attached: Attached,
     ) -> Result<(), Left>
     where
         S: Read + Write + Drop,
         K: MaskKeys + Drop,
+        R: Wait + Threads + Processes<Started = SystemProcess> + Copy + Send + Sync + 'static,
     {
         let resumed = attached == Attached::Resumed;
         if !resumed && self.crew.leave_all(alloc).is_err() {
             return Err(Left::NoMemory);
         }
-        match begin(alloc, resumed, &mut self.worker, &mut self.outbox) {
-            Ok(requests) => send(alloc, link, requests.as_slice()),
-            Err(_) => Err(Left::NoMemory),
+        let Ok(requests) = begin(alloc, resumed, &mut self.worker, &mut self.outbox) else {
+            return Err(Left::NoMemory);
+        };
+        for request in requests {
+            send(alloc, link, &[request])?;
+            self.hear(rt, alloc, arena, link)?;
         }
+        Ok(())
     }
 
     /// Tells what waits first; or else takes what the commands tell; or else hears the master.

@@ -4,13 +4,15 @@ mod master;
 mod rows;
 mod words;
 
+use crate::patient::Patient;
 use crate::run::work_run;
 use master::Master;
-use std::alloc::AllocGlobal;
+use std::alloc::{AllocGlobal, Global};
 use std::net::{Net, SocketAddr, TcpListener, TcpStream};
 use std::process::{Processes, SystemProcess};
 use std::random::RandomSource;
-use std::sync::Wait;
+use std::sync::atomic::AtomicBool;
+use std::sync::{Arc, Wait};
 use std::test::Fail;
 use std::thread;
 use std::thread::Threads;
@@ -24,6 +26,16 @@ fn dial<R: Net<Stream = TcpStream>>(rt: &R, address: SocketAddr) -> Option<TcpSt
         .set_read_timeout(Some(Duration::from_millis(5)))
         .ok()?;
     Some(stream)
+}
+
+/// The master's end of a stream, whose reads wait for 20 seconds at the most.
+fn waiting(alloc: Global, stream: TcpStream) -> Option<Patient<TcpStream>> {
+    let wait = Duration::from_millis(20_000);
+    if stream.set_nodelay(true).is_err() || stream.set_read_timeout(Some(wait)).is_err() {
+        return None;
+    }
+    let is_patient = Arc::new(alloc, AtomicBool::new(false)).ok()?;
+    Some(Patient::new(stream, is_patient))
 }
 
 /// Lets a worker work for the master that the script is, and answers what the worker's status was.

@@ -3,15 +3,13 @@
 
 ghost use Rattle.std.specs.Prelude.{◌<◌, ◌^◌};
 
+use super::waiting;
 use crate::patient::Patient;
 use bm_lines::{Letter, Text};
 use bm_msg::{Field, Message, Numbered, Request, read, write_answer, write_request};
 use bm_value::{Items, Pair, Pairs, Value, decode_whole};
 use std::alloc::Global;
 use std::net::TcpStream;
-use std::sync::Arc;
-use std::sync::atomic::AtomicBool;
-use std::time::Duration;
 use tungstenite::{Message as Frame, NoMask, WebSocket};
 
 /// The most messages that a script waits for.
@@ -43,7 +41,8 @@ pub struct Master {
 impl Master {
     /// Logs the worker in.
     pub fn accept(alloc: Global, stream: TcpStream) -> Option<Master> {
-        let mut master = Master::over(alloc, agreed(alloc, stream)?);
+        let socket = tungstenite::accept(alloc, waiting(alloc, stream)?).ok()?;
+        let mut master = Master::over(alloc, socket);
         master.log_in()?;
         Some(master)
     }
@@ -205,16 +204,6 @@ impl Master {
     pub fn has_said(&self, text: &str) -> bool {
         self.said.as_str().contains(text)
     }
-}
-
-/// A WebSocket over a stream whose reads wait for 20 seconds at the most.
-fn agreed(alloc: Global, stream: TcpStream) -> Option<Socket> {
-    let wait = Duration::from_millis(20_000);
-    if stream.set_nodelay(true).is_err() || stream.set_read_timeout(Some(wait)).is_err() {
-        return None;
-    }
-    let is_patient = Arc::new(alloc, AtomicBool::new(false)).ok()?;
-    tungstenite::accept(alloc, Patient::new(stream, is_patient)).ok()
 }
 
 fn is_login(message: &Message) -> bool {
