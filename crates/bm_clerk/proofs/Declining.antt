@@ -1,0 +1,17 @@
+-- A lane that is up takes no second link.
+use Rattle.std.proofs.Common.{◌≡◌, ℕ, true, List, Option, Result}
+use Rattle.bm_session.specs.Trace.{is_up, was_taken}
+use Rattle.bm_lane.specs.Ends.{Heard}
+use Rattle.bm_link.proofs.Unharmed.{IsUnharmed, unharmed}
+use Rattle.bm_link.specs.declared.attaching.Attached.{Attached}
+use Rattle.bm_link.specs.declared.fault.LinkFault.{LinkFault}
+use Rattle.bm_link.specs.Attaching.{TakesUpFor}
+use Rattle.bm_link.specs.Carries.{Carried}
+use Rattle.bm_link.specs.Link.{LinkState}
+
+module _ {S : Type 0} where
+  pub declined : (contents : S → Option (List ℕ)) (link : LinkState S) (lane : Heard) (carry : Carried) (r : Result Attached LinkFault)
+      (link2 : LinkState S) (lane2 : Heard) (carry2 : Carried)
+      → is_up lane.trace ≡ true → was_taken lane2.trace ≡ true → TakesUpFor contents link.login link lane carry r link2 lane2 carry2
+      → IsUnharmed lane carry r lane2 carry2
+  declined contents link lane carry r link2 lane2 carry2 up taken h = unharmed contents link.login link lane carry r link2 lane2 carry2 up taken h

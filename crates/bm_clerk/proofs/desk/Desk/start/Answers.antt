@@ -1,0 +1,13 @@
+use Rattle.std.proofs.Common.{rules}
+use Rattle.bm_clerk.proofs.Serving.{started}
+use Rattle.bm_clerk.proofs.desk.Desk.start.Goals as goal
+
+pub returns : goal.returns
+returns g c =
+    rw (← c.self.view_is) (
+    started g.S.Write.contents c.args.argv.now
+    (record { lane = c.self.inside.reader; carry = c.self.inside.carry; link = c.self.inside.link; tenure = c.self.inside.tenure })
+    (record { lane = c.start-answer.new.reader; carry = c.start-answer.new.carry; link = c.settle.new.link; tenure = c.settle.new.tenure })
+    c.in-Some.link c.start-answer.new.self c.start-answer.result c.told_start.result
+    c.in-Some.is c.start-answer.ensures.started c.settle.ensures.link c.settle.ensures.tenure (search rules)
+    )

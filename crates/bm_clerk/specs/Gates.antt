@@ -1,0 +1,14 @@
+-- What the gate of a pool of writers answers.
+use Rattle.std.specs.Prelude.{ℕ, Bool, true, false, nat_le}
+use Rattle.bm_lane.specs.declared.pool.Pass.{Pass}
+use Rattle.bm_lane.specs.declared.pool.Pass.TheVariants.{Go, Skip, Stop}
+
+-- a worker ends once the gate is stopped; else it goes for the lane that it claimed, and for no other
+abbrev pub pass_of : Bool → Bool → Pass
+pass_of true claimed = Stop
+pass_of false true = Go
+pass_of false false = Skip
+
+-- as many lanes in a row had nothing as there are
+abbrev pub is_whole_round : ℕ → ℕ → Bool
+is_whole_round idle lanes = nat_le lanes idle

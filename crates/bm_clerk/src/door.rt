@@ -1,0 +1,202 @@
+//! The door of a lane's clerk: what the clerk is told through it, and what it answers.
+
+ghost use Rattle.std.specs.Prelude.{◌≡◌, IfOk, IfSome};
+
+use bm_board::Words;
+use bm_link::MasterLink;
+use crossbeam_channel::{Receiver, RecvTimeoutError, Sender, bounded};
+use std::alloc::{AllocError, Global};
+use std::marker::Model;
+use std::sync::atomic::{AtomicBool, Ordering};
+use std::sync::{Arc, Wait};
+use std::time::{Clock, Duration};
+
+/// How many orders a door holds before those who order have to wait.
+const ROOM: usize = 64;
+
+/// How long an answer is waited for before the door is looked at again, in milliseconds.
+const TICK: u64 = 10;
+
+/// What a lane's clerk is told.
+#[derive(Drop)]
+pub enum Order<S> {
+    /// A link of the lane's worker has logged in.
+    Attach(MasterLink<S>),
+    /// Start a command with these words, and answer what came of it.
+    Start(Words, Sender<Told, Global>),
+    /// Interrupt this command, and answer what came of it.
+    Interrupt(u64, Sender<Told, Global>),
+    /// The end of a command that was started was seen by its build.
+    Seen,
+    /// Answer once all that happened to the lane so far was told.
+    Settle(Sender<(), Global>),
+    /// Ask the worker to shut down: from then on its session isn't resumed.
+    ShutDown,
+    /// The worker's process has ended: its session isn't resumed.
+    Ended,
+    /// Give the session up, and hand the lane's end back.
+    Leave,
+}
+
+/// What came of an order to start or to interrupt a command.
+#[derive(Clone, Copy, Debug, PartialEq, Eq)]
+pub enum Told {
+    /// The command with this number was started.
+    Started(u64),
+    /// The command was interrupted.
+    Interrupted,
+    /// Nothing was done, and it may be tried again: the lane is cut and may be resumed, or it is
+    /// busy.
+    Later,
+    /// The lane was given up, or refuses the order.
+    Refused,
+    /// The lane has had as many events as it may.
+    Full,
+}
+
+/// The end of a door for those who order. Contracts see the number of its lane.
+#[derive(Drop)]
+pub struct Door<S> {
+    lane: u64,
+    sender: Sender<Order<S>, Global>,
+    /// Set once the clerk has left.
+    is_shut: Arc<AtomicBool, Global>,
+}
+
+impl<S> Model for Door<S> {
+    ghost use Rattle.std.specs.Prelude.{ℕ};
+
+    ghost Value = { ℕ };
+
+    ghost view = { λ d. d.lane };
+}
+
+/// The end of a door for the lane's clerk. Contracts see the number of its lane.
+#[derive(Drop)]
+pub struct Inbox<S> {
+    lane: u64,
+    receiver: Receiver<Order<S>, Global>,
+    is_shut: Arc<AtomicBool, Global>,
+}
+
+impl<S> Model for Inbox<S> {
+    ghost use Rattle.std.specs.Prelude.{ℕ};
+
+    ghost Value = { ℕ };
+
+    ghost view = { λ i. i.lane };
+}
+
+/// The door of a lane's clerk, by both its ends.
+pub fn open_door<S: Drop>(alloc: Global, lane: u64) -> Result<(Door<S>, Inbox<S>), AllocError>
+    ensures door { IfOk result (λ ends. ends.0 ≡ lane) }
+    ensures inbox { IfOk result (λ ends. ends.1 ≡ lane) }
+{
+    let (sender, receiver) = bounded(alloc, ROOM)?;
+    let is_shut = Arc::new(alloc, AtomicBool::new(false))?;
+    let door = Door {
+        lane,
+        sender,
+        is_shut: Arc::try_clone(&is_shut)?,
+    };
+    let inbox = Inbox {
+        lane,
+        receiver,
+        is_shut,
+    };
+    Ok((door, inbox))
+}
+
+impl<S: Drop> Door<S> {
+    /// Another end of the same door.
+    pub fn copy(&self) -> Result<Door<S>, AllocError>
+        ensures { IfOk result (λ door. door ≡ self.now) }
+    {
+        Ok(Door {
+            lane: self.lane,
+            sender: self.sender.clone()?,
+            is_shut: Arc::try_clone(&self.is_shut)?,
+        })
+    }
+
+    /// The number of its lane.
+    pub fn lane(&self) -> u64
+        ensures { result ≡ self.now }
+    {
+        self.lane
+    }
+
+    /// Tells the clerk, once its door has room. It answers false where the clerk has left.
+    pub fn tell<R: Wait>(&self, rt: &R, order: Order<S>) -> bool {
+        !self.is_shut() && self.sender.send(rt, order).is_ok()
+    }
+
+    /// What the clerk answers to an order that it was told. None where it has left before: an order
+    /// that nobody takes stays in the door, and what would answer it with it.
+    pub(crate) fn answer<A: Drop, R: Wait + Clock>(
+        &self,
+        rt: &R,
+        told: &Receiver<A, Global>,
+    ) -> Option<A> {
+        for _ in rt.forever() {
+            match told.recv_timeout(rt, Duration::from_millis(TICK)) {
+                Ok(answer) => return Some(answer),
+                Err(RecvTimeoutError::Timeout) if !self.is_shut() => {}
+                Err(_) => return None,
+            }
+        }
+        unreachable!()
+    }
+
+    fn is_shut(&self) -> bool {
+        self.is_shut.load(Ordering::SeqCst)
+    }
+}
+
+/// What came through a door.
+#[derive(Drop)]
+pub(crate) enum Next<S> {
+    Order(Order<S>),
+    Nothing,
+    /// Nobody is left who could order.
+    Left,
+}
+
+impl<S: Drop> Inbox<S> {
+    /// The number of its lane.
+    pub fn lane(&self) -> u64
+        ensures { result ≡ self.now }
+    {
+        self.lane
+    }
+
+    /// The clerk leaves: from now on nobody who orders waits for it.
+    pub(crate) fn shut(&self) {
+        self.is_shut.store(true, Ordering::SeqCst);
+    }
+
+    /// The next order, however long it takes.
+    pub(crate) fn wait<R: Wait>(&self, rt: &R) -> Next<S> {
+        match self.receiver.recv(rt) {
+            Ok(order) => Next::Order(order),
+            Err(_) => Next::Left,
+        }
+    }
+
+    /// The next order, if it comes within this time.
+    pub(crate) fn wait_for<R: Wait + Clock>(&self, rt: &R, most: Duration) -> Next<S> {
+        match self.receiver.recv_timeout(rt, most) {
+            Ok(order) => Next::Order(order),
+            Err(RecvTimeoutError::Timeout) => Next::Nothing,
+            Err(RecvTimeoutError::Disconnected) => Next::Left,
+        }
+    }
+
+    /// The next order, if there is one.
+    pub(crate) fn look<R: Wait>(&self, rt: &R) -> Next<S> {
+        match self.receiver.try_recv(rt) {
+            Ok(order) => Next::Order(order),
+            Err(_) => Next::Nothing,
+        }
+    }
+}

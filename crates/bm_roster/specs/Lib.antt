@@ -1,0 +1,4 @@
+-- What a roster does to its board, to be believed.
+pub mod Roster
+-- What holds of every board of a roster, to be believed.
+pub mod Laws

@@ -1,0 +1,71 @@
+-- What a roster does to its board. On the board a build is one step, whose outcome is what the
+-- build's runner reports.
+use Rattle.std.specs.Prelude.{◌≡◌, ◌<◌, ℕ, true, false, [], ◌∷◌, Option, Some, None, Result, Ok, Err}
+use Rattle.bm_session.specs.declared.results.Results.{Results}
+use Rattle.bm_session.specs.declared.results.Results.TheVariants.{Retry}
+use Rattle.bm_board.specs.declared.plan.StepPlan.{StepPlan}
+use Rattle.bm_board.specs.declared.plan.Build.{Build}
+use Rattle.bm_board.specs.declared.job.Started.{Started}
+use Rattle.bm_board.specs.declared.refusal.BoardRefusal.{BoardRefusal}
+use Rattle.bm_board.specs.Job.{answer_of, cancel, finish, give_up, release}
+use Rattle.bm_board.specs.Board.{Standing, board_after, on_build, start, result_on}
+
+-- the step that stands for a build: a failure of it fails the build
+abbrev pub whole : StepPlan
+whole =
+    record {
+      name = [];
+      argv = [];
+      halt_on_failure = false;
+      flunk_on_failure = true;
+      always_run = false;
+    }
+
+-- what a build is on the board: its worker, its locks, and that step
+abbrev pub on_board : Build → Build
+on_board build = record { worker = build.worker; locks = build.locks; steps = whole ∷ [] }
+
+-- the worker of a build that was started
+abbrev pub worker_in : Result Started BoardRefusal → Option ℕ
+worker_in (Ok started) = Some started.worker
+worker_in (Err why) = None
+
+-- the build was started on this worker: it waited, the worker was ready and had a free slot, and
+-- each of the build's locks could be had
+pub record IsStarted (old new : Standing) (number worker : ℕ) : Type 0 where
+  pub answer : worker_in (answer_of (on_build (start old) old number)) ≡ Some worker
+  pub board : new ≡ board_after old number (on_build (start old) old number)
+
+-- the board once a build's step ended so
+abbrev pub after_step : Standing → ℕ → Results → Standing
+after_step b number result = board_after b number (on_build (finish result) b number)
+
+-- the board once a build gave back what it holds
+abbrev pub after_release : Standing → ℕ → Standing
+after_release b number = board_after b number (on_build release b number)
+
+-- the board once a build's runner has reported
+abbrev pub after_end : Standing → ℕ → Results → Standing
+after_end b number result = after_release (after_step b number result) number
+
+-- the board once a build was started that has no viewer
+abbrev pub after_failure : Standing → ℕ → Standing
+after_failure b number = after_end (board_after b number (on_build (start b) b number)) number Retry
+
+-- the board once a build was cancelled
+abbrev pub after_cancel : Standing → ℕ → Standing
+after_cancel b number = board_after b number (on_build cancel b number)
+
+-- the board once a build that waited was given up
+abbrev pub after_giving_up : Standing → ℕ → Standing
+after_giving_up b number = board_after b number (on_build give_up b number)
+
+-- the build of this number has its result
+abbrev pub HasResult : Standing → ℕ → Type 0
+HasResult b number = (r : Results) × (result_on b number ≡ Ok (Some r))
+
+-- every build has its result: no build has this number, and each before it has its result
+pub record IsOver (b : Standing) : Type 0 where
+  pub number : ℕ
+  pub none : (why : BoardRefusal) × (result_on b number ≡ Err why)
+  pub each : (k : ℕ) → k < number → HasResult b k

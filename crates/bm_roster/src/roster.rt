@@ -1,0 +1,366 @@
+//! The roster itself.
+ghost use Rattle.std.specs.Prelude.{◌≡◌, ◌⊎◌, ◌<◌, ◌≤◌, ℕ, All, IfOk, OnOk, OnErr, IfErr, IfSome, IfNone, length, true, Ok, Some};
+ghost use Rattle.bm_roster.specs.Roster.{IsOver, IsStarted, after_end, after_cancel, after_failure, after_giving_up, on_board};
+ghost use Rattle.bm_board.specs.Board.{add_refusal, opening, result_on, with_build, with_ready};
+
+use crate::bench::Bench;
+use crate::commission::Commission;
+use bm_board::{Board, BoardRefusal, Build, StepPlan, StepPlans, Words};
+use bm_lane::{Viewer, Yard};
+use bm_lines::Text;
+use bm_session::Results;
+use std::alloc::{AllocError, Global};
+use std::marker::Model;
+
+/// A build that waits.
+#[derive(Clone, Copy)]
+struct Waiting {
+    number: u64,
+    worker: usize,
+}
+
+/// What a worker's builds want of it, and whether it takes builds.
+#[derive(Clone, Copy)]
+struct Demand {
+    /// How many builds wait for it.
+    waiting: u64,
+    is_ready: bool,
+}
+
+/// What a cancel met.
+#[derive(Clone, Copy, Debug, PartialEq, Eq)]
+pub enum Cancelled {
+    /// The build waited, and has ended CANCELLED.
+    Waiting,
+    /// The build runs: its runner is to be told, and it will count as CANCELLED.
+    Running,
+    /// There is no such build, or it had ended: nothing changed.
+    Nothing,
+}
+
+/// The builds by number, the workers and the locks, and the viewers that no build has. Contracts
+/// see its board.
+///
+/// On the board a build is one step, that of its runner, whose outcome is what the runner reports.
+#[derive(Drop)]
+pub struct Roster<Y: Yard> {
+    board: Board,
+    benches: Vec<Bench<Y>>,
+    // The builds that wait, in the order of their numbers.
+    waiting: Vec<Waiting>,
+    // By workers.
+    demands: Vec<Demand>,
+    builds: u64,
+    is_short: bool,
+}
+
+impl<Y: Yard> Model for Roster<Y> {
+    ghost use Rattle.bm_board.specs.Board.{Standing};
+
+    ghost Value = { Standing };
+
+    ghost view = { λ r. r.board };
+}
+
+// What a build is on the board: its worker, its locks, and one step.
+fn as_one_step(alloc: Global, build: &Build) -> Result<Build, AllocError>
+    ensures { IfOk result (λ b. b ≡ on_board build.now) }
+{
+    let step = StepPlan {
+        name: Text::from_str(alloc, "")?,
+        argv: Words::new(alloc),
+        halt_on_failure: false,
+        flunk_on_failure: true,
+        always_run: false,
+    };
+    let mut steps = Vec::with_capacity(alloc, 1)?;
+    steps.push_reserved(step);
+    Ok(Build {
+        worker: build.worker,
+        locks: build.locks.copy()?,
+        steps: StepPlans::from_vec(steps),
+    })
+}
+
+impl<Y: Yard> Roster<Y> {
+    /// A roster without builds. Worker w has the slots and the bench at place w, and isn't ready.
+    pub fn new(
+        alloc: Global,
+        slots: &[u8],
+        lock_max: &[u32],
+        benches: Vec<Bench<Y>>,
+    ) -> Result<Roster<Y>, AllocError>
+        requires slots { All (λ n. (1 ≤ n) × (n ≤ 4)) slots.now }
+        requires maxima { All (λ n. 1 ≤ n) lock_max.now }
+        ensures { IfOk result (λ r. r ≡ opening slots.now lock_max.now) }
+    {
+        let demand = Demand {
+            waiting: 0,
+            is_ready: false,
+        };
+        Ok(Roster {
+            board: Board::new(alloc, slots, lock_max)?,
+            benches,
+            waiting: Vec::new(alloc),
+            demands: vec![in alloc; demand; slots.len()]?,
+            builds: 0,
+            is_short: false,
+        })
+    }
+
+    /// Adds a build, which waits. Its number is how many were added before.
+    /// Errors: those of the board. Nothing has changed then.
+    pub fn add(&mut self, alloc: Global, build: &Build) -> Result<u64, BoardRefusal>
+        ensures number { IfOk result (λ n. n ≡ length self.old.jobs) }
+        ensures added { OnOk result (self.new ≡ with_build self.old (on_board build.now)) }
+        ensures refused { IfErr result (λ r. (add_refusal self.old (on_board build.now) ≡ Some r)
+            ⊎ (r ≡ BoardRefusal.Mem)) }
+        ensures unchanged { OnErr result (self.new ≡ self.old) }
+    {
+        if self.waiting.reserve(1).is_err() {
+            return Err(BoardRefusal::Mem);
+        }
+        let Ok(one) = as_one_step(alloc, build) else {
+            return Err(BoardRefusal::Mem);
+        };
+        match self.board.add_build(one) {
+            Ok(number) => {
+                self.waiting.push_reserved(Waiting {
+                    number,
+                    worker: build.worker,
+                });
+                if let Some(demand) = self.demands.get_mut(build.worker) {
+                    demand.waiting = demand.waiting.saturating_add(1);
+                }
+                self.builds = number.saturating_add(1);
+                Ok(number)
+            }
+            Err((_, why)) => Err(why),
+        }
+    }
+
+    /// How many builds there are.
+    pub fn builds(&self) -> u64 {
+        self.builds
+    }
+
+    /// How many workers there are.
+    pub fn workers(&self) -> usize
+        ensures { result ≡ length self.now.workers }
+    {
+        self.board.workers()
+    }
+
+    /// Says whether the worker takes builds. A worker that isn't there is passed over.
+    pub fn set_ready(&mut self, worker: usize, ready: bool)
+        ensures there { worker < length self.old.workers → self.new ≡ with_ready self.old worker ready }
+        ensures nowhere { length self.old.workers ≤ worker → self.new ≡ self.old }
+    {
+        if worker < self.board.workers() {
+            self.board.set_ready(worker, ready);
+        }
+        if let Some(demand) = self.demands.get_mut(worker) {
+            demand.is_ready = ready;
+        }
+    }
+
+    /// Whether a build waits for the worker.
+    pub fn is_wanted(&self, worker: usize) -> bool {
+        match self.demands.get(worker) {
+            Some(demand) => demand.waiting > 0,
+            None => false,
+        }
+    }
+
+    /// Whether a build of the worker runs.
+    pub fn has_build(&self, worker: usize) -> bool {
+        match self.benches.get(worker) {
+            Some(bench) => !bench.is_whole(),
+            None => false,
+        }
+    }
+
+    // Whether the worker takes one more build.
+    fn is_open(&self, worker: usize) -> bool {
+        match (self.demands.get(worker), self.benches.get(worker)) {
+            (Some(demand), Some(bench)) => demand.is_ready && bench.has_viewer(),
+            _ => false,
+        }
+    }
+
+    // Whether a build waits for a worker that takes one more.
+    fn has_opening(&self) -> bool {
+        for worker in 0..self.demands.len() {
+            if self.is_wanted(worker) && self.is_open(worker) {
+                return true;
+            }
+        }
+        false
+    }
+
+    // Takes a build out of those that wait.
+    fn take_out(&mut self, place: usize)
+        ensures { self.new ≡ self.old }
+    {
+        if place >= self.waiting.len() {
+            return;
+        }
+        let worker = self.waiting.remove(place).worker;
+        if let Some(demand) = self.demands.get_mut(worker) {
+            demand.waiting = demand.waiting.saturating_sub(1);
+        }
+    }
+
+    // A viewer of the worker's lane.
+    fn take_viewer(&mut self, worker: usize) -> Option<Viewer<Y>>
+        ensures own { IfSome result (λ v. v.lane ≡ worker) }
+        ensures same { self.new ≡ self.old }
+    {
+        let viewer = self.benches.get_mut(worker)?.take()?;
+        if viewer.lane() == worker as u64 {
+            Some(viewer)
+        } else {
+            None
+        }
+    }
+
+    // Starts a build that waits, where its worker is ready and has a free slot and its locks may be
+    // had. None where no viewer of its worker's lane is left, which never comes: the build has then
+    // ended RETRY.
+    // Errors: those of the board. Nothing has changed then.
+    fn start(&mut self, number: u64) -> Result<Option<Commission<Y>>, BoardRefusal>
+        ensures started { IfOk result (λ o. IfSome o
+            (λ c. (c.number ≡ number) × IsStarted self.old self.new number c.worker)) }
+        ensures failed { IfOk result (λ o. IfNone o (self.new ≡ after_failure self.old number)) }
+        ensures unchanged { OnErr result (self.new ≡ self.old) }
+    {
+        let started = self.board.try_start(number)?;
+        let worker = started.worker;
+        match self.take_viewer(worker) {
+            Some(viewer) => Ok(Some(Commission {
+                number,
+                worker,
+                viewer,
+            })),
+            None => {
+                self.finish(number, Results::Retry);
+                Ok(None)
+            }
+        }
+    }
+
+    /// Starts the first of the waiting builds that can be started now. It is to run, and to come back
+    /// by `end`. Builds whose worker takes none are passed over.
+    pub fn next(&mut self) -> Option<Commission<Y>>
+        ensures started { IfSome result (λ c. IsStarted self.old self.new c.number c.worker) }
+        ensures nothing { IfNone result ((self.new ≡ self.old)
+            ⊎ ((number : ℕ) × (self.new ≡ after_failure self.old number))) }
+    {
+        self.is_short = false;
+        if !self.has_opening() {
+            return None;
+        }
+        for place in 0..self.waiting.len() {
+            let one = *self.waiting.get(place)?;
+            if !self.is_open(one.worker) {
+                continue;
+            }
+            match self.start(one.number) {
+                Ok(commission) => {
+                    self.take_out(place);
+                    return commission;
+                }
+                Err(why) => {
+                    if why == BoardRefusal::Mem {
+                        self.is_short = true;
+                    }
+                }
+            }
+        }
+        None
+    }
+
+    /// Whether memory was wanting for the start of a build, so that it is to be tried again.
+    pub fn is_short(&self) -> bool {
+        self.is_short
+    }
+
+    // The build's runner has reported: its result is kept, and it gives its slot and its locks back.
+    fn finish(&mut self, number: u64, reported: Results)
+        ensures { self.new ≡ after_end self.old number reported }
+    {
+        let _ = self.board.step_done(number, reported);
+        let _ = self.board.release(number);
+    }
+
+    /// A build that was started comes back with what its runner reports, which is kept as its result;
+    /// or CANCELLED, where it was cancelled meanwhile. It gives its slot and its locks back, and its
+    /// viewer goes back to the bench of its lane. The answer is whether it had a place there.
+    pub fn end(&mut self, number: u64, reported: Results, viewer: Viewer<Y>) -> bool
+        ensures { self.new ≡ after_end self.old number reported }
+    {
+        self.finish(number, reported);
+        match self.benches.get_mut(viewer.lane() as usize) {
+            Some(bench) => bench.give(viewer).is_ok(),
+            None => false,
+        }
+    }
+
+    /// Cancels a build.
+    pub fn cancel(&mut self, number: u64) -> Cancelled
+        ensures { self.new ≡ after_cancel self.old number }
+    {
+        match self.board.cancel(number) {
+            Ok(true) => Cancelled::Running,
+            Ok(false) => {
+                if let Some(place) = self.waiting.iter().position(|one| one.number == number) {
+                    self.take_out(place);
+                }
+                Cancelled::Waiting
+            }
+            Err(_) => Cancelled::Nothing,
+        }
+    }
+
+    /// The first build that waits for the worker is given up: it ends RETRY. The answer is its
+    /// number, None where no build waits for the worker.
+    pub fn give_up_one(&mut self, worker: usize) -> Option<u64>
+        ensures given_up { IfSome result (λ n. self.new ≡ after_giving_up self.old n) }
+        ensures unchanged { IfNone result (self.new ≡ self.old) }
+    {
+        let place = self.waiting.iter().position(|one| one.worker == worker)?;
+        let number = self.waiting.get(place)?.number;
+        self.take_out(place);
+        let _ = self.board.give_up(number);
+        Some(number)
+    }
+
+    /// The result of a build, None before its end.
+    pub fn result(&self, number: u64) -> Option<Results>
+        ensures { IfSome result (λ r. result_on self.now number ≡ Ok (Some r)) }
+    {
+        match self.board.result(number) {
+            Ok(result) => result,
+            Err(_) => None,
+        }
+    }
+
+    /// Whether every build has its result.
+    pub fn is_over(&self) -> bool
+        ensures { result ≡ true → IsOver self.now }
+    {
+        for number in 0..u64::MAX {
+            match self.board.result(number) {
+                Ok(Some(_)) => {}
+                Ok(None) => return false,
+                Err(_) => return true,
+            }
+        }
+        false
+    }
+
+    /// The benches, by their workers' places, once no build runs.
+    pub fn into_benches(self) -> Vec<Bench<Y>> {
+        self.benches
+    }
+}

@@ -1,0 +1,10 @@
+-- The whole meaning of these rules, to be believed.
+pub mod Tenure
+pub mod Post
+pub mod Cancel
+pub mod Exit
+pub mod Pace
+pub mod OneLine
+pub mod Reasons
+pub mod Report
+pub mod Remark

@@ -1,0 +1,31 @@
+//! What a build master decides beside its threads and sockets: when a lane is given up, when a worker
+//! takes builds and its process is started or stopped, what a line of its input asks for, how it ends,
+//! and what it tells its operator.
+#![tactic(auto)]
+
+mod cancel;
+mod exit;
+mod log_id;
+mod names;
+mod pace;
+mod post;
+mod reasons;
+mod remark;
+mod report;
+mod tenure;
+mod worker_event;
+
+pub use cancel::read_cancel;
+pub use exit::{REFUSED, status};
+pub use log_id::LogId;
+pub use names::one_line;
+pub use pace::Pace;
+pub use post::Post;
+pub use reasons::{LoginRefusal, LossCause};
+pub use remark::Remark;
+pub use report::Report;
+pub use tenure::Tenure;
+pub use worker_event::{Duty, ProcessDuty, WorkerEvent};
+
+#[cfg(test)]
+mod tests;

@@ -1,0 +1,100 @@
+//! Why a worker is lost or a login refused.
+
+ghost use Rattle.std.specs.Prelude.{◌≡◌};
+ghost use Rattle.bm_rules.specs.Reasons.{loss_text, refusal_text};
+
+/// Why a worker's connection was cut or its session given up.
+#[derive(Clone, Copy, Debug, PartialEq, Eq)]
+pub enum LossCause {
+    /// The connection ended.
+    Closed,
+    /// Its stream failed.
+    Stream,
+    /// What came is no message of the protocol.
+    BadMessage,
+    /// The lane has had as many events as it may, or the numbers of requests are used up.
+    Full,
+    /// Memory was wanting.
+    Memory,
+    /// The session was not resumed in time.
+    Expired,
+    /// The worker was told to shut down.
+    Dismissed,
+    /// The worker's process ended.
+    Ended,
+    /// The worker logged in with another session.
+    Replaced,
+    /// The master ends.
+    Closing,
+}
+
+impl LossCause {
+    /// Its text.
+    pub fn text(self) -> &'static str
+        ensures { result.now ≡ loss_text self }
+    {
+        match self {
+            LossCause::Closed => "closed",
+            LossCause::Stream => "stream failed",
+            LossCause::BadMessage => "bad message",
+            LossCause::Full => "full",
+            LossCause::Memory => "out of memory",
+            LossCause::Expired => "not resumed in time",
+            LossCause::Dismissed => "told to shut down",
+            LossCause::Ended => "its process ended",
+            LossCause::Replaced => "another session",
+            LossCause::Closing => "the master ends",
+        }
+    }
+}
+
+/// Why a connection isn't taken up as a worker's.
+#[derive(Clone, Copy, Debug, PartialEq, Eq)]
+pub enum LoginRefusal {
+    /// The user or the password is wrong.
+    BadLogin,
+    /// The worker is logged in by another connection.
+    AlreadyUp,
+    /// The lane's queue had no place for the end of an earlier session.
+    Busy,
+    /// The lane has had as many events as it may.
+    Full,
+    /// What came is no login.
+    BadMessage,
+    /// The connection ended before its login.
+    Closed,
+    /// Its stream failed before its login.
+    Stream,
+    /// No login came in time.
+    Late,
+    /// As many connections as may be have not logged in yet.
+    Crowded,
+    /// No thread could be started for it.
+    NoThread,
+    /// Memory was wanting.
+    Memory,
+    /// The master ends.
+    Closing,
+}
+
+impl LoginRefusal {
+    /// Its text.
+    pub fn text(self) -> &'static str
+        ensures { result.now ≡ refusal_text self }
+    {
+        match self {
+            LoginRefusal::BadLogin => "bad login",
+            LoginRefusal::AlreadyUp => "already up",
+            LoginRefusal::Busy => "busy",
+            LoginRefusal::Full => "full",
+            LoginRefusal::BadMessage => "bad message",
+            LoginRefusal::Closed => "closed",
+            LoginRefusal::Stream => "stream failed",
+            LoginRefusal::Late => "no login in time",
+            LoginRefusal::Crowded => "too many connections",
+            LoginRefusal::NoThread => "no thread",
+            LoginRefusal::Memory => "out of memory",
+            LoginRefusal::Closing => "the master ends",
+        }
+    }
+}

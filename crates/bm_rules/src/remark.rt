@@ -1,0 +1,199 @@
+//! The lines of a build master's standard error.
+
+ghost use Rattle.std.specs.Prelude.{◌≡◌, ◌++◌, IfOk, string_bytes};
+ghost use Rattle.bm_rules.specs.OneLine.{one_line};
+ghost use Rattle.bm_rules.specs.Remark.{build_line, lost_line, remark_line};
+
+use crate::log_id::LogId;
+use crate::names::one_line;
+use crate::reasons::{LoginRefusal, LossCause};
+use bm_session::Results;
+use std::alloc::{AllocError, Global};
+use std::io;
+use std::io::Write;
+
+/// A line of a build master's standard error: something that its operator asks about. Names are shown on
+/// one line (`one_line`). Nothing here has room for a password.
+#[derive(Clone, Copy, Debug)]
+pub enum Remark<'a> {
+    /// A worker logged in, and a session began: `worker NAME logged in`.
+    LoggedIn {
+        worker: &'a str,
+    },
+    /// A worker whose connection was cut is back, and its session goes on: `worker NAME resumed`.
+    Resumed {
+        worker: &'a str,
+    },
+    /// A worker's connection was cut, and its session may be resumed: `worker NAME cut, CAUSE`.
+    Cut {
+        worker: &'a str,
+        cause: LossCause,
+    },
+    /// A worker's session ended, and each command that ran on it with it: `worker NAME lost, CAUSE`.
+    Lost {
+        worker: &'a str,
+        cause: LossCause,
+    },
+    /// A worker was told to shut down: `worker NAME told to shut down`.
+    Dismissed {
+        worker: &'a str,
+    },
+    /// A worker's lane takes no connection and no command any more: `worker NAME full`.
+    Filled {
+        worker: &'a str,
+    },
+    /// A connection that gave a worker's name was not taken up: `login refused, WHY: NAME`. The name may be
+    /// no worker's.
+    LoginRefused {
+        name: &'a str,
+        why: LoginRefusal,
+    },
+    /// A connection that gave no name was not taken up: `connection refused, WHY`.
+    ConnectionRefused {
+        why: LoginRefusal,
+    },
+    /// No connection could be accepted just now; it is tried again: `accepting paused`.
+    AcceptingPaused,
+    /// A build started on a worker: `build I started on NAME`.
+    BuildStarted {
+        build: u64,
+        worker: &'a str,
+    },
+    /// A build ended: `build I ended RESULT`.
+    BuildEnded {
+        build: u64,
+        result: Results,
+    },
+    /// A build is to be cancelled, as a line of standard input asked: `build I to be cancelled`.
+    BuildCancelled {
+        build: u64,
+    },
+    /// A step of a build started, and its log has this id: `build I step started, log ID: STEP`.
+    StepStarted {
+        build: u64,
+        log: LogId,
+        step: &'a str,
+    },
+    /// A step of a build could not be started: `build I step not started: STEP`.
+    StepRefused {
+        build: u64,
+        step: &'a str,
+    },
+    /// A step of a build ended: `build I step ended RESULT, log ID: STEP`.
+    StepEnded {
+        build: u64,
+        log: LogId,
+        result: Results,
+        step: &'a str,
+    },
+    /// The program of a latent worker was started: `program of NAME started`.
+    ProgramStarted {
+        worker: &'a str,
+    },
+    /// The program of a latent worker could not be started: `program of NAME not started`.
+    ProgramFailed {
+        worker: &'a str,
+    },
+    /// The program of a latent worker ended: `program of NAME ended`.
+    ProgramEnded {
+        worker: &'a str,
+    },
+}
+
+impl Remark<'_> {
+    /// The line, with its line end: the only one in it.
+    pub fn line(&self, alloc: Global) -> Result<String, AllocError>
+        ensures { IfOk result (λ s. string_bytes s ≡ remark_line self.now) }
+    {
+        match *self {
+            Remark::LoggedIn { worker } => around(alloc, "worker ", worker, " logged in\n"),
+            Remark::Resumed { worker } => around(alloc, "worker ", worker, " resumed\n"),
+            Remark::Cut { worker, cause } => with_cause(alloc, worker, " cut, ", cause),
+            Remark::Lost { worker, cause } => with_cause(alloc, worker, " lost, ", cause),
+            Remark::Dismissed { worker } => {
+                around(alloc, "worker ", worker, " told to shut down\n")
+            }
+            Remark::Filled { worker } => around(alloc, "worker ", worker, " full\n"),
+            Remark::LoginRefused { name, why } => {
+                let why = why.text();
+                let head = format!(in alloc; "login refused, {why}: ")?;
+                around(alloc, head.as_str(), name, "\n")
+            }
+            Remark::ConnectionRefused { why } => {
+                let why = why.text();
+                format!(in alloc; "connection refused, {why}\n")
+            }
+            Remark::AcceptingPaused => String::from_str(alloc, "accepting paused\n"),
+            Remark::BuildStarted { build, worker } => {
+                of_build(alloc, build, " started on ", worker)
+            }
+            Remark::BuildEnded { build, result } => {
+                let result = result.name();
+                format!(in alloc; "build {build} ended {result}\n")
+            }
+            Remark::BuildCancelled { build } => {
+                format!(in alloc; "build {build} to be cancelled\n")
+            }
+            Remark::StepStarted { build, log, step } => {
+                let id = log.number();
+                let what = format!(in alloc; " step started, log {id}: ")?;
+                of_build(alloc, build, what.as_str(), step)
+            }
+            Remark::StepRefused { build, step } => {
+                of_build(alloc, build, " step not started: ", step)
+            }
+            Remark::StepEnded {
+                build,
+                log,
+                result,
+                step,
+            } => {
+                let result = result.name();
+                let id = log.number();
+                let what = format!(in alloc; " step ended {result}, log {id}: ")?;
+                of_build(alloc, build, what.as_str(), step)
+            }
+            Remark::ProgramStarted { worker } => around(alloc, "program of ", worker, " started\n"),
+            Remark::ProgramFailed { worker } => {
+                around(alloc, "program of ", worker, " not started\n")
+            }
+            Remark::ProgramEnded { worker } => around(alloc, "program of ", worker, " ended\n"),
+        }
+    }
+
+    /// Writes the line by one `write_all`. Where memory was wanting nothing is written.
+    pub fn write<W: Write>(&self, alloc: Global, output: &mut W) -> io::Result<()> {
+        let line = self.line(alloc)?;
+        output.write_all(line.as_bytes())
+    }
+}
+
+// A name, as it is shown on one line, with what stands before and behind it.
+fn around(alloc: Global, head: &str, name: &str, tail: &str) -> Result<String, AllocError>
+    ensures { IfOk result (λ s. string_bytes s ≡ head.now ++ (one_line name.now ++ tail.now)) }
+{
+    let name = one_line(alloc, name)?;
+    format!(in alloc; "{head}{name}{tail}")
+}
+
+// What a build did, and the name of what it did it with.
+fn of_build(alloc: Global, build: u64, what: &str, name: &str) -> Result<String, AllocError>
+    ensures { IfOk result (λ s. string_bytes s ≡ build_line build what.now name.now) }
+{
+    let name = one_line(alloc, name)?;
+    format!(in alloc; "build {build}{what}{name}\n")
+}
+
+// What became of a worker, and why.
+fn with_cause(
+    alloc: Global,
+    worker: &str,
+    what: &str,
+    cause: LossCause,
+) -> Result<String, AllocError>
+    ensures { IfOk result (λ s. string_bytes s ≡ lost_line worker.now what.now cause) }
+{
+    let cause = cause.text();
+    let tail = format!(in alloc; "{what}{cause}\n")?;
+    around(alloc, "worker ", worker, tail.as_str())
+}
