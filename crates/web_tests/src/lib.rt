@@ -8,6 +8,8 @@ mod clients;
 #[cfg(test)]
 mod lanes;
 #[cfg(test)]
+mod memory;
+#[cfg(test)]
 mod rows;
 #[cfg(test)]
 mod visits;

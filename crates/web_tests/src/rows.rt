@@ -88,6 +88,17 @@ pub const WIRE: &[Row] = &[
     ("GET", "http://host/api/v2/logs/0/contents?offset=1", BEHIND),
 ];
 
+/// Over the first lane alone, by the routes: states of logs, and a name that isn't written as it is.
+pub const SOME: &[Row] = &[
+    ("GET", "/api/v2/logs/0", ENDED),
+    ("GET", "/api/v2/logs/1?name=a+b", OPEN),
+    (
+        "GET",
+        "/api/v2/logs/1/contents?name=%61%20b&limit=1",
+        FIRST_OPEN,
+    ),
+];
+
 /// Over the first lane alone, by the routes.
 pub const ONE: &[Row] = &[
     // Methods and paths.
