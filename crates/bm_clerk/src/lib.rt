@@ -16,8 +16,6 @@ mod greeting;
 mod guests;
 mod notice;
 mod port;
-#[cfg(test)]
-mod tests;
 
 pub use bell::Bell;
 pub use caller::{Caller, Timed};
