@@ -1,2 +1,4 @@
 mod Below
+pub mod Calls
+pub mod Counting
 mod Staying

@@ -2,3 +2,5 @@
 pub mod Roster
 -- What holds of every board of a roster, to be believed.
 pub mod Laws
+-- What is counted beside a board. It helps the proofs alone.
+pub mod Counted

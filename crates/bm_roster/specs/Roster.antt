@@ -1,14 +1,15 @@
 -- What a roster does to its board. On the board a build is one step, whose outcome is what the
 -- build's runner reports.
-use Rattle.std.specs.Prelude.{◌≡◌, ◌<◌, ℕ, true, false, [], ◌∷◌, Option, Some, None, Result, Ok, Err}
+use Rattle.std.specs.Prelude.{◌≡◌, ◌<◌, ℕ, Bool, true, false, ◌&&◌, ◌==◌, [], ◌∷◌, Option, Some, None, Result, Ok, Err}
+use Rattle.std.specs.List.{list_any}
 use Rattle.bm_session.specs.declared.results.Results.{Results}
 use Rattle.bm_session.specs.declared.results.Results.TheVariants.{Retry}
 use Rattle.bm_board.specs.declared.plan.StepPlan.{StepPlan}
 use Rattle.bm_board.specs.declared.plan.Build.{Build}
 use Rattle.bm_board.specs.declared.job.Started.{Started}
 use Rattle.bm_board.specs.declared.refusal.BoardRefusal.{BoardRefusal}
-use Rattle.bm_board.specs.Job.{answer_of, cancel, finish, give_up, release}
-use Rattle.bm_board.specs.Board.{Standing, board_after, on_build, start, result_on}
+use Rattle.bm_board.specs.Job.{Course, answer_of, cancel, finish, give_up, is_waiting, release}
+use Rattle.bm_board.specs.Board.{Standing, board_after, occupies, on_build, start, result_on}
 
 -- the step that stands for a build: a failure of it fails the build
 abbrev pub whole : StepPlan
@@ -59,6 +60,18 @@ after_cancel b number = board_after b number (on_build cancel b number)
 -- the board once a build that waited was given up
 abbrev pub after_giving_up : Standing → ℕ → Standing
 after_giving_up b number = board_after b number (on_build give_up b number)
+
+-- the build waits for the worker
+abbrev pub waits_for : ℕ → Course → Bool
+waits_for worker job = is_waiting job.phase && job.build.worker == worker
+
+-- a build waits for the worker
+abbrev pub is_wanted : Standing → ℕ → Bool
+is_wanted b worker = list_any (waits_for worker) b.jobs
+
+-- a build of the worker was started, and hasn't given its slot back
+abbrev pub has_build : Standing → ℕ → Bool
+has_build b worker = list_any (occupies worker) b.jobs
 
 -- the build of this number has its result
 abbrev pub HasResult : Standing → ℕ → Type 0

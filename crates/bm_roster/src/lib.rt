@@ -7,6 +7,7 @@
 
 mod bench;
 mod commission;
+mod counted;
 pub mod laws;
 mod roster;
 

@@ -1,11 +1,12 @@
 //! The roster itself.
 ghost use Rattle.std.specs.Prelude.{◌≡◌, ◌⊎◌, ◌<◌, ◌≤◌, ℕ, All, IfOk, OnOk, OnErr, IfErr, IfSome, IfNone, length, true, Ok, Some};
-ghost use Rattle.bm_roster.specs.Roster.{IsOver, IsStarted, after_end, after_cancel, after_failure, after_giving_up, on_board};
+ghost use Rattle.bm_roster.specs.Roster.{IsOver, IsStarted, after_end, after_cancel, after_failure, after_giving_up, has_build, is_wanted, on_board};
 ghost use Rattle.bm_board.specs.Board.{add_refusal, opening, result_on, with_build, with_ready};
 
 use crate::bench::Bench;
 use crate::commission::Commission;
-use bm_board::{Board, BoardRefusal, Build, StepPlan, StepPlans, Words};
+use crate::counted::CountedBoard;
+use bm_board::{BoardRefusal, Build, StepPlan, StepPlans, Words};
 use bm_lane::{Viewer, Yard};
 use bm_lines::Text;
 use bm_session::Results;
@@ -19,15 +20,7 @@ struct Waiting {
     worker: usize,
 }
 
-/// What a worker's builds want of it, and whether it takes builds.
-#[derive(Clone, Copy)]
-struct Demand {
-    /// How many builds wait for it.
-    waiting: u64,
-    is_ready: bool,
-}
-
-/// What a cancel met.
+//// What a cancel met.
 #[derive(Clone, Copy, Debug, PartialEq, Eq)]
 pub enum Cancelled {
     /// The build waited, and has ended CANCELLED.
@@ -44,13 +37,12 @@ pub enum Cancelled {
 /// On the board a build is one step, that of its runner, whose outcome is what the runner reports.
 #[derive(Drop)]
 pub struct Roster<Y: Yard> {
-    board: Board,
+    board: CountedBoard,
     benches: Vec<Bench<Y>>,
     // The builds that wait, in the order of their numbers.
     waiting: Vec<Waiting>,
-    // By workers.
-    demands: Vec<Demand>,
-    builds: u64,
+    // Of each worker, whether it takes builds.
+    ready: Vec<bool>,
     is_short: bool,
 }
 
@@ -94,16 +86,11 @@ impl<Y: Yard> Roster<Y> {
         requires maxima { All (λ n. 1 ≤ n) lock_max.now }
         ensures { IfOk result (λ r. r ≡ opening slots.now lock_max.now) }
     {
-        let demand = Demand {
-            waiting: 0,
-            is_ready: false,
-        };
         Ok(Roster {
-            board: Board::new(alloc, slots, lock_max)?,
+            board: CountedBoard::new(alloc, slots, lock_max)?,
             benches,
             waiting: Vec::new(alloc),
-            demands: vec![in alloc; demand; slots.len()]?,
-            builds: 0,
+            ready: vec![in alloc; false; slots.len()]?,
             is_short: false,
         })
     }
@@ -123,25 +110,19 @@ impl<Y: Yard> Roster<Y> {
         let Ok(one) = as_one_step(alloc, build) else {
             return Err(BoardRefusal::Mem);
         };
-        match self.board.add_build(one) {
-            Ok(number) => {
-                self.waiting.push_reserved(Waiting {
-                    number,
-                    worker: build.worker,
-                });
-                if let Some(demand) = self.demands.get_mut(build.worker) {
-                    demand.waiting = demand.waiting.saturating_add(1);
-                }
-                self.builds = number.saturating_add(1);
-                Ok(number)
-            }
-            Err((_, why)) => Err(why),
-        }
+        let number = self.board.add(one)?;
+        self.waiting.push_reserved(Waiting {
+            number,
+            worker: build.worker,
+        });
+        Ok(number)
     }
 
     /// How many builds there are.
-    pub fn builds(&self) -> u64 {
-        self.builds
+    pub fn builds(&self) -> u64
+        ensures { result ≡ length self.now.jobs }
+    {
+        self.board.builds()
     }
 
     /// How many workers there are.
@@ -159,38 +140,36 @@ impl<Y: Yard> Roster<Y> {
         if worker < self.board.workers() {
             self.board.set_ready(worker, ready);
         }
-        if let Some(demand) = self.demands.get_mut(worker) {
-            demand.is_ready = ready;
+        if let Some(is_ready) = self.ready.get_mut(worker) {
+            *is_ready = ready;
         }
     }
 
     /// Whether a build waits for the worker.
-    pub fn is_wanted(&self, worker: usize) -> bool {
-        match self.demands.get(worker) {
-            Some(demand) => demand.waiting > 0,
-            None => false,
-        }
+    pub fn is_wanted(&self, worker: usize) -> bool
+        ensures { result ≡ is_wanted self.now worker }
+    {
+        self.board.is_wanted(worker)
     }
 
-    /// Whether a build of the worker runs.
-    pub fn has_build(&self, worker: usize) -> bool {
-        match self.benches.get(worker) {
-            Some(bench) => !bench.is_whole(),
-            None => false,
-        }
+    /// Whether a build of the worker runs: it was started, and hasn't come back by `end`.
+    pub fn has_build(&self, worker: usize) -> bool
+        ensures { result ≡ has_build self.now worker }
+    {
+        self.board.has_build(worker)
     }
 
     // Whether the worker takes one more build.
     fn is_open(&self, worker: usize) -> bool {
-        match (self.demands.get(worker), self.benches.get(worker)) {
-            (Some(demand), Some(bench)) => demand.is_ready && bench.has_viewer(),
+        match (self.ready.get(worker), self.benches.get(worker)) {
+            (Some(is_ready), Some(bench)) => *is_ready && bench.has_viewer(),
             _ => false,
         }
     }
 
     // Whether a build waits for a worker that takes one more.
     fn has_opening(&self) -> bool {
-        for worker in 0..self.demands.len() {
+        for worker in 0..self.ready.len() {
             if self.is_wanted(worker) && self.is_open(worker) {
                 return true;
             }
@@ -202,12 +181,8 @@ impl<Y: Yard> Roster<Y> {
     fn take_out(&mut self, place: usize)
         ensures { self.new ≡ self.old }
     {
-        if place >= self.waiting.len() {
-            return;
-        }
-        let worker = self.waiting.remove(place).worker;
-        if let Some(demand) = self.demands.get_mut(worker) {
-            demand.waiting = demand.waiting.saturating_sub(1);
+        if place < self.waiting.len() {
+            self.waiting.remove(place);
         }
     }
 
@@ -234,8 +209,7 @@ impl<Y: Yard> Roster<Y> {
         ensures failed { IfOk result (λ o. IfNone o (self.new ≡ after_failure self.old number)) }
         ensures unchanged { OnErr result (self.new ≡ self.old) }
     {
-        let started = self.board.try_start(number)?;
-        let worker = started.worker;
+        let worker = self.board.start(number)?;
         match self.take_viewer(worker) {
             Some(viewer) => Ok(Some(Commission {
                 number,
@@ -243,7 +217,7 @@ impl<Y: Yard> Roster<Y> {
                 viewer,
             })),
             None => {
-                self.finish(number, Results::Retry);
+                self.board.finish(number, Results::Retry);
                 Ok(None)
             }
         }
@@ -285,21 +259,13 @@ impl<Y: Yard> Roster<Y> {
         self.is_short
     }
 
-    // The build's runner has reported: its result is kept, and it gives its slot and its locks back.
-    fn finish(&mut self, number: u64, reported: Results)
-        ensures { self.new ≡ after_end self.old number reported }
-    {
-        let _ = self.board.step_done(number, reported);
-        let _ = self.board.release(number);
-    }
-
     /// A build that was started comes back with what its runner reports, which is kept as its result;
     /// or CANCELLED, where it was cancelled meanwhile. It gives its slot and its locks back, and its
     /// viewer goes back to the bench of its lane. The answer is whether it had a place there.
     pub fn end(&mut self, number: u64, reported: Results, viewer: Viewer<Y>) -> bool
         ensures { self.new ≡ after_end self.old number reported }
     {
-        self.finish(number, reported);
+        self.board.finish(number, reported);
         match self.benches.get_mut(viewer.lane() as usize) {
             Some(bench) => bench.give(viewer).is_ok(),
             None => false,

@@ -1,0 +1,9 @@
+use Rattle.std.proofs.Common.{◌∙◌, ap, slice_index}
+use Rattle.bm_roster.specs.Roster.{is_wanted, waits_for}
+use Rattle.bm_roster.proofs.Counting.{any_counted}
+use Rattle.bm_roster.proofs.counted.CountedBoard.is_wanted.Goals as goal
+
+pub returns : goal.returns
+returns c =
+    any_counted (waits_for c.args.worker) c.self.inside.board.jobs c.count_of.result (c.count_of.ensures ∙ ap (λ ns. slice_index ns c.args.worker) c.deref.ensures.value ∙ c.self.invariant.waits c.args.worker)
+    ∙ ap (λ b. is_wanted b c.args.worker) c.self.view_is
