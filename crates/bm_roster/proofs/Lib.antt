@@ -1,4 +1,5 @@
 mod Below
+pub mod Benching
 pub mod Calls
 pub mod Counting
 mod Staying

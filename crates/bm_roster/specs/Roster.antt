@@ -1,6 +1,6 @@
--- What a roster does to its board. On the board a build is one step, whose outcome is what the
+-- A roster, and what it does to its board. On the board a build is one step, whose outcome is what the
 -- build's runner reports.
-use Rattle.std.specs.Prelude.{◌≡◌, ◌<◌, ℕ, Bool, true, false, ◌&&◌, ◌==◌, [], ◌∷◌, Option, Some, None, Result, Ok, Err}
+use Rattle.std.specs.Prelude.{◌≡◌, ◌⊎◌, ◌<◌, ℕ, Bool, true, false, ◌&&◌, ◌==◌, [], ◌∷◌, List, IsOk, Option, Some, None, Result, Ok, Err}
 use Rattle.std.specs.List.{list_any}
 use Rattle.bm_session.specs.declared.results.Results.{Results}
 use Rattle.bm_session.specs.declared.results.Results.TheVariants.{Retry}
@@ -8,8 +8,19 @@ use Rattle.bm_board.specs.declared.plan.StepPlan.{StepPlan}
 use Rattle.bm_board.specs.declared.plan.Build.{Build}
 use Rattle.bm_board.specs.declared.job.Started.{Started}
 use Rattle.bm_board.specs.declared.refusal.BoardRefusal.{BoardRefusal}
+use Rattle.bm_roster.specs.Benches.{Benched}
 use Rattle.bm_board.specs.Job.{Course, answer_of, cancel, finish, give_up, is_waiting, release}
 use Rattle.bm_board.specs.Board.{Standing, board_after, occupies, on_build, start, result_on}
+
+-- its board, the viewers that no build has, and whether memory was wanting for the last start
+pub record Rostered : Type 0 where
+  pub board : Standing
+  pub benches : List Benched
+  pub is_short : Bool
+
+-- the roster with another board
+abbrev pub with_board : Rostered → Standing → Rostered
+with_board r b = record { board = b; benches = r.benches; is_short = r.is_short }
 
 -- the step that stands for a build: a failure of it fails the build
 abbrev pub whole : StepPlan
@@ -36,6 +47,10 @@ worker_in (Err why) = None
 pub record IsStarted (old new : Standing) (number worker : ℕ) : Type 0 where
   pub answer : worker_in (answer_of (on_build (start old) old number)) ≡ Some worker
   pub board : new ≡ board_after old number (on_build (start old) old number)
+
+-- a build can be started
+abbrev pub CanStart : Standing → Type 0
+CanStart b = (number : ℕ) × IsOk (on_build (start b) b number)
 
 -- the board once a build's step ended so
 abbrev pub after_step : Standing → ℕ → Results → Standing
@@ -76,6 +91,11 @@ has_build b worker = list_any (occupies worker) b.jobs
 -- the build of this number has its result
 abbrev pub HasResult : Standing → ℕ → Type 0
 HasResult b number = (r : Results) × (result_on b number ≡ Ok (Some r))
+
+-- the build of this number has no result yet, or there is none of this number
+abbrev pub LacksResult : Standing → ℕ → Type 0
+LacksResult b number =
+    (result_on b number ≡ Ok None) ⊎ ((why : BoardRefusal) × (result_on b number ≡ Err why))
 
 -- every build has its result: no build has this number, and each before it has its result
 pub record IsOver (b : Standing) : Type 0 where

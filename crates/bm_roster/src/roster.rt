@@ -1,7 +1,10 @@
 //! The roster itself.
-ghost use Rattle.std.specs.Prelude.{◌≡◌, ◌⊎◌, ◌<◌, ◌≤◌, ℕ, All, IfOk, OnOk, OnErr, IfErr, IfSome, IfNone, length, true, Ok, Some};
-ghost use Rattle.bm_roster.specs.Roster.{IsOver, IsStarted, after_end, after_cancel, after_failure, after_giving_up, has_build, is_wanted, on_board};
-ghost use Rattle.bm_board.specs.Board.{add_refusal, opening, result_on, with_build, with_ready};
+ghost use Rattle.std.specs.Prelude.{◌≡◌, ◌⊎◌, ◌<◌, ◌≤◌, ℕ, All, IfOk, OnOk, OnErr, IfErr, IfSome, IfNone, length, true, false, Ok, Some, None};
+ghost use Rattle.bm_roster.specs.Roster.{CanStart, IsOver, IsStarted, LacksResult, after_end, after_cancel, after_failure, after_giving_up, has_build, is_wanted, on_board, with_board};
+ghost use Rattle.bm_roster.specs.Benches.{IsGiven, IsTaken};
+ghost use Rattle.bm_roster.specs.Cancels.{met_by};
+ghost use Rattle.bm_board.specs.Job.{answer_of, cancel};
+ghost use Rattle.bm_board.specs.Board.{add_refusal, on_build, opening, result_on, with_build, with_ready};
 
 use crate::bench::Bench;
 use crate::commission::Commission;
@@ -32,7 +35,7 @@ pub enum Cancelled {
 }
 
 /// The builds by number, the workers and the locks, and the viewers that no build has. Contracts
-/// see its board.
+/// see its board, its benches, and whether memory was wanting.
 ///
 /// On the board a build is one step, that of its runner, whose outcome is what the runner reports.
 #[derive(Drop)]
@@ -47,11 +50,15 @@ pub struct Roster<Y: Yard> {
 }
 
 impl<Y: Yard> Model for Roster<Y> {
-    ghost use Rattle.bm_board.specs.Board.{Standing};
+    ghost use Rattle.bm_roster.specs.Roster.{Rostered};
 
-    ghost Value = { Standing };
+    ghost Value = { Rostered };
 
-    ghost view = { λ r. r.board };
+    ghost view = { λ r. record {
+      board = r.board;
+      benches = r.benches.items;
+      is_short = r.is_short;
+    } };
 }
 
 // What a build is on the board: its worker, its locks, and one step.
@@ -84,7 +91,11 @@ impl<Y: Yard> Roster<Y> {
     ) -> Result<Roster<Y>, AllocError>
         requires slots { All (λ n. (1 ≤ n) × (n ≤ 4)) slots.now }
         requires maxima { All (λ n. 1 ≤ n) lock_max.now }
-        ensures { IfOk result (λ r. r ≡ opening slots.now lock_max.now) }
+        ensures { IfOk result (λ r. r ≡ record {
+          board = opening slots.now lock_max.now;
+          benches = benches.items;
+          is_short = false;
+        }) }
     {
         Ok(Roster {
             board: CountedBoard::new(alloc, slots, lock_max)?,
@@ -98,9 +109,10 @@ impl<Y: Yard> Roster<Y> {
     /// Adds a build, which waits. Its number is how many were added before.
     /// Errors: those of the board. Nothing has changed then.
     pub fn add(&mut self, alloc: Global, build: &Build) -> Result<u64, BoardRefusal>
-        ensures number { IfOk result (λ n. n ≡ length self.old.jobs) }
-        ensures added { OnOk result (self.new ≡ with_build self.old (on_board build.now)) }
-        ensures refused { IfErr result (λ r. (add_refusal self.old (on_board build.now) ≡ Some r)
+        ensures number { IfOk result (λ n. n ≡ length self.old.board.jobs) }
+        ensures added { OnOk result (self.new
+            ≡ with_board self.old (with_build self.old.board (on_board build.now))) }
+        ensures refused { IfErr result (λ r. (add_refusal self.old.board (on_board build.now) ≡ Some r)
             ⊎ (r ≡ BoardRefusal.Mem)) }
         ensures unchanged { OnErr result (self.new ≡ self.old) }
     {
@@ -120,22 +132,23 @@ impl<Y: Yard> Roster<Y> {
 
     /// How many builds there are.
     pub fn builds(&self) -> u64
-        ensures { result ≡ length self.now.jobs }
+        ensures { result ≡ length self.now.board.jobs }
     {
         self.board.builds()
     }
 
     /// How many workers there are.
     pub fn workers(&self) -> usize
-        ensures { result ≡ length self.now.workers }
+        ensures { result ≡ length self.now.board.workers }
     {
         self.board.workers()
     }
 
     /// Says whether the worker takes builds. A worker that isn't there is passed over.
     pub fn set_ready(&mut self, worker: usize, ready: bool)
-        ensures there { worker < length self.old.workers → self.new ≡ with_ready self.old worker ready }
-        ensures nowhere { length self.old.workers ≤ worker → self.new ≡ self.old }
+        ensures there { worker < length self.old.board.workers
+            → self.new ≡ with_board self.old (with_ready self.old.board worker ready) }
+        ensures nowhere { length self.old.board.workers ≤ worker → self.new ≡ self.old }
     {
         if worker < self.board.workers() {
             self.board.set_ready(worker, ready);
@@ -147,14 +160,14 @@ impl<Y: Yard> Roster<Y> {
 
     /// Whether a build waits for the worker.
     pub fn is_wanted(&self, worker: usize) -> bool
-        ensures { result ≡ is_wanted self.now worker }
+        ensures { result ≡ is_wanted self.now.board worker }
     {
         self.board.is_wanted(worker)
     }
 
     /// Whether a build of the worker runs: it was started, and hasn't come back by `end`.
     pub fn has_build(&self, worker: usize) -> bool
-        ensures { result ≡ has_build self.now worker }
+        ensures { result ≡ has_build self.now.board worker }
     {
         self.board.has_build(worker)
     }
@@ -189,14 +202,16 @@ impl<Y: Yard> Roster<Y> {
     // A viewer of the worker's lane.
     fn take_viewer(&mut self, worker: usize) -> Option<Viewer<Y>>
         ensures own { IfSome result (λ v. v.lane ≡ worker) }
-        ensures same { self.new ≡ self.old }
+        ensures taken { IfSome result (λ v. IsTaken self.old.benches self.new.benches worker v) }
+        ensures board { self.new.board ≡ self.old.board }
+        ensures short { self.new.is_short ≡ self.old.is_short }
+        ensures unchanged { IfNone result (self.new ≡ self.old) }
     {
-        let viewer = self.benches.get_mut(worker)?.take()?;
-        if viewer.lane() == worker as u64 {
-            Some(viewer)
-        } else {
-            None
+        let bench = self.benches.get_mut(worker)?;
+        if bench.lane() != worker as u64 {
+            return None;
         }
+        bench.take()
     }
 
     // Starts a build that waits, where its worker is ready and has a free slot and its locks may be
@@ -205,8 +220,13 @@ impl<Y: Yard> Roster<Y> {
     // Errors: those of the board. Nothing has changed then.
     fn start(&mut self, number: u64) -> Result<Option<Commission<Y>>, BoardRefusal>
         ensures started { IfOk result (λ o. IfSome o
-            (λ c. (c.number ≡ number) × IsStarted self.old self.new number c.worker)) }
-        ensures failed { IfOk result (λ o. IfNone o (self.new ≡ after_failure self.old number)) }
+            (λ c. (c.number ≡ number) × IsStarted self.old.board self.new.board number c.worker)) }
+        ensures viewer { IfOk result (λ o. IfSome o
+            (λ c. IsTaken self.old.benches self.new.benches c.worker c.viewer)) }
+        ensures failed { IfOk result (λ o. IfNone o
+            (self.new ≡ with_board self.old (after_failure self.old.board number))) }
+        ensures memory { self.new.is_short ≡ self.old.is_short }
+        ensures short { IfErr result (λ why. why ≡ BoardRefusal.Mem → CanStart self.old.board) }
         ensures unchanged { OnErr result (self.new ≡ self.old) }
     {
         let worker = self.board.start(number)?;
@@ -226,9 +246,14 @@ impl<Y: Yard> Roster<Y> {
     /// Starts the first of the waiting builds that can be started now. It is to run, and to come back
     /// by `end`. Builds whose worker takes none are passed over.
     pub fn next(&mut self) -> Option<Commission<Y>>
-        ensures started { IfSome result (λ c. IsStarted self.old self.new c.number c.worker) }
-        ensures nothing { IfNone result ((self.new ≡ self.old)
-            ⊎ ((number : ℕ) × (self.new ≡ after_failure self.old number))) }
+        ensures started { IfSome result
+            (λ c. IsStarted self.old.board self.new.board c.number c.worker) }
+        ensures viewer { IfSome result
+            (λ c. IsTaken self.old.benches self.new.benches c.worker c.viewer) }
+        ensures nothing { IfNone result ((self.new.board ≡ self.old.board)
+            ⊎ ((number : ℕ) × (self.new.board ≡ after_failure self.old.board number))) }
+        ensures benches { IfNone result (self.new.benches ≡ self.old.benches) }
+        ensures short { self.new.is_short ≡ true → CanStart self.old.board }
     {
         self.is_short = false;
         if !self.has_opening() {
@@ -244,18 +269,17 @@ impl<Y: Yard> Roster<Y> {
                     self.take_out(place);
                     return commission;
                 }
-                Err(why) => {
-                    if why == BoardRefusal::Mem {
-                        self.is_short = true;
-                    }
-                }
+                Err(BoardRefusal::Mem) => self.is_short = true,
+                Err(_) => {}
             }
         }
         None
     }
 
     /// Whether memory was wanting for the start of a build, so that it is to be tried again.
-    pub fn is_short(&self) -> bool {
+    pub fn is_short(&self) -> bool
+        ensures { result ≡ self.now.is_short }
+    {
         self.is_short
     }
 
@@ -263,7 +287,11 @@ impl<Y: Yard> Roster<Y> {
     /// or CANCELLED, where it was cancelled meanwhile. It gives its slot and its locks back, and its
     /// viewer goes back to the bench of its lane. The answer is whether it had a place there.
     pub fn end(&mut self, number: u64, reported: Results, viewer: Viewer<Y>) -> bool
-        ensures { self.new ≡ after_end self.old number reported }
+        ensures board { self.new.board ≡ after_end self.old.board number reported }
+        ensures given { result ≡ true
+            → IsGiven self.old.benches self.new.benches viewer.lane viewer }
+        ensures lost { result ≡ false → self.new.benches ≡ self.old.benches }
+        ensures memory { self.new.is_short ≡ self.old.is_short }
     {
         self.board.finish(number, reported);
         match self.benches.get_mut(viewer.lane() as usize) {
@@ -274,7 +302,8 @@ impl<Y: Yard> Roster<Y> {
 
     /// Cancels a build.
     pub fn cancel(&mut self, number: u64) -> Cancelled
-        ensures { self.new ≡ after_cancel self.old number }
+        ensures answer { result ≡ met_by (answer_of (on_build cancel self.old.board number)) }
+        ensures board { self.new ≡ with_board self.old (after_cancel self.old.board number) }
     {
         match self.board.cancel(number) {
             Ok(true) => Cancelled::Running,
@@ -291,7 +320,8 @@ impl<Y: Yard> Roster<Y> {
     /// The first build that waits for the worker is given up: it ends RETRY. The answer is its
     /// number, None where no build waits for the worker.
     pub fn give_up_one(&mut self, worker: usize) -> Option<u64>
-        ensures given_up { IfSome result (λ n. self.new ≡ after_giving_up self.old n) }
+        ensures given_up { IfSome result (λ n. self.new
+            ≡ with_board self.old (after_giving_up self.old.board n)) }
         ensures unchanged { IfNone result (self.new ≡ self.old) }
     {
         let place = self.waiting.iter().position(|one| one.worker == worker)?;
@@ -303,7 +333,8 @@ impl<Y: Yard> Roster<Y> {
 
     /// The result of a build, None before its end.
     pub fn result(&self, number: u64) -> Option<Results>
-        ensures { IfSome result (λ r. result_on self.now number ≡ Ok (Some r)) }
+        ensures found { IfSome result (λ r. result_on self.now.board number ≡ Ok (Some r)) }
+        ensures none { IfNone result (LacksResult self.now.board number) }
     {
         match self.board.result(number) {
             Ok(result) => result,
@@ -313,20 +344,24 @@ impl<Y: Yard> Roster<Y> {
 
     /// Whether every build has its result.
     pub fn is_over(&self) -> bool
-        ensures { result ≡ true → IsOver self.now }
+        ensures over { result ≡ true → IsOver self.now.board }
+        ensures not_over { result ≡ false
+            → (number : ℕ) × (result_on self.now.board number ≡ Ok None) }
     {
-        for number in 0..u64::MAX {
+        for number in 0..self.board.builds() {
             match self.board.result(number) {
                 Ok(Some(_)) => {}
                 Ok(None) => return false,
                 Err(_) => return true,
             }
         }
-        false
+        true
     }
 
     /// The benches, by their workers' places, once no build runs.
-    pub fn into_benches(self) -> Vec<Bench<Y>> {
+    pub fn into_benches(self) -> Vec<Bench<Y>>
+        ensures { result.items ≡ self.benches }
+    {
         self.benches
     }
 }
