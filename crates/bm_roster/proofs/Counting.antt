@@ -1,23 +1,17 @@
 -- Lemmas on what is counted beside a board, as one of its builds changes.
-use Rattle.std.proofs.Common.{◌≡◌, ℕ, ◌+◌, ◌<◌, ◌≤◌, ◌^◌, ◌==◌, Bool, true, false, cond, ◌&&◌, ◌||◌, nat_lt, List, [], ◌∷◌, ◌++◌, length, get_or, set, slice_index, map, count_by, replicate, Option, Some, None, Result, Ok, Err, refl, sym, ap, subst, ◌∙◌, arith}
-use Rattle.std.specs.List.{slice_get, list_any, list_all}
-use Rattle.std.specs.Option.{option_map_or, is_some}
-use Rattle.std.specs.Result.{is_ok}
-use Rattle.std.proofs.lemmas.Bool.{cond-false, cond-true, true≢false, eq-eqb, lt-ltb}
+use Rattle.std.proofs.Common.{◌≡◌, ℕ, ◌+◌, ◌<◌, ◌≤◌, ◌^◌, ◌==◌, Bool, true, false, cond, ◌&&◌, ◌||◌, nat_lt, List, [], ◌∷◌, length, set, slice_index, count_by, Some, refl, sym, ap, ◌∙◌, arith}
+use Rattle.std.specs.List.{slice_get, list_any}
+use Rattle.std.proofs.lemmas.Bool.{cond-true, eq-eqb, lt-ltb}
 use Rattle.std.proofs.lemmas.Option.{slice_get_within, get_or_from_slice_get}
 use Rattle.std.proofs.lemmas.List.{length-set}
 use Rattle.std.proofs.lemmas.List.Sums.{count_by-le-length, sum_by-cons}
 use Rattle.std.proofs.Math.Seq.{map-set_same}
 use Rattle.bm_board.specs.declared.job.Phase.{Phase}
-use Rattle.bm_board.specs.declared.job.Started.{Started}
-use Rattle.bm_board.specs.declared.refusal.BoardRefusal.{BoardRefusal}
-use Rattle.bm_board.specs.declared.refusal.BoardRefusal.TheVariants.{NoBuild}
-use Rattle.bm_board.specs.Job.{Course, Outcome, is_waiting, is_holding, waiting, started}
-use Rattle.bm_board.specs.Board.{Standing, most_builds, occupied, occupies}
+use Rattle.bm_board.specs.Job.{Course, is_waiting, is_holding, waiting}
+use Rattle.bm_board.specs.Board.{Standing, most_builds}
 use Rattle.bm_board.proofs.Places.{with_job}
 use Rattle.bm_board.proofs.Keeping.{count_by-set}
-use Rattle.bm_roster.specs.Roster.{waits_for}
-use Rattle.bm_roster.specs.Counted.{IsCounted, IsOneMore, worker_of}
+use Rattle.bm_roster.specs.Counted.{IsCounted, IsOneMore}
 
 -- the build passes the test, and is the worker's
 abbrev pub is_his : (Phase → Bool) → ℕ → Course → Bool
