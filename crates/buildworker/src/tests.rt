@@ -1,5 +1,7 @@
 //! The worker against a master of the tests, over the loopback.
 
+mod cut;
+mod lanes;
 mod master;
 mod rows;
 mod words;

@@ -192,12 +192,25 @@ impl Master {
         None
     }
 
-    /// Whether this fault alone was told.
-    pub fn has_fault(&self, fault: &str) -> bool {
-        match self.faults.as_slice() {
-            [told] => told.as_str() == fault,
-            _ => false,
+    /// Hears until this was said.
+    pub fn hear_said(&mut self, text: &str) -> Option<()> {
+        for _ in 0..MOST_MESSAGES {
+            if self.has_said(text) {
+                return Some(());
+            }
+            self.hear()?;
         }
+        None
+    }
+
+    /// Whether this fault alone was told, so many times.
+    pub fn has_faults(&self, count: usize, fault: &str) -> bool {
+        for told in &self.faults {
+            if told.as_str() != fault {
+                return false;
+            }
+        }
+        self.faults.len() == count
     }
 
     /// Whether this was said.

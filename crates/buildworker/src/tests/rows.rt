@@ -80,7 +80,7 @@ fn a_program_that_is_not_there_is_told(rt: HostRuntime) -> Result<(), Fail> {
         master.hear_ends(1)?;
         let is_told = master.said.as_str() == "h/no/such/program\n"
             && master.codes.is_empty()
-            && master.has_fault("cannot start");
+            && master.has_faults(1, "cannot start");
         if is_told { master.close() } else { None }
     };
     assert!(rt; status_under(rt, script)? == 0);
@@ -96,7 +96,7 @@ fn an_interrupt_is_told_at_once(rt: HostRuntime) -> Result<(), Fail> {
         }
         master.interrupt(0)?;
         master.hear_ends(1)?;
-        let is_told = master.codes.is_empty() && master.has_fault("interrupted");
+        let is_told = master.codes.is_empty() && master.has_faults(1, "interrupted");
         if is_told { master.close() } else { None }
     };
     assert!(rt; status_under(rt, script)? == 0);
@@ -111,6 +111,38 @@ fn a_fifth_command_is_refused(rt: HostRuntime) -> Result<(), Fail> {
         }
         master.hear_ends(4)?;
         if master.refused == 1 && master.codes.as_slice() == [0, 0, 0, 0].as_slice() {
+            master.close()
+        } else {
+            None
+        }
+    };
+    assert!(rt; status_under(rt, script)? == 0);
+    Ok(())
+}
+
+/// Commands that go on until nobody hears them, and what each of them says.
+const LASTING: [(u64, &str, &str); 4] = [
+    (0, "while echo 0; do sleep 0.1; done", "o0\n"),
+    (1, "while echo 1; do sleep 0.1; done", "o1\n"),
+    (2, "while echo 2; do sleep 0.1; done", "o2\n"),
+    (3, "while echo 3; do sleep 0.1; done", "o3\n"),
+];
+
+#[test]
+fn four_commands_run_side_by_side(rt: HostRuntime) -> Result<(), Fail> {
+    let script = |master: &mut Master| {
+        for (command, line, _) in &LASTING {
+            master.start(*command, line)?;
+        }
+        for (_, _, said) in &LASTING {
+            master.hear_said(said)?;
+        }
+        let are_open = master.ended == 0;
+        for command in 0..4 {
+            master.interrupt(command)?;
+        }
+        master.hear_ends(4)?;
+        if are_open && master.has_faults(4, "interrupted") {
             master.close()
         } else {
             None
@@ -163,13 +195,11 @@ fn long_lines_and_other_bytes_are_told(rt: HostRuntime) -> Result<(), Fail> {
             "head -c 100000 /dev/zero | tr '\\0' x; printf '\\377\\n'",
         )?;
         master.hear_ends(1)?;
-        // Two of them stand in the header lines.
-        let count = master.said.as_str().matches('x').count();
-        if count == 100_002 && master.has_said("\u{FFFD}\n") {
-            master.close()
-        } else {
-            None
-        }
+        // Two of them stand in the header lines, and all others in one line between these.
+        let is_told = master.said.as_str().matches('x').count() == 100_002
+            && master.said.as_str().matches('\n').count() == 3
+            && master.has_said("x\u{FFFD}\n");
+        if is_told { master.close() } else { None }
     };
     assert!(rt; status_under(rt, script)? == 0);
     Ok(())

@@ -1,0 +1,363 @@
+//! The worker against a master's link and its lane, through cuts of its connections.
+ghost use Rattle.std.specs.Prelude.{◌≡◌};
+
+use super::cut::Cut;
+use super::{dial, waiting};
+use crate::run::work_run;
+use bm_lane::{Blank, Drained, Ends, Yard, open};
+use bm_lines::{STDIO, Text};
+use bm_link::{Ask, Carry, MasterLink, User};
+use bm_session::Results;
+use bumpalo::Bump;
+use std::alloc::{AllocError, AllocGlobal, Global};
+use std::marker::Brand;
+use std::net::{Net, SocketAddr, TcpListener, TcpStream};
+use std::process::{Processes, SystemProcess};
+use std::random::RandomSource;
+use std::sync::Wait;
+use std::test::Fail;
+use std::thread;
+use std::thread::{JoinHandle, Threads};
+use std::time::Clock;
+
+/// The most items that wait in a lane's queue.
+const CAPACITY: usize = 64;
+
+/// The most connections of a worker.
+const MOST_CONNECTIONS: u32 = 12;
+
+/// The most turns of a connection.
+const MOST_TURNS: u32 = 100_000;
+
+/// What a command does.
+#[derive(Clone, Copy)]
+enum Task {
+    /// It says a line over each of its pipes, and fails.
+    Fail,
+    /// It counts to 9.
+    Count,
+}
+
+impl Task {
+    /// Its line for a shell.
+    fn line(self) -> &'static str {
+        match self {
+            Task::Fail => "echo a; echo b >&2; exit 3",
+            Task::Count => "seq 1 9",
+        }
+    }
+}
+
+/// How many bytes go over a connection that isn't cut.
+const UNCUT: usize = usize::MAX;
+
+/// How many connections are cut near their beginnings, and how many after them further on.
+const IN_A_ROW: usize = 4;
+
+/// After how many bytes the first connections of a worker are cut: one after the other a byte
+/// later, from each of two places.
+#[derive(Clone, Copy)]
+struct Cuts {
+    early: usize,
+    late: usize,
+}
+
+/// No connection is cut.
+const NO_CUTS: Cuts = Cuts {
+    early: UNCUT,
+    late: UNCUT,
+};
+
+impl Cuts {
+    /// How many bytes go over a connection, after so many others.
+    fn left(self, made: usize) -> usize {
+        if made < IN_A_ROW {
+            self.early.saturating_add(made)
+        } else if made < 2 * IN_A_ROW {
+            self.late.saturating_add(made - IN_A_ROW)
+        } else {
+            UNCUT
+        }
+    }
+}
+
+/// What is left of a command: its lines, and how it ended.
+#[derive(Drop)]
+struct Log {
+    content: Text,
+    ended: Option<Results>,
+}
+
+/// A lane whose worker is given one command.
+#[derive(Drop)]
+struct Desk<Y: Yard, W: Wait + Drop> {
+    alloc: Global,
+    ends: Ends<Y, W>,
+    carry: Carry,
+    users: Vec<User>,
+    argv: Vec<Text>,
+}
+
+fn user_of(alloc: Global) -> Result<User, AllocError> {
+    Ok(User {
+        name: Text::from_str(alloc, "w0")?,
+        password: Text::from_str(alloc, "p")?,
+    })
+}
+
+impl<Y: Yard, W: Wait + Drop> Desk<Y, W> {
+    /// A lane without a link. No user is known, and there is no command to start.
+    fn new(alloc: Global, ends: Ends<Y, W>) -> Desk<Y, W> {
+        Desk {
+            alloc,
+            ends,
+            carry: Carry::new(alloc, true),
+            users: Vec::new(alloc),
+            argv: Vec::new(alloc),
+        }
+    }
+
+    /// From now on it knows the worker, and starts this line of a shell.
+    fn is_ready(&mut self, line: &str) -> bool {
+        let is_known = match user_of(self.alloc) {
+            Ok(user) => self.users.push(user).is_ok(),
+            Err(_) => false,
+        };
+        is_known && self.orders("sh") && self.orders("-c") && self.orders(line)
+    }
+
+    fn orders(&mut self, word: &str) -> bool {
+        match Text::from_str(self.alloc, word) {
+            Ok(word) => self.argv.push(word).is_ok(),
+            Err(_) => false,
+        }
+    }
+}
+
+impl<Y: Yard, W: Wait + Drop> Desk<Y, W> {
+    /// Serves connections in turn, until the command has ended.
+    fn serve_all<R: Wait + Net<Listener = TcpListener, Stream = TcpStream>>(
+        &mut self,
+        rt: &R,
+        listener: &TcpListener,
+    ) -> Option<()> {
+        for _ in 0..MOST_CONNECTIONS {
+            let (stream, _) = listener.accept().ok()?;
+            if self.serve(rt, stream).is_some() {
+                return Some(());
+            }
+        }
+        None
+    }
+
+    /// Serves a connection until the command has ended and the worker has left.
+    fn serve<R: Wait>(&mut self, rt: &R, stream: TcpStream) -> Option<()> {
+        let alloc = self.alloc;
+        let mut arena = Bump::new(alloc);
+        let mut link = MasterLink::accept(alloc, waiting(alloc, stream)?).ok()?;
+        link.login(alloc, &mut arena, self.users.as_slice()).ok()?;
+        let (reader, carry) = (&mut self.ends.reader, &mut self.carry);
+        link.attach(rt, alloc, reader, carry).ok()?;
+        if reader.next_command() == 0 {
+            link.start(rt, alloc, reader, carry, self.argv.as_slice())
+                .ok()?;
+        }
+        let mut is_told = false;
+        for _ in 0..MOST_TURNS {
+            let (reader, carry) = (&mut self.ends.reader, &mut self.carry);
+            if link.turn(rt, alloc, &mut arena, reader, carry).is_err() {
+                break;
+            }
+            if !is_told && self.is_ended() {
+                link.ask(alloc, &mut self.carry, Ask::Shutdown).ok()?;
+                is_told = true;
+            }
+        }
+        if is_told { Some(()) } else { None }
+    }
+
+    /// Whether the command has ended, once all that was heard is shown.
+    fn is_ended(&mut self) -> bool {
+        for _ in 0..CAPACITY {
+            if self.ends.writer.drain() != Ok(Drained::Took) {
+                break;
+            }
+        }
+        match self.ends.viewers.first_mut() {
+            Some(viewer) => match viewer.state(0, STDIO) {
+                Ok(state) => state.ended.is_some(),
+                Err(_) => false,
+            },
+            None => false,
+        }
+    }
+
+    fn log(&mut self) -> Option<Log> {
+        let viewer = self.ends.viewers.first_mut()?;
+        let chunk = viewer.chunk(0, STDIO, 0, u64::MAX).ok()?;
+        let ended = viewer.state(0, STDIO).ok()?.ended;
+        Some(Log {
+            content: chunk.content,
+            ended,
+        })
+    }
+}
+
+/// Starts a worker whose first connections are cut so.
+fn cut_worker<R>(rt: R, address: SocketAddr, cuts: Cuts) -> Option<JoinHandle<u8>>
+where
+    R: Wait
+        + Threads
+        + Clock
+        + RandomSource
+        + AllocGlobal
+        + Net<Listener = TcpListener, Stream = TcpStream>
+        + Processes<Started = SystemProcess>
+        + Copy
+        + Drop
+        + Send
+        + Sync
+        + 'static,
+{
+    let worker = thread::spawn(&rt, move || {
+        let mut made = 0usize;
+        let dial = || {
+            let left = cuts.left(made);
+            made = made.saturating_add(1);
+            match dial(&rt, address) {
+                Some(stream) => Some(Cut::new(stream, left)),
+                None => None,
+            }
+        };
+        work_run(&rt, dial, "w0", "p", Some("s"))
+    });
+    worker.ok()
+}
+
+/// Whether a desk served a worker whose first connections are cut so, and the worker then left.
+fn has_served<Y: Yard, W: Wait + Drop, R>(rt: R, desk: &mut Desk<Y, W>, cuts: Cuts) -> Option<bool>
+where
+    R: Wait
+        + Threads
+        + Clock
+        + RandomSource
+        + AllocGlobal
+        + Net<Listener = TcpListener, Stream = TcpStream>
+        + Processes<Started = SystemProcess>
+        + Copy
+        + Drop
+        + Send
+        + Sync
+        + 'static,
+{
+    let listener = TcpListener::bind(&rt, "127.0.0.1:0").ok()?;
+    let address = listener.local_addr().ok()?;
+    let worker = cut_worker(rt, address, cuts)?;
+    let is_served = desk.serve_all(&rt, &listener).is_some();
+    drop(listener);
+    Some(worker.join(&rt) == 0 && is_served)
+}
+
+/// What a lane has of a command of a worker whose first connections are cut so.
+fn log_over<Y: Yard, W: Wait + Drop, R>(
+    rt: R,
+    blank: Blank<W>,
+    task: Task,
+    cuts: Cuts,
+) -> Option<Log>
+where
+    R: Wait
+        + Threads
+        + Clock
+        + RandomSource
+        + AllocGlobal
+        + Net<Listener = TcpListener, Stream = TcpStream>
+        + Processes<Started = SystemProcess>
+        + Copy
+        + Drop
+        + Send
+        + Sync
+        + 'static,
+    requires { (blank.queue ≡ Y.queue 0) × (blank.copy ≡ Y.copy 0) }
+{
+    let ends = blank.ends::<Y>(rt.alloc(), 0).ok()?;
+    let mut desk = Desk::new(rt.alloc(), ends);
+    if desk.is_ready(task.line()) && has_served(rt, &mut desk, cuts) == Some(true) {
+        desk.log()
+    } else {
+        None
+    }
+}
+
+/// What a new lane has of a command of a worker whose first connections are cut so.
+fn log_of<R>(rt: R, task: Task, cuts: Cuts) -> Option<Log>
+where
+    R: Wait
+        + Threads
+        + Clock
+        + RandomSource
+        + AllocGlobal
+        + Net<Listener = TcpListener, Stream = TcpStream>
+        + Processes<Started = SystemProcess>
+        + Copy
+        + Drop
+        + Send
+        + Sync
+        + 'static,
+{
+    let blank = open(rt, rt.alloc(), CAPACITY, 1).ok()?;
+    log_over::<Brand, R, R>(rt, blank, task, cuts)
+}
+
+#[test]
+fn a_lane_has_the_log(rt: HostRuntime) -> Result<(), Fail> {
+    let log = log_of(rt, Task::Fail, NO_CUTS).ok_or("no log")?;
+    let content = log.content.as_str();
+    assert!(rt;
+        content.starts_with("hsh -c echo a; echo b >&2; exit 3\n")
+            && content.contains("\noa\n")
+            && content.contains("\neb\n")
+            && content.ends_with("\nhprogram finished with exit code 3\n")
+            && content.matches('\n').count() == 4
+            && log.ended == Some(Results::Failure)
+    );
+    Ok(())
+}
+
+/// What a lane has where each line came once, in order.
+const ONCE: &str =
+    "hsh -c seq 1 9\no1\no2\no3\no4\no5\no6\no7\no8\no9\nhprogram finished with exit code 0\n";
+
+/// Whether each line comes once where these connections are cut.
+fn is_once<R>(rt: R, cuts: Cuts) -> bool
+where
+    R: Wait
+        + Threads
+        + Clock
+        + RandomSource
+        + AllocGlobal
+        + Net<Listener = TcpListener, Stream = TcpStream>
+        + Processes<Started = SystemProcess>
+        + Copy
+        + Drop
+        + Send
+        + Sync
+        + 'static,
+{
+    match log_of(rt, Task::Count, cuts) {
+        Some(log) => log.content.as_str() == ONCE && log.ended == Some(Results::Success),
+        None => false,
+    }
+}
+
+#[test]
+fn each_line_comes_once_through_cuts(rt: HostRuntime) -> Result<(), Fail> {
+    // At each of a connection's first 200 bytes, which are its handshake, and at as many about its
+    // login and behind it.
+    for run in 0..50usize {
+        let early = IN_A_ROW * run;
+        let late = 400 + early;
+        assert!(rt; is_once(rt, Cuts { early, late }), "at byte {early}");
+    }
+    Ok(())
+}
