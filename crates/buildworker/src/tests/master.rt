@@ -143,13 +143,21 @@ impl Master {
 
     /// Hears a message, and answers a request.
     pub fn hear(&mut self) -> Option<()> {
+        match self.hear_only()? {
+            Some(seq) => self.answer(seq),
+            None => Some(()),
+        }
+    }
+
+    /// Hears a message, and tells the number of a request, which isn't answered yet.
+    pub fn hear_only(&mut self) -> Option<Option<u64>> {
         let Numbered { seq, request, .. } = match self.read()? {
             Message::Request(numbered) => numbered,
             Message::Response(response) => {
                 if response.exception {
                     self.refused = self.refused.saturating_add(1);
                 }
-                return Some(());
+                return Some(None);
             }
         };
         match request {
@@ -165,6 +173,14 @@ impl Master {
                 }
             }
             _ => return None,
+        }
+        Some(Some(seq))
+    }
+
+    /// Answers a request.
+    pub fn answer(&mut self, seq: u64) -> Option<()> {
+        if seq >= u64::from(MOST_MESSAGES) {
+            return None;
         }
         let bytes = write_answer(self.alloc, seq, None).ok()?;
         self.send(bytes.as_slice())

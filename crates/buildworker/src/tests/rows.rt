@@ -155,8 +155,16 @@ fn four_commands_run_side_by_side(rt: HostRuntime) -> Result<(), Fail> {
 #[test]
 fn each_line_is_told_once(rt: HostRuntime) -> Result<(), Fail> {
     let script = |master: &mut Master| {
-        master.start(0, "seq 1 200000")?;
-        for _ in 0..1_000 {
+        master.start(0, "seq -f %024.0f 1 200000")?;
+        // The order's answer, and as many requests as the worker keeps unanswered, of far more.
+        for _ in 0..65 {
+            master.hear_only()?;
+        }
+        thread::sleep(&rt, Duration::from_millis(200));
+        for seq in 0..64 {
+            master.answer(seq)?;
+        }
+        for _ in 0..3_000 {
             if master.ended == 0 {
                 master.hear()?;
                 thread::sleep(&rt, Duration::from_millis(2));
