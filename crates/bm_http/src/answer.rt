@@ -1,5 +1,5 @@
 //! Answers to requests.
-ghost use Rattle.std.specs.Prelude.{◌≡◌, IfOk, string_bytes};
+ghost use Rattle.std.specs.Prelude.{◌≡◌, IfOk};
 ghost use Rattle.bm_http.specs.Shown.{reply_of};
 ghost use Rattle.bm_http.specs.Replies.{page as page_reply, refusal as refusal_reply};
 ghost use Rattle.bm_http.specs.Replies.{unavailable as unavailable_reply};
@@ -18,13 +18,10 @@ pub struct Answer {
 }
 
 impl Answer {
-    pub(crate) fn page(body: String) -> Answer
-        ensures { reply_of result ≡ page_reply (string_bytes body) }
+    pub(crate) fn page(body: Vec<u8>) -> Answer
+        ensures { reply_of result ≡ page_reply body.items }
     {
-        Answer {
-            status: 200,
-            body: body.into_bytes(),
-        }
+        Answer { status: 200, body }
     }
 
     pub(crate) fn refusal(alloc: Global, refusal: Refusal) -> Result<Answer, AllocError>
@@ -33,7 +30,7 @@ impl Answer {
         let body = bodies::refusal(alloc, refusal.text())?;
         Ok(Answer {
             status: refusal.status(),
-            body: body.into_bytes(),
+            body,
         })
     }
 

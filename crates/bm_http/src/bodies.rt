@@ -4,6 +4,7 @@ ghost use Rattle.serde_json.specs.View.{view};
 ghost use Rattle.bm_http.specs.Bodies.{contents_text, error_text, log_text};
 ghost use Rattle.bm_http.specs.Values.{chunk_of, error_of, log_of, page_of};
 
+use bm_lines::Text;
 use serde_json::{Value, json};
 use std::alloc::{AllocError, Global};
 
@@ -14,15 +15,15 @@ fn error_value(alloc: Global, text: &str) -> Result<Value, AllocError>
 }
 
 /// The body of a refusal.
-pub fn refusal(alloc: Global, text: &str) -> Result<String, AllocError>
-    ensures { IfOk result (λ s. string_bytes s ≡ error_text text.now) }
+pub fn refusal(alloc: Global, text: &str) -> Result<Vec<u8>, AllocError>
+    ensures { IfOk result (λ b. b.items ≡ error_text text.now) }
 {
     let error = error_value(alloc, text)?;
-    error.to_string(alloc)
+    error.to_vec(alloc)
 }
 
-fn chunk(alloc: Global, id: u64, first: u64, content: &str) -> Result<Value, AllocError>
-    ensures { IfOk result (λ v. view v ≡ chunk_of id first content.now) }
+fn chunk(alloc: Global, id: u64, first: u64, content: String) -> Result<Value, AllocError>
+    ensures { IfOk result (λ v. view v ≡ chunk_of id first (string_bytes content)) }
 {
     json!(in alloc; {"content": content, "firstline": first, "logid": id})
 }
@@ -41,25 +42,25 @@ fn log_value(
     })
 }
 
-fn chunks_page(alloc: Global, chunk: &Value) -> Result<Value, AllocError>
-    ensures { IfOk result (λ v. view v ≡ page_of (codes "logchunks") (view chunk.now)) }
+fn chunks_page(alloc: Global, chunk: Value) -> Result<Value, AllocError>
+    ensures { IfOk result (λ v. view v ≡ page_of (codes "logchunks") (view chunk)) }
 {
     json!(in alloc; {"logchunks": [chunk], "meta": {}})
 }
 
-fn logs_page(alloc: Global, log: &Value) -> Result<Value, AllocError>
-    ensures { IfOk result (λ v. view v ≡ page_of (codes "logs") (view log.now)) }
+fn logs_page(alloc: Global, log: Value) -> Result<Value, AllocError>
+    ensures { IfOk result (λ v. view v ≡ page_of (codes "logs") (view log)) }
 {
     json!(in alloc; {"logs": [log], "meta": {}})
 }
 
-/// The body for lines of a log.
-pub fn contents(alloc: Global, id: u64, first: u64, content: &str) -> Result<String, AllocError>
-    ensures { IfOk result (λ s. string_bytes s ≡ contents_text id first content.now) }
+/// The body for lines of a log, whose content isn't copied but once into it.
+pub fn contents(alloc: Global, id: u64, first: u64, content: Text) -> Result<Vec<u8>, AllocError>
+    ensures { IfOk result (λ b. b.items ≡ contents_text id first content) }
 {
-    let chunk = chunk(alloc, id, first, content)?;
-    let page = chunks_page(alloc, &chunk)?;
-    page.to_string(alloc)
+    let chunk = chunk(alloc, id, first, content.into_string())?;
+    let page = chunks_page(alloc, chunk)?;
+    page.to_vec(alloc)
 }
 
 /// The body for a log.
@@ -69,10 +70,10 @@ pub fn log(
     name: &str,
     complete: bool,
     lines: u64,
-) -> Result<String, AllocError>
-    ensures { IfOk result (λ s. string_bytes s ≡ log_text id name.now complete lines) }
+) -> Result<Vec<u8>, AllocError>
+    ensures { IfOk result (λ b. b.items ≡ log_text id name.now complete lines) }
 {
     let log = log_value(alloc, id, name, complete, lines)?;
-    let page = logs_page(alloc, &log)?;
-    page.to_string(alloc)
+    let page = logs_page(alloc, log)?;
+    page.to_vec(alloc)
 }
