@@ -35,14 +35,16 @@ impl Capacity {
 
 /// What the words ask for.
 #[derive(Clone, Copy)]
-pub enum Job {
+pub enum Job<'a> {
     /// Standard input is replayed, over a queue of this capacity.
     Replay { capacity: Capacity },
+    /// The master of the configuration in this file is run.
+    Serve { file: &'a str },
 }
 
 /// Reads the words of the command line, of which the first is the program's name. The answer is
 /// None where they ask for nothing that the program does.
-pub fn read_job(words: &[String]) -> Option<Job> {
+pub fn read_job(words: &[String]) -> Option<Job<'_>> {
     match words {
         [_, job] if job.as_str() == "replay" => Some(Job::Replay {
             capacity: Capacity {
@@ -51,6 +53,9 @@ pub fn read_job(words: &[String]) -> Option<Job> {
         }),
         [_, job, capacity] if job.as_str() == "replay" => Some(Job::Replay {
             capacity: Capacity::read(capacity.as_str())?,
+        }),
+        [_, job, file] if job.as_str() == "serve" => Some(Job::Serve {
+            file: file.as_str(),
         }),
         _ => None,
     }

@@ -1,4 +1,5 @@
-//! The build master: replays the recorded events of a worker's lane.
+//! The build master: serves the workers, builds and logs of a configuration, or replays the recorded
+//! events of a worker's lane.
 #![tactic(auto)]
 
 mod answers;
@@ -8,13 +9,15 @@ pub mod laws;
 mod numbers;
 mod replay;
 mod script;
+mod serving;
 #[cfg(test)]
 mod tests;
 
 use arguments::{Job, USAGE, read_job};
 use replay::replay_run;
-use std::alloc::{AllocError, Global};
-use std::io::{Read, Write};
+use serving::serve_file;
+use std::alloc::{AllocError, AllocGlobal};
+use std::io::Write;
 use std::process::ExitCode;
 use std::rt::Env;
 use std::{env, io};
@@ -23,16 +26,17 @@ use std::{env, io};
 const WRONG_WORDS: u8 = 2;
 
 fn main(rt: HostRuntime) -> ExitCode {
-    match words(&rt) {
-        Ok(words) => ExitCode::from(run(
-            rt.alloc(),
-            words.as_slice(),
-            rt.stdin(),
-            rt.stdout(),
-            rt.stderr(),
-        )),
-        Err(_) => ExitCode::FAILURE,
-    }
+    let Ok(words) = words(&rt) else {
+        return ExitCode::FAILURE;
+    };
+    let (input, output, faults) = (rt.stdin(), rt.stdout(), rt.stderr());
+    ExitCode::from(match read_job(words.as_slice()) {
+        Some(Job::Replay { capacity }) => {
+            replay_run(rt.alloc(), capacity.items, input, output, faults)
+        }
+        Some(Job::Serve { file }) => serve_file(&rt, file, input, output, faults),
+        None => tell_usage(faults),
+    })
 }
 
 /// The words of the command line, of which the first is the program's name. Where one isn't UTF-8
@@ -45,24 +49,10 @@ fn words<R: Env + AllocGlobal>(rt: &R) -> Result<Vec<String>, AllocError> {
     }
 }
 
-/// Does what the words ask for, over these streams, and answers the exit status. Words that ask for
-/// nothing are answered by the usage on `faults`.
-fn run<R: Read + Drop, W: Write + Drop, F: Write + Drop>(
-    alloc: Global,
-    words: &[String],
-    input: R,
-    output: W,
-    faults: F,
-) -> u8 {
-    match read_job(words) {
-        Some(Job::Replay { capacity }) => {
-            replay_run(alloc, capacity.items, input, output, faults)
-        }
-        None => {
-            let mut faults = faults;
-            // Where the usage can't be told, the status still says that the words are wrong.
-            let _ = writeln!(faults, "{USAGE}");
-            WRONG_WORDS
-        }
-    }
+/// Tells the usage, and answers the exit status of words that ask for nothing that the program does.
+fn tell_usage<F: Write + Drop>(faults: F) -> u8 {
+    let mut faults = faults;
+    // Where the usage can't be told, the status still says that the words are wrong.
+    let _ = writeln!(faults, "{USAGE}");
+    WRONG_WORDS
 }

@@ -2,7 +2,8 @@
 
 use super::Replayed;
 use crate::arguments::{Job, read_job};
-use crate::run;
+use crate::replay::replay_run;
+use crate::tell_usage;
 use std::alloc::Global;
 use std::test::Fail;
 
@@ -21,7 +22,7 @@ fn capacity_asked(alloc: Global, words: &[&str]) -> Result<Option<u32>, Fail> {
     let owned = command_line(alloc, words)?;
     match read_job(owned.as_slice()) {
         Some(Job::Replay { capacity }) => Ok(Some(capacity.items)),
-        None => Ok(None),
+        Some(Job::Serve { .. }) | None => Ok(None),
     }
 }
 
@@ -31,7 +32,13 @@ fn ran(alloc: Global, words: &[&str]) -> Result<Replayed, Fail> {
     let input: &[u8] = b"up\n";
     let mut output = Vec::new(alloc);
     let mut faults = Vec::new(alloc);
-    let status = run(alloc, owned.as_slice(), input, &mut output, &mut faults);
+    let status = match read_job(owned.as_slice()) {
+        Some(Job::Replay { capacity }) => {
+            replay_run(alloc, capacity.items, input, &mut output, &mut faults)
+        }
+        Some(Job::Serve { .. }) => 0,
+        None => tell_usage(&mut faults),
+    };
     Ok(Replayed {
         status,
         output: String::from_utf8(output)?,
@@ -48,7 +55,7 @@ const GOOD: [(&[&str], u32); 4] = [
 ];
 
 /// Words that ask for nothing that the program does.
-const WRONG: [&[&str]; 12] = [
+const WRONG: [&[&str]; 13] = [
     &["replay", "0"],
     &["replay", "65537"],
     &["replay", "+4"],
@@ -60,7 +67,8 @@ const WRONG: [&[&str]; 12] = [
     &[],
     &["Replay"],
     &["replay", "4", "4"],
-    &["serve", "master.toml"],
+    &["serve"],
+    &["serve", "master.toml", "4"],
 ];
 
 #[test]

@@ -1,0 +1,40 @@
+//! What all threads of a master share.
+
+use crate::news::Mail;
+use crate::visit::Guest;
+use bm_clerk::{Bell, Door, Guests};
+use bm_config::Config;
+use bm_lane::{WriterEnd, Yard};
+use bm_link::User;
+use std::alloc::{AllocError, Global};
+use std::sync::atomic::AtomicBool;
+use std::sync::{Arc, Mutex, Wait};
+use std::time::Clock;
+
+/// What all threads of a master share. Each list is in the order of the lanes, but for `cancels`.
+#[derive(Drop)]
+pub struct Common<Y: Yard, R: Wait + Clock + Drop> {
+    pub rt: R,
+    pub alloc: Global,
+    pub config: Config,
+    /// For each build, whether its step is to be cancelled.
+    pub cancels: Vec<AtomicBool>,
+    pub users: Vec<User>,
+    pub doors: Vec<Door<Guest<R>>>,
+    pub mail: Mail<Y>,
+    pub guests: Guests,
+    /// The writers' ends, which the pool drains.
+    pub lanes: Vec<Mutex<WriterEnd<Y, R>>>,
+    pub bell: Bell<R>,
+    /// Set once the master ends.
+    pub is_over: Arc<AtomicBool, Global>,
+}
+
+/// A flag for each build, which isn't set.
+pub fn flags_of(alloc: Global, builds: usize) -> Result<Vec<AtomicBool>, AllocError> {
+    let mut flags = Vec::with_capacity(alloc, builds)?;
+    for _ in 0..builds {
+        flags.push(AtomicBool::new(false))?;
+    }
+    Ok(flags)
+}

@@ -1,0 +1,466 @@
+//! The foreman: it alone knows all builds and workers, and does what follows from the news.
+
+use crate::builds::start_build;
+use crate::common::Common;
+use crate::news::{Letters, News, Returned, Step};
+use crate::seat::Seat;
+use bm_clerk::{Notice, Order};
+use bm_lane::{Viewer, Yard};
+use bm_parts::{event_of, fills, refusal_of};
+use bm_roster::{Bench, Cancelled, Roster};
+use bm_rules::{Duty, LogId, Pace, ProcessDuty, Remark, Report, WorkerEvent};
+use bm_session::Results;
+use std::io::Write;
+use std::process::{Processes, SystemProcess};
+use std::sync::Wait;
+use std::sync::atomic::Ordering;
+use std::thread;
+use std::thread::{Scope, Threads};
+use std::time::{Clock, Duration, Instant};
+
+/// How long a tick is, in milliseconds.
+pub const TICK: u64 = 10;
+
+/// How many ticks are told of at once at the most, where the foreman was late.
+const MOST_TICKS: u64 = 100;
+
+/// How many ticks the processes of workers have to end, once the master ends.
+const LAST_TICKS: u64 = 200;
+
+/// What is left once the foreman has left.
+#[derive(Drop)]
+pub struct Left<Y: Yard, O> {
+    /// The viewers of the builds, by their lanes.
+    pub benches: Vec<Bench<Y>>,
+    pub output: O,
+    /// Whether a result is neither SUCCESS nor WARNINGS.
+    pub is_bad: bool,
+    /// Whether a report could not be written, or a build could not be run.
+    pub has_failed: bool,
+}
+
+/// The foreman. It owns the roster, what is known of the workers, and the processes of those that
+/// are started on demand; it alone writes reports and remarks while builds may run.
+#[derive(Drop)]
+pub struct Foreman<'s, Y: Yard, R: Wait + Clock + Drop, O, F> {
+    pub common: &'s Common<Y, R>,
+    pub roster: Roster<Y>,
+    pub seats: Vec<Seat>,
+    pub output: O,
+    pub faults: F,
+    pub clock: Ticker,
+    /// Whether builds may be wanted or started that were not before.
+    pub is_stale: bool,
+    /// Whether standard input has ended.
+    pub is_closed: bool,
+    pub has_reported: bool,
+    pub has_failed: bool,
+}
+
+/// Ticks by the clock.
+#[derive(Drop)]
+pub struct Ticker {
+    began: Option<Instant>,
+    pace: Pace,
+}
+
+impl Ticker {
+    /// Ticks from now on.
+    pub fn new<R: Clock>(rt: &R) -> Ticker {
+        Ticker {
+            began: Instant::now(rt).ok(),
+            pace: Pace::new(TICK, 0),
+        }
+    }
+
+    // How many ticks have ended since the last call, up to a most.
+    fn ticks<R: Clock>(&mut self, rt: &R) -> u64 {
+        let Some(began) = self.began else {
+            return 1;
+        };
+        let Ok(passed) = began.elapsed(rt) else {
+            return 1;
+        };
+        let now = passed
+            .as_secs()
+            .saturating_mul(1000)
+            .saturating_add(u64::from(passed.subsec_millis()));
+        self.pace.ticks(now).min(MOST_TICKS)
+    }
+}
+
+impl<'s, Y, R, O, F> Foreman<'s, Y, R, O, F>
+where
+    Y: Yard + Send + Sync + 's,
+    R: Wait + Clock + Threads + Processes<Started = SystemProcess> + Drop + Send + Sync + 's,
+    O: Write + Drop,
+    F: Write + Drop,
+{
+    // Tells the operator. What can't be told is passed over.
+    fn remark(&mut self, remark: &Remark<'_>) {
+        let _ = remark.write(self.common.alloc, &mut self.faults);
+    }
+
+    // The name of a worker.
+    fn name(&self, worker: usize) -> &'s str {
+        match self.common.config.workers.as_slice().get(worker) {
+            Some(worker) => worker.name.as_str(),
+            None => "",
+        }
+    }
+
+    // Whether ticks count.
+    fn is_timed(&self) -> bool {
+        self.roster.is_short() || self.seats.iter().any(|seat| seat.is_timed())
+    }
+
+    // Something happened to a worker: what follows is done.
+    fn happens(&mut self, worker: usize, event: WorkerEvent) {
+        let Some(seat) = self.seats.get_mut(worker) else {
+            return;
+        };
+        let duty = seat.post.hear(event);
+        self.obey(worker, duty);
+    }
+
+    // Does what is to be done for a worker.
+    fn obey(&mut self, worker: usize, duty: Duty) {
+        let mut duty = duty;
+        for _ in 0..2 {
+            self.roster.set_ready(worker, duty.ready);
+            if duty.gives_up {
+                self.is_stale = true;
+                self.give_up(worker);
+            }
+            match duty.process {
+                ProcessDuty::None => return,
+                ProcessDuty::Shutdown => return self.dismiss(worker),
+                ProcessDuty::Start => match self.start_process(worker) {
+                    Some(next) => duty = next,
+                    None => return,
+                },
+            }
+        }
+    }
+
+    // Each build that waits for the worker is given up.
+    fn give_up(&mut self, worker: usize) {
+        for _ in 0..self.roster.builds() {
+            let Some(build) = self.roster.give_up_one(worker) else {
+                return;
+            };
+            self.remark(&Remark::BuildEnded {
+                build,
+                result: Results::Retry,
+            });
+        }
+    }
+
+    // Has the worker told to shut down.
+    fn dismiss(&mut self, worker: usize) {
+        if let Some(door) = self.common.doors.get(worker) {
+            door.tell(&self.common.rt, Order::ShutDown);
+            let worker = self.name(worker);
+            self.remark(&Remark::Dismissed { worker });
+        }
+    }
+
+    // Starts the worker's process, and answers what then is to be done.
+    fn start_process(&mut self, worker: usize) -> Option<Duty> {
+        let name = self.name(worker);
+        let seat = self.seats.get_mut(worker)?;
+        if seat.start(&self.common.rt, self.common.alloc) {
+            let duty = seat.post.hear(WorkerEvent::Started);
+            self.remark(&Remark::ProgramStarted { worker: name });
+            Some(duty)
+        } else {
+            let duty = seat.post.hear(WorkerEvent::Failed);
+            self.remark(&Remark::ProgramFailed { worker: name });
+            Some(duty)
+        }
+    }
+
+    // The worker's process has ended.
+    fn stopped(&mut self, worker: usize) {
+        let name = self.name(worker);
+        self.remark(&Remark::ProgramEnded { worker: name });
+        if let Some(door) = self.common.doors.get(worker) {
+            door.tell(&self.common.rt, Order::Ended);
+        }
+        self.happens(worker, WorkerEvent::Stopped);
+    }
+
+    // A tick has passed.
+    fn tick(&mut self) {
+        for worker in 0..self.seats.len() {
+            let has_ended = match self.seats.get_mut(worker) {
+                Some(seat) => seat.has_ended(),
+                None => false,
+            };
+            if has_ended {
+                self.stopped(worker);
+            }
+            let has_build = self.roster.has_build(worker);
+            self.happens(worker, WorkerEvent::Tick { has_build });
+        }
+        self.want();
+    }
+
+    // Tells of each worker for which a build waits.
+    fn want(&mut self) {
+        for worker in 0..self.seats.len() {
+            if self.roster.is_wanted(worker) {
+                self.happens(worker, WorkerEvent::Wanted);
+            }
+        }
+    }
+
+    // Starts each build that can be started.
+    fn press<E>(&mut self, scope: &Scope<'s, E>) {
+        self.want();
+        for _ in 0..self.roster.builds() {
+            let Some(commission) = self.roster.next() else {
+                return;
+            };
+            let (number, worker) = (commission.number, commission.worker);
+            match start_build(scope, self.common, commission) {
+                Ok(()) => {
+                    let worker = self.name(worker);
+                    self.remark(&Remark::BuildStarted {
+                        build: number,
+                        worker,
+                    });
+                }
+                Err(viewer) => {
+                    self.has_failed = true;
+                    self.ends(number, Results::Retry, viewer);
+                }
+            }
+        }
+    }
+
+    // A build has ended, with this result of its runner.
+    fn ends(&mut self, number: u64, reported: Results, viewer: Viewer<Y>) {
+        if !self.roster.end(number, reported, viewer) {
+            self.has_failed = true;
+        }
+        if let Some(result) = self.roster.result(number) {
+            self.remark(&Remark::BuildEnded {
+                build: number,
+                result,
+            });
+        }
+    }
+
+    // Cancels a build, where it has not ended.
+    fn cancel(&mut self, number: u64) {
+        match self.roster.cancel(number) {
+            Cancelled::Waiting => self.remark(&Remark::BuildEnded {
+                build: number,
+                result: Results::Cancelled,
+            }),
+            Cancelled::Running => {
+                if let Some(cancelled) = self.common.cancels.get(number as usize) {
+                    cancelled.store(true, Ordering::SeqCst);
+                }
+                self.remark(&Remark::BuildCancelled { build: number });
+            }
+            Cancelled::Nothing => {}
+        }
+    }
+
+    // A step of a build was started, or has ended.
+    fn hear_step(&mut self, step: &Step) {
+        let config = &self.common.config;
+        let lane = match config.builds.as_slice().get(step.build as usize) {
+            Some(build) => build.worker as u64,
+            None => 0,
+        };
+        let log = LogId {
+            command: step.command,
+            lane,
+            lanes: config.workers.as_slice().len() as u64,
+        };
+        let name = match &step.name {
+            Some(name) => name.as_str(),
+            None => "",
+        };
+        let build = step.build;
+        match step.outcome {
+            None => self.remark(&Remark::StepStarted {
+                build,
+                log,
+                step: name,
+            }),
+            Some(result) => self.remark(&Remark::StepEnded {
+                build,
+                log,
+                result,
+                step: name,
+            }),
+        }
+    }
+
+    // A build's thread hands its build back.
+    fn hear_build(&mut self, returned: Returned<Y>) {
+        let Returned {
+            number,
+            result,
+            viewer,
+        } = returned;
+        if result.is_none() {
+            self.has_failed = true;
+        }
+        self.ends(number, result.unwrap_or(Results::Retry), viewer);
+    }
+
+    // The clerk of a worker's lane has news.
+    fn hear_clerk(&mut self, at: usize, notice: Notice) {
+        let worker = self.name(at);
+        match notice {
+            Notice::Attached => self.remark(&Remark::LoggedIn { worker }),
+            Notice::Resumed => self.remark(&Remark::Resumed { worker }),
+            Notice::Cut(cause) => self.remark(&Remark::Cut { worker, cause }),
+            Notice::Lost(cause) => self.remark(&Remark::Lost { worker, cause }),
+            Notice::Declined(fault) => self.remark(&Remark::LoginRefused {
+                name: worker,
+                why: refusal_of(fault),
+            }),
+            Notice::Filled => self.remark(&Remark::Filled { worker }),
+        }
+        if let Some(event) = event_of(notice) {
+            self.happens(at, event);
+        }
+        if fills(notice) {
+            self.happens(at, WorkerEvent::Filled);
+        }
+    }
+
+    // Does what follows from the news. Builds may then be wanted or started that were not before, but
+    // for what is only remarked.
+    fn hear(&mut self, news: News<Y>) {
+        match news {
+            News::Step(step) => return self.hear_step(&step),
+            News::Refused(why) => return self.remark(&Remark::ConnectionRefused { why }),
+            News::Paused => return self.remark(&Remark::AcceptingPaused),
+            News::Lane(worker, notice) => self.hear_clerk(worker, notice),
+            News::Ended(returned) => self.hear_build(returned),
+            News::Cancel(number) => self.cancel(number),
+            News::InputEnded => self.is_closed = true,
+        }
+        self.is_stale = true;
+    }
+
+    // Reports the results once every build has one.
+    fn report(&mut self) {
+        if self.has_reported || !self.roster.is_over() {
+            return;
+        }
+        self.has_reported = true;
+        for number in 0..self.roster.builds() {
+            if let Some(result) = self.roster.result(number) {
+                let report = Report::Build { number, result };
+                if report.write(self.common.alloc, &mut self.output).is_err() {
+                    self.has_failed = true;
+                }
+            }
+        }
+        if self.output.flush().is_err() {
+            self.has_failed = true;
+        }
+    }
+
+    // The next news, or none within a tick where ticks count.
+    fn next_news(&self, letters: &Letters<Y>) -> Option<News<Y>> {
+        let rt = &self.common.rt;
+        if self.is_stale {
+            letters.look(rt)
+        } else if self.is_timed() {
+            letters.wait_for(rt, Duration::from_millis(TICK))
+        } else {
+            letters.wait(rt)
+        }
+    }
+
+    /// Serves until standard input has ended and every build is over.
+    pub fn preside<E>(&mut self, scope: &Scope<'s, E>, letters: &Letters<Y>) {
+        let common = self.common;
+        for _ in common.rt.forever() {
+            if self.is_stale {
+                self.is_stale = false;
+                self.press(scope);
+                self.report();
+            }
+            if self.is_closed && self.has_reported {
+                break;
+            }
+            let is_timed = self.is_timed();
+            let news = self.next_news(letters);
+            let ticks = self.clock.ticks(&common.rt);
+            if is_timed {
+                self.is_stale = self.is_stale || self.roster.is_short();
+                for _ in 0..ticks {
+                    self.tick();
+                }
+            }
+            if let Some(news) = news {
+                self.hear(news);
+            }
+        }
+        self.end_processes();
+    }
+
+    // Has the processes of workers ended, and ends those that don't in time.
+    fn end_processes(&mut self) {
+        let common = self.common;
+        for worker in 0..self.seats.len() {
+            let is_running = match self.seats.get(worker) {
+                Some(seat) => seat.is_running(),
+                None => false,
+            };
+            if is_running {
+                self.dismiss(worker);
+            }
+        }
+        for _ in 0..LAST_TICKS {
+            if !self.seats.iter().any(|seat| seat.is_running()) {
+                return;
+            }
+            thread::sleep(&common.rt, Duration::from_millis(TICK));
+            for seat in self.seats.iter_mut() {
+                seat.has_ended();
+            }
+        }
+        for seat in self.seats.iter_mut() {
+            seat.kill();
+        }
+    }
+
+    // Whether a result is neither SUCCESS nor WARNINGS.
+    fn is_bad(&self) -> bool {
+        for number in 0..self.roster.builds() {
+            match self.roster.result(number) {
+                Some(Results::Success | Results::Warnings) => {}
+                _ => return true,
+            }
+        }
+        false
+    }
+
+    /// What is left.
+    pub fn leave(self) -> Left<Y, O> {
+        let is_bad = self.is_bad();
+        let Foreman {
+            roster,
+            output,
+            has_failed,
+            ..
+        } = self;
+        Left {
+            benches: roster.into_benches(),
+            output,
+            is_bad,
+            has_failed,
+        }
+    }
+}

@@ -1,0 +1,20 @@
+//! A build master: its threads, from the first to the last.
+//!
+//! Each lane has a clerk, which alone calls its link; a foreman alone knows all builds; each build,
+//! and each connection until its login, has a thread of its own; a pool of writers shows what was
+//! heard, and the web serves it.
+#![tactic(auto)]
+
+mod acceptor;
+mod builds;
+mod common;
+mod foreman;
+mod input;
+mod news;
+mod process;
+mod seat;
+mod serving;
+mod threads;
+mod visit;
+
+pub use serving::serve;

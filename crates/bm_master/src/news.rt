@@ -1,0 +1,112 @@
+//! What the foreman is told.
+
+use bm_clerk::Notice;
+use bm_lane::{Viewer, Yard};
+use bm_lines::Text;
+use bm_rules::LoginRefusal;
+use bm_session::Results;
+use crossbeam_channel::{Receiver, Sender, unbounded};
+use std::alloc::{AllocError, Global};
+use std::sync::Wait;
+use std::thread;
+use std::time::{Clock, Duration};
+
+/// What a build's thread hands back.
+#[derive(Drop)]
+pub struct Returned<Y: Yard> {
+    /// The build's number.
+    pub number: u64,
+    /// Its result. None where memory was wanting before its first step.
+    pub result: Option<Results>,
+    pub viewer: Viewer<Y>,
+}
+
+/// A step of a build that was started, or has ended.
+#[derive(Drop)]
+pub struct Step {
+    /// The build's number.
+    pub build: u64,
+    /// The command's number on its worker's lane.
+    pub command: u64,
+    /// The step's name, where there was memory for it.
+    pub name: Option<Text>,
+    /// How it ended. None at its start.
+    pub outcome: Option<Results>,
+}
+
+/// What the foreman is told.
+#[derive(Drop)]
+pub enum News<Y: Yard> {
+    /// By the clerk of this lane.
+    Lane(usize, Notice),
+    /// By the thread of a build that has ended.
+    Ended(Returned<Y>),
+    /// A step of a build was started, or has ended.
+    Step(Step),
+    /// A connection was not taken up.
+    Refused(LoginRefusal),
+    /// No connection could be accepted just now.
+    Paused,
+    /// A line of standard input cancels this build.
+    Cancel(u64),
+    /// Standard input has ended.
+    InputEnded,
+}
+
+/// Where news are sent. Sending never waits for the foreman.
+#[derive(Drop)]
+pub struct Mail<Y: Yard> {
+    sender: Sender<News<Y>, Global>,
+}
+
+/// Where news arrive.
+#[derive(Drop)]
+pub struct Letters<Y: Yard> {
+    receiver: Receiver<News<Y>, Global>,
+}
+
+/// A way for news, by both its ends.
+pub fn open_mail<Y: Yard>(alloc: Global) -> Result<(Mail<Y>, Letters<Y>), AllocError> {
+    let (sender, receiver) = unbounded(alloc)?;
+    Ok((Mail { sender }, Letters { receiver }))
+}
+
+impl<Y: Yard> Mail<Y> {
+    /// Another end of the same way.
+    pub fn copy(&self) -> Result<Mail<Y>, AllocError> {
+        Ok(Mail {
+            sender: self.sender.clone()?,
+        })
+    }
+
+    /// Tells the foreman. Where memory is wanting it is tried again after a while, so that no news is
+    /// lost but those that come after the foreman has left.
+    pub fn tell<R: Wait + Clock>(&self, rt: &R, news: News<Y>) {
+        let mut news = news;
+        for _ in rt.forever() {
+            match self.sender.send(rt, news) {
+                Ok(()) => return,
+                Err(error) if error.is_disconnected() => return,
+                Err(error) => news = error.into_inner(),
+            }
+            thread::sleep(rt, Duration::from_millis(10));
+        }
+    }
+}
+
+impl<Y: Yard> Letters<Y> {
+    /// The next news, however long it takes.
+    pub fn wait<R: Wait>(&self, rt: &R) -> Option<News<Y>> {
+        self.receiver.recv(rt).ok()
+    }
+
+    /// The next news, if it comes within this time.
+    pub fn wait_for<R: Wait + Clock>(&self, rt: &R, most: Duration) -> Option<News<Y>> {
+        self.receiver.recv_timeout(rt, most).ok()
+    }
+
+    /// The next news, if there is one.
+    pub fn look<R: Wait>(&self, rt: &R) -> Option<News<Y>> {
+        self.receiver.try_recv(rt).ok()
+    }
+}

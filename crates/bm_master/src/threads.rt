@@ -1,0 +1,556 @@
+//! The threads of a master, from the first to the last.
+ghost use Rattle.std.specs.Prelude.{◌≡◌};
+ghost use Rattle.std.specs.Thread.{IsSend, IsSync};
+
+use crate::acceptor::accept_all;
+use crate::common::Common;
+use crate::foreman::{Foreman, Left, Ticker};
+use crate::input::read_input;
+use crate::news::{Letters, Mail, News};
+use crate::seat::Seat;
+use crate::visit::Guest;
+use bm_clerk::{Desk, Inbox, Notice, Order, Tell, serve_lane};
+use bm_lane::{Gate, Pass, ReaderEnd, Yard, writers};
+use bm_roster::Roster;
+use bm_serve::{Limits, Site};
+use std::alloc::AllocGlobal;
+use std::io::{Read, Write};
+use std::net::{Net, TcpListener, TcpStream};
+use std::process::{Processes, SystemProcess};
+use std::random::RandomSource;
+use std::sync::atomic::Ordering;
+use std::sync::{Arc, Wait};
+use std::thread;
+use std::thread::{JoinHandle, Scope, Threads};
+use std::time::{Clock, Duration};
+use tokio::sync::oneshot;
+
+/// How many threads serve the web.
+const WEB_THREADS: usize = 2;
+
+/// How many connections the web has open at once.
+const WEB_CONNECTIONS: usize = 256;
+
+/// How long a connection of the web may be idle, in seconds.
+const WEB_IDLE: u64 = 30;
+
+/// What the threads that serve lanes and connections are given.
+#[derive(Drop)]
+pub struct Service<Y: Yard, R: Wait + Clock + Drop> {
+    pub desks: Vec<Desk<Y, Guest<R>>>,
+    pub inboxes: Vec<Inbox<Guest<R>>>,
+    /// Where workers connect. Its `accept` doesn't wait.
+    pub workers: TcpListener,
+    pub web: TcpListener,
+    /// What is served on the web.
+    pub site: Arc<Site<Y>>,
+}
+
+/// What the foreman is given.
+#[derive(Drop)]
+pub struct Lead<Y: Yard, O, F> {
+    pub letters: Letters<Y>,
+    pub roster: Roster<Y>,
+    pub seats: Vec<Seat>,
+    pub output: O,
+    pub faults: F,
+}
+
+/// What the threads leave.
+#[derive(Drop)]
+pub struct Came<Y: Yard, O> {
+    pub readers: Vec<ReaderEnd<Y>>,
+    pub left: Left<Y, O>,
+    /// Whether the pool and the web did their work to the end.
+    pub is_whole: bool,
+}
+
+/// Who tells the foreman what happens to a lane.
+#[derive(Drop)]
+struct LaneTeller<'s, Y: Yard, R: Wait + Clock> {
+    rt: &'s R,
+    mail: &'s Mail<Y>,
+    lane: usize,
+}
+
+impl<'s, Y: Yard, R: Wait + Clock> Tell for LaneTeller<'s, Y, R> {
+    fn tell(&mut self, notice: Notice) {
+        self.mail.tell(self.rt, News::Lane(self.lane, notice));
+    }
+}
+
+// Starts the clerk of a lane. None where the inbox is another lane's, or no thread can be started.
+fn start_clerk<'s, E, Y, R>(
+    scope: &Scope<'s, E>,
+    common: &'s Common<Y, R>,
+    lane: usize,
+    desk: Desk<Y, Guest<R>>,
+    inbox: Inbox<Guest<R>>,
+) -> Option<JoinHandle<ReaderEnd<Y>>>
+where
+    Y: Yard + Send + Sync + 's,
+    R: Wait + Clock + Threads + Drop + Send + Sync + 's,
+{
+    if desk.lane() != inbox.lane() {
+        return None;
+    }
+    let (rt, alloc, bell, mail) = (&common.rt, common.alloc, &common.bell, &common.mail);
+    let teller = LaneTeller { rt, mail, lane };
+    scope
+        .spawn(move || serve_lane(rt, alloc, desk, &inbox, bell, teller))
+        .ok()
+}
+
+// Starts the lanes' clerks. There is room for so many. The answer is whether all were started.
+fn start_clerks<'s, E, Y, R>(
+    scope: &Scope<'s, E>,
+    common: &'s Common<Y, R>,
+    desks: Vec<Desk<Y, Guest<R>>>,
+    inboxes: Vec<Inbox<Guest<R>>>,
+    clerks: &mut Vec<JoinHandle<ReaderEnd<Y>>>,
+) -> bool
+where
+    Y: Yard + Send + Sync + 's,
+    R: Wait + Clock + Threads + Drop + Send + Sync + 's,
+{
+    let mut inboxes = inboxes.into_iter();
+    for (lane, desk) in desks.into_iter().enumerate() {
+        let Some(inbox) = inboxes.next() else {
+            return false;
+        };
+        let Some(clerk) = start_clerk(scope, common, lane, desk, inbox) else {
+            return false;
+        };
+        if clerks.push(clerk).is_err() {
+            return false;
+        }
+    }
+    true
+}
+
+// Drains the lanes until the bell says stop. Where the writers can't be started this thread drains
+// alone, so that no build waits for ever; the answer is then false.
+fn drain<Y, R>(common: &Common<Y, R>) -> bool
+where
+    Y: Yard + Send + Sync,
+    R: Wait + Clock + Threads + Drop + Send + Sync,
+{
+    let (rt, bell, lanes) = (&common.rt, &common.bell, common.lanes.as_slice());
+    let threads = common.config.writers as usize;
+    if writers(rt, common.alloc, lanes, bell, threads, u64::MAX).is_ok() {
+        return true;
+    }
+    for _ in rt.forever() {
+        for (lane, end) in lanes.iter().enumerate() {
+            match bell.pass(0, lane) {
+                Pass::Go => {
+                    let answer = end.lock(rt).drain();
+                    bell.done(0, lane, answer);
+                }
+                Pass::Skip => {}
+                Pass::Stop => return false,
+            }
+        }
+    }
+    unreachable!()
+}
+
+// Accepts connections until the master ends. Then those that have not logged in end too.
+fn host<Y, R>(common: &Common<Y, R>, listener: &TcpListener)
+where
+    Y: Yard + Send + Sync,
+    R: Wait + Clock + Threads + Copy + Drop + Send + Sync,
+{
+    thread::scope(
+        thread::scope_env(),
+        &common.rt,
+        |scope| -> ()
+            requires { IsSend Y.row × IsSync Y.row × IsSend R.row × IsSync R.row }
+        { accept_all(scope, common, listener) },
+    )
+}
+
+/// What is served on the web, where, and until when.
+#[derive(Drop)]
+struct Serving<R, Y: Yard> {
+    rt: R,
+    listener: TcpListener,
+    site: Arc<Site<Y>>,
+    stopped: oneshot::Receiver<()>,
+}
+
+impl<R, Y: Yard + Send + Sync> Serving<R, Y>
+where
+    R: Wait + Threads + Clock + RandomSource + AllocGlobal + Net + Copy + Send + Sync,
+{
+    // Serves the logs until the stop. The answer is whether that could begin.
+    fn serve(self) -> bool {
+        let Serving {
+            rt,
+            listener,
+            site,
+            stopped,
+        } = self;
+        let limits = Limits {
+            workers: WEB_THREADS,
+            connections: WEB_CONNECTIONS,
+            idle: Duration::from_secs(WEB_IDLE),
+        };
+        bm_serve::serve(rt, limits, listener, site, stopped).is_ok()
+    }
+}
+
+/// The threads that serve lanes and workers' connections.
+#[derive(Drop)]
+struct Staff<Y: Yard> {
+    pool: Option<JoinHandle<bool>>,
+    host: Option<JoinHandle<()>>,
+    clerks: Vec<JoinHandle<ReaderEnd<Y>>>,
+    has_all_clerks: bool,
+}
+
+// Starts the threads that serve lanes and workers' connections. There is room for the clerks.
+fn start_staff<'s, E, Y, R>(
+    scope: &Scope<'s, E>,
+    common: &'s Common<Y, R>,
+    desks: Vec<Desk<Y, Guest<R>>>,
+    inboxes: Vec<Inbox<Guest<R>>>,
+    workers: TcpListener,
+    room: Vec<JoinHandle<ReaderEnd<Y>>>,
+) -> Staff<Y>
+where
+    Y: Yard + Send + Sync + 's,
+    R: Wait + Clock + Threads + Copy + Drop + Send + Sync + 's,
+{
+    let mut clerks = room;
+    let pool = scope.spawn(move || drain(common)).ok();
+    let has_all_clerks = start_clerks(scope, common, desks, inboxes, &mut clerks);
+    let host = scope
+        .spawn(move || {
+            let workers = workers;
+            host(common, &workers)
+        })
+        .ok();
+    Staff {
+        pool,
+        host,
+        clerks,
+        has_all_clerks,
+    }
+}
+
+impl<Y: Yard> Staff<Y> {
+    // Whether all were started.
+    fn is_complete(&self) -> bool {
+        self.has_all_clerks && self.pool.is_some() && self.host.is_some()
+    }
+
+    // Ends all of them: no connection is waited for any more, and the clerks end while the pool still
+    // drains. The lanes' reader's ends come back in `room`, where there is room for them. The answer is
+    // also whether the pool did its work.
+    fn dismiss<R: Wait + Clock + Threads + Drop>(
+        self,
+        common: &Common<Y, R>,
+        room: Vec<ReaderEnd<Y>>,
+    ) -> (Vec<ReaderEnd<Y>>, bool) {
+        let Staff {
+            pool,
+            host,
+            clerks,
+            ..
+        } = self;
+        let rt = &common.rt;
+        let mut readers = room;
+        common.is_over.store(true, Ordering::SeqCst);
+        for door in common.doors.iter() {
+            door.tell(rt, Order::Leave);
+        }
+        for clerk in clerks {
+            let _ = readers.push(clerk.join(rt));
+        }
+        if let Some(host) = host {
+            host.join(rt);
+        }
+        common.bell.stop();
+        let is_drained = match pool {
+            Some(pool) => pool.join(rt),
+            None => false,
+        };
+        (readers, is_drained)
+    }
+}
+
+// Does the foreman's work, with the threads of builds below it.
+fn run_foreman<Y, R, O, F>(common: &Common<Y, R>, given: Lead<Y, O, F>) -> Left<Y, O>
+where
+    Y: Yard + Send + Sync,
+    R: Wait + Clock + Threads + Processes<Started = SystemProcess> + Drop + Send + Sync,
+    O: Write + Drop,
+    F: Write + Drop,
+{
+    let Lead {
+        letters,
+        roster,
+        seats,
+        output,
+        faults,
+    } = given;
+    thread::scope(
+        thread::scope_env(),
+        &common.rt,
+        |scope| -> Left<Y, O>
+            requires { IsSend Y.row × IsSync Y.row × IsSend R.row × IsSync R.row }
+        {
+            let mut foreman = Foreman {
+                common,
+                roster,
+                seats,
+                output,
+                faults,
+                clock: Ticker::new(&common.rt),
+                is_stale: true,
+                is_closed: false,
+                has_reported: false,
+                has_failed: false,
+            };
+            foreman.preside(scope, &letters);
+            foreman.leave()
+        },
+    )
+}
+
+// Starts the foreman, who has the web stopped at the end.
+fn start_foreman<'s, E, Y, R, O, F>(
+    scope: &Scope<'s, E>,
+    common: &'s Common<Y, R>,
+    given: Lead<Y, O, F>,
+    stop: oneshot::Sender<()>,
+) -> Option<JoinHandle<Left<Y, O>>>
+where
+    Y: Yard + Send + Sync + 's,
+    R: Wait + Clock + Threads + Processes<Started = SystemProcess> + Drop + Send + Sync + 's,
+    O: Write + Drop + Send + 's,
+    F: Write + Drop + Send + 's,
+{
+    scope
+        .spawn(move || {
+            let left = run_foreman(common, given);
+            let _ = stop.send(());
+            left
+        })
+        .ok()
+}
+
+// Starts the thread that reads the input. Where it can't be started the input has ended for the
+// foreman; the answer is then false.
+fn start_reading<'s, E, Y, R, I>(scope: &Scope<'s, E>, common: &'s Common<Y, R>, input: I) -> bool
+where
+    Y: Yard + Send + Sync + 's,
+    R: Wait + Clock + Threads + Drop + Send + Sync + 's,
+    I: Read + Drop + Send + 's,
+{
+    let reading = scope.spawn(move || {
+        read_input(&common.rt, common.alloc, input, &common.mail);
+        common.mail.tell(&common.rt, News::InputEnded);
+    });
+    if reading.is_err() {
+        common.mail.tell(&common.rt, News::InputEnded);
+    }
+    reading.is_ok()
+}
+
+/// What the threads do their work with.
+#[derive(Drop)]
+struct Work<Y: Yard, R: Wait + Clock + Drop, I, O, F> {
+    service: Service<Y, R>,
+    given: Lead<Y, O, F>,
+    input: I,
+    stop: oneshot::Sender<()>,
+    stopped: oneshot::Receiver<()>,
+    /// Room for the clerks.
+    clerks: Vec<JoinHandle<ReaderEnd<Y>>>,
+    /// Room for the reader's ends that they hand back.
+    readers: Vec<ReaderEnd<Y>>,
+}
+
+/// What is left of the work.
+#[derive(Drop)]
+struct Done<Y: Yard, O> {
+    left: Option<Left<Y, O>>,
+    readers: Vec<ReaderEnd<Y>>,
+    is_whole: bool,
+}
+
+// Serves the web while the foreman works. The answer is also whether all of it was done.
+fn work_and_serve<'s, E, Y, R, I, O, F>(
+    scope: &Scope<'s, E>,
+    common: &'s Common<Y, R>,
+    given: Lead<Y, O, F>,
+    input: I,
+    stop: oneshot::Sender<()>,
+    serving: Serving<R, Y>,
+) -> (Option<Left<Y, O>>, bool)
+where
+    Y: Yard + Send + Sync + 's,
+    R: Wait
+        + Threads
+        + Clock
+        + RandomSource
+        + AllocGlobal
+        + Net<Listener = TcpListener, Stream = TcpStream>
+        + Processes<Started = SystemProcess>
+        + Copy
+        + Drop
+        + Send
+        + Sync
+        + 's,
+    I: Read + Drop + Send + 's,
+    O: Write + Drop + Send + 's,
+    F: Write + Drop + Send + 's,
+{
+    let Some(foreman) = start_foreman(scope, common, given, stop) else {
+        return (None, false);
+    };
+    let is_read = start_reading(scope, common, input);
+    let is_served = serving.serve();
+    (Some(foreman.join(&common.rt)), is_read && is_served)
+}
+
+// Has the staff and the foreman work until the end.
+fn work_through<'s, E, Y, R, I, O, F>(
+    scope: &Scope<'s, E>,
+    common: &'s Common<Y, R>,
+    work: Work<Y, R, I, O, F>,
+) -> Done<Y, O>
+where
+    Y: Yard + Send + Sync + 's,
+    R: Wait
+        + Threads
+        + Clock
+        + RandomSource
+        + AllocGlobal
+        + Net<Listener = TcpListener, Stream = TcpStream>
+        + Processes<Started = SystemProcess>
+        + Copy
+        + Drop
+        + Send
+        + Sync
+        + 's,
+    I: Read + Drop + Send + 's,
+    O: Write + Drop + Send + 's,
+    F: Write + Drop + Send + 's,
+{
+    let Work {
+        service,
+        given,
+        input,
+        stop,
+        stopped,
+        clerks,
+        readers,
+    } = work;
+    let Service {
+        desks,
+        inboxes,
+        workers,
+        web,
+        site,
+    } = service;
+    let serving = Serving {
+        rt: common.rt,
+        listener: web,
+        site,
+        stopped,
+    };
+    let staff = start_staff(scope, common, desks, inboxes, workers, clerks);
+    let (left, is_done) = if staff.is_complete() {
+        work_and_serve(scope, common, given, input, stop, serving)
+    } else {
+        (None, false)
+    };
+    let (readers, is_drained) = staff.dismiss(common, readers);
+    Done {
+        left,
+        readers,
+        is_whole: is_done && is_drained,
+    }
+}
+
+// The same, once all threads have ended.
+fn work_to_end<Y, R, I, O, F>(common: &Common<Y, R>, work: Work<Y, R, I, O, F>) -> Done<Y, O>
+where
+    Y: Yard + Send + Sync,
+    R: Wait
+        + Threads
+        + Clock
+        + RandomSource
+        + AllocGlobal
+        + Net<Listener = TcpListener, Stream = TcpStream>
+        + Processes<Started = SystemProcess>
+        + Copy
+        + Drop
+        + Send
+        + Sync,
+    I: Read + Drop + Send,
+    O: Write + Drop + Send,
+    F: Write + Drop + Send,
+{
+    let done = thread::scope(
+        thread::scope_env(),
+        &common.rt,
+        |scope| -> Done<Y, O>
+            requires { IsSend Y.row × IsSync Y.row × IsSend R.row × IsSync R.row × IsSend I.row × IsSend O.row × IsSend F.row }
+        { work_through(scope, common, work) },
+    );
+    done
+}
+
+/// Runs all threads, and joins them. None where one of them could not be started, or memory is
+/// wanting.
+pub fn run_threads<Y, R, I, O, F>(
+    common: &Common<Y, R>,
+    service: Service<Y, R>,
+    given: Lead<Y, O, F>,
+    input: I,
+) -> Option<Came<Y, O>>
+where
+    Y: Yard + Send + Sync,
+    R: Wait
+        + Threads
+        + Clock
+        + RandomSource
+        + AllocGlobal
+        + Net<Listener = TcpListener, Stream = TcpStream>
+        + Processes<Started = SystemProcess>
+        + Copy
+        + Drop
+        + Send
+        + Sync,
+    I: Read + Drop + Send,
+    O: Write + Drop + Send,
+    F: Write + Drop + Send,
+{
+    let lanes = common.lanes.len();
+    let clerks = Vec::with_capacity(common.alloc, lanes).ok()?;
+    let room = Vec::with_capacity(common.alloc, lanes).ok()?;
+    let (stop, stopped) = oneshot::channel(common.alloc).ok()?;
+    let work = Work {
+        service,
+        given,
+        input,
+        stop,
+        stopped,
+        clerks,
+        readers: room,
+    };
+    let Done {
+        left,
+        readers,
+        is_whole,
+    } = work_to_end(common, work);
+    Some(Came {
+        readers,
+        left: left?,
+        is_whole,
+    })
+}

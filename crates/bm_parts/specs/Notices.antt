@@ -1,0 +1,41 @@
+-- What follows from what a clerk tells of its lane.
+use Rattle.std.specs.Prelude.{Bool, true, false, Option, Some, None}
+use Rattle.bm_session.specs.declared.refusal.Refusal.TheVariants as session
+use Rattle.bm_lane.specs.declared.refusals.HearRefusal.TheVariants as lane
+use Rattle.bm_link.specs.declared.fault.LinkFault.{LinkFault}
+use Rattle.bm_link.specs.declared.fault.LinkFault.TheVariants as link
+use Rattle.bm_rules.specs.declared.reasons.LossCause.TheVariants as cause
+use Rattle.bm_rules.specs.declared.reasons.LoginRefusal.{LoginRefusal}
+use Rattle.bm_rules.specs.declared.reasons.LoginRefusal.TheVariants as why
+use Rattle.bm_rules.specs.declared.worker_event.WorkerEvent.{WorkerEvent}
+use Rattle.bm_rules.specs.declared.worker_event.WorkerEvent.TheVariants as event
+use Rattle.bm_clerk.specs.declared.notice.Notice.{Notice}
+use Rattle.bm_clerk.specs.declared.notice.Notice.TheVariants as notice
+
+-- what has happened to the lane's worker, if anything has
+abbrev pub event_of : Notice → Option WorkerEvent
+event_of notice.Attached = Some event.Attached
+event_of notice.Resumed = Some event.Attached
+event_of (notice.Cut c) = Some event.Cut
+event_of (notice.Lost c) = Some event.Lost
+event_of (notice.Declined f) = None
+event_of notice.Filled = None
+
+-- the lane takes nothing more: that was refused, or a session or a login ended by it
+abbrev pub fills : Notice → Bool
+fills (notice.Lost cause.Full) = true
+fills (notice.Declined link.Full) = true
+fills notice.Filled = true
+fills n = false
+
+-- why a connection whose link met this fault was not taken up
+abbrev pub refusal_of : LinkFault → LoginRefusal
+refusal_of link.BadLogin = why.BadLogin
+refusal_of link.Closed = why.Closed
+refusal_of link.Stream = why.Stream
+refusal_of link.BadMessage = why.BadMessage
+refusal_of link.Full = why.Full
+refusal_of (link.Lane lane.Busy) = why.Busy
+refusal_of (link.Lane (lane.Session session.AlreadyUp)) = why.AlreadyUp
+refusal_of (link.Lane (lane.Session session.Full)) = why.Full
+refusal_of f = why.Memory

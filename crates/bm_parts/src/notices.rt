@@ -1,0 +1,48 @@
+//! What follows from what a clerk tells of its lane.
+ghost use Rattle.std.specs.Prelude.{◌≡◌};
+ghost use Rattle.bm_parts.specs.Notices.{event_of, fills, refusal_of};
+
+use bm_clerk::Notice;
+use bm_lane::HearRefusal;
+use bm_link::LinkFault;
+use bm_rules::{LoginRefusal, LossCause, WorkerEvent};
+use bm_session::Refusal;
+
+/// What has happened to the lane's worker, if anything has.
+pub fn event_of(notice: Notice) -> Option<WorkerEvent>
+    ensures { result ≡ event_of notice }
+{
+    match notice {
+        Notice::Attached | Notice::Resumed => Some(WorkerEvent::Attached),
+        Notice::Cut(_) => Some(WorkerEvent::Cut),
+        Notice::Lost(_) => Some(WorkerEvent::Lost),
+        Notice::Declined(_) | Notice::Filled => None,
+    }
+}
+
+/// Whether it says that the lane takes nothing more.
+pub fn fills(notice: Notice) -> bool
+    ensures { result ≡ fills notice }
+{
+    match notice {
+        Notice::Lost(LossCause::Full) | Notice::Declined(LinkFault::Full) | Notice::Filled => true,
+        _ => false,
+    }
+}
+
+/// Why a connection whose link met this fault was not taken up.
+pub fn refusal_of(fault: LinkFault) -> LoginRefusal
+    ensures { result ≡ refusal_of fault }
+{
+    match fault {
+        LinkFault::BadLogin => LoginRefusal::BadLogin,
+        LinkFault::Closed => LoginRefusal::Closed,
+        LinkFault::Stream => LoginRefusal::Stream,
+        LinkFault::BadMessage => LoginRefusal::BadMessage,
+        LinkFault::Full => LoginRefusal::Full,
+        LinkFault::Lane(HearRefusal::Busy) => LoginRefusal::Busy,
+        LinkFault::Lane(HearRefusal::Session(Refusal::AlreadyUp)) => LoginRefusal::AlreadyUp,
+        LinkFault::Lane(HearRefusal::Session(Refusal::Full)) => LoginRefusal::Full,
+        _ => LoginRefusal::Memory,
+    }
+}

@@ -1,0 +1,94 @@
+//! The master of a configuration file.
+
+use crate::script::read_up_to;
+use bm_config::{Config, ConfigFault, read_config};
+use bm_master::serve;
+use bm_rules::REFUSED;
+use std::alloc::AllocGlobal;
+use std::fs::Files;
+use std::io::{ErrorKind, Read, Write};
+use std::net::{Net, TcpListener, TcpStream};
+use std::process::{Processes, SystemProcess};
+use std::random::RandomSource;
+use std::sync::Wait;
+use std::thread::Threads;
+use std::time::Clock;
+use std::{fs, str};
+
+/// A configuration may have so many bytes.
+const MOST_BYTES: usize = 67_108_864;
+
+/// The exit status at want of memory.
+const NO_MEMORY: u8 = 1;
+
+/// Why there is no configuration.
+enum Refusal {
+    /// The file can't be read.
+    File,
+    /// The text is no TOML.
+    Syntax,
+    /// The text is no configuration, or memory is wanting.
+    Fault(ConfigFault),
+}
+
+/// The configuration in a file.
+fn config_in<R: Files + AllocGlobal>(rt: &R, path: &str) -> Result<Config, Refusal> {
+    let alloc = rt.alloc();
+    let Ok(mut file) = fs::open(rt, path) else {
+        return Err(Refusal::File);
+    };
+    let bytes = match read_up_to(MOST_BYTES, alloc, &mut file) {
+        Ok(bytes) => bytes,
+        Err(error) if error.kind() == ErrorKind::OutOfMemory => {
+            return Err(Refusal::Fault(ConfigFault::Mem));
+        }
+        Err(_) => return Err(Refusal::File),
+    };
+    let Ok(text) = str::from_utf8(bytes.as_slice()) else {
+        return Err(Refusal::Syntax);
+    };
+    match read_config(alloc, text) {
+        Ok(config) => Ok(config),
+        Err(fault) => Err(Refusal::Fault(fault)),
+    }
+}
+
+/// Tells why there is no configuration, and answers the exit status.
+fn refuse<F: Write + Drop>(refusal: Refusal, faults: F) -> u8 {
+    let mut faults = faults;
+    // Where it can't be told, the status still says that the configuration is refused.
+    let _ = match refusal {
+        Refusal::File => writeln!(faults, "bad configuration: file"),
+        Refusal::Syntax => writeln!(faults, "bad configuration: syntax"),
+        Refusal::Fault(ConfigFault::Mem) => return NO_MEMORY,
+        Refusal::Fault(fault) => writeln!(faults, "bad configuration: {fault}"),
+    };
+    REFUSED
+}
+
+/// Runs the master of the configuration in a file, over these streams, and answers the exit status: 2
+/// where the configuration is refused, with the first key at fault told on `faults`, `syntax` for a
+/// text that is no TOML and `file` for a file that can't be read.
+pub fn serve_file<R, I, O, F>(rt: &R, path: &str, input: I, output: O, faults: F) -> u8
+where
+    R: Wait
+        + Threads
+        + Clock
+        + RandomSource
+        + AllocGlobal
+        + Files
+        + Net<Listener = TcpListener, Stream = TcpStream>
+        + Processes<Started = SystemProcess>
+        + Copy
+        + Drop
+        + Send
+        + Sync,
+    I: Read + Drop + Send,
+    O: Write + Drop + Send,
+    F: Write + Drop + Send,
+{
+    match config_in(rt, path) {
+        Ok(config) => serve(rt, config, input, output, faults),
+        Err(refusal) => refuse(refusal, faults),
+    }
+}

@@ -1,0 +1,247 @@
+//! Builds on workers that connect by themselves.
+
+use crate::stage::{Stage, start};
+use bm_lines::Letter;
+use std::alloc::AllocGlobal;
+use std::net::{Net, TcpStream};
+use std::random::RandomSource;
+use std::sync::Wait;
+use std::test::Fail;
+use std::thread::Threads;
+use std::time::Clock;
+
+/// One worker, and a build of one step.
+const ONE: &str = "worker = [{name=\"w0\",password=\"p\"}]
+build = [{worker=\"w0\", step=[{name=\"s\",command=[\"a\"]}]}]
+";
+
+/// One worker that may resume its session, and a build of one step.
+const RESUMABLE: &str = "worker = [{name=\"w0\",password=\"p\",resume_ticks=2000}]
+build = [{worker=\"w0\", step=[{name=\"s\",command=[\"a\"]}]}]
+";
+
+/// One worker that may resume its session for a moment, and a build of one step.
+const SHORT: &str = "worker = [{name=\"w0\",password=\"p\",resume_ticks=5}]
+build = [{worker=\"w0\", step=[{name=\"s\",command=[\"a\"]}]}]
+";
+
+/// One worker, and a build of two steps.
+const TWO_STEPS: &str = "worker = [{name=\"w0\",password=\"p\"}]
+build = [{worker=\"w0\", step=[{name=\"s\",command=[\"a\"]}, {name=\"s\",command=[\"b\"]}]}]
+";
+
+/// Two workers, and a build on each that wants the same lock alone.
+const LOCKED: &str = "worker = [{name=\"w0\",password=\"p\"}, {name=\"w1\",password=\"p\"}]
+lock = [{name=\"l\"}]
+build = [{worker=\"w0\", locks=[{name=\"l\",mode=\"exclusive\"}], step=[{name=\"s\",command=[\"a\"]}]},
+  {worker=\"w1\", locks=[{name=\"l\",mode=\"exclusive\"}], step=[{name=\"s\",command=[\"b\"]}]}]
+";
+
+/// One worker, a build with a step that always runs, and one that waits for the slot.
+const CANCELLED: &str = "worker = [{name=\"w0\",password=\"p\"}]
+build = [{worker=\"w0\", step=[{name=\"s\",command=[\"a\"]}, {name=\"s\",command=[\"b\"]}, {name=\"s\",command=[\"c\"],alwaysRun=true}]},
+  {worker=\"w0\", step=[{name=\"s\",command=[\"d\"]}]}]
+";
+
+/// A worker without builds.
+const IDLE: &str = "worker = [{name=\"w0\",password=\"p\"}]\n";
+
+// Whether a worker that has logged in runs the one build.
+fn is_run<R>(stage: Stage<R>) -> bool
+where
+    R: Wait + Threads + Clock + RandomSource + AllocGlobal + Net<Stream = TcpStream> + Copy + Drop,
+{
+    let Ok(mut hand) = stage.worker("w0", "p", None) else {
+        return false;
+    };
+    hand.performs(0, "a", "x\ny\n", 0)
+        && stage.reports("build 0 SUCCESS")
+        && stage.ends(&["lane w0 1 2"], 0)
+}
+
+#[test]
+fn a_build_is_run_and_reported(rt: HostRuntime) -> Result<(), Fail> {
+    let stage = start(rt, ONE).ok_or("no master")?;
+    assert!(rt; is_run(stage));
+    Ok(())
+}
+
+// Whether a reader sees the log grow while the build runs.
+fn is_read<R>(stage: Stage<R>) -> bool
+where
+    R: Wait + Threads + Clock + RandomSource + AllocGlobal + Net<Stream = TcpStream> + Copy + Drop,
+{
+    let Ok(mut hand) = stage.worker("w0", "p", None) else {
+        return false;
+    };
+    hand.runs(0, "a")
+        && hand.says(0, Letter::O, "x\n")
+        && stage.shows(
+            "/api/v2/logs/0/contents",
+            "{\"logchunks\":[{\"content\":\"ox\\n\",\"firstline\":0,\"logid\":0}],\"meta\":{}}",
+        )
+        && stage.shows(
+            "/api/v2/logs/0",
+            "{\"logs\":[{\"complete\":false,\"logid\":0,\"name\":\"stdio\",\"num_lines\":1,\"type\":\"s\"}],\"meta\":{}}",
+        )
+        && hand.says(0, Letter::E, "y\n")
+        && hand.exits(0, 0)
+        && stage.shows(
+            "/api/v2/logs/0",
+            "{\"logs\":[{\"complete\":true,\"logid\":0,\"name\":\"stdio\",\"num_lines\":2,\"type\":\"s\"}],\"meta\":{}}",
+        )
+        && stage.reports("build 0 SUCCESS")
+        && stage.ends(&["lane w0 1 2"], 0)
+}
+
+#[test]
+fn a_log_is_read_while_its_build_runs(rt: HostRuntime) -> Result<(), Fail> {
+    let stage = start(rt, ONE).ok_or("no master")?;
+    assert!(rt; is_read(stage));
+    Ok(())
+}
+
+#[test]
+fn an_input_that_ends_at_once_ends_an_idle_master(rt: HostRuntime) -> Result<(), Fail> {
+    let stage = start(rt, IDLE).ok_or("no master")?;
+    assert!(rt; stage.ends(&["lane w0 0 0"], 0));
+    Ok(())
+}
+
+// Whether a build that runs is cancelled at its step, but for one that always runs, and one that waits
+// at once.
+fn is_cancelled<R>(stage: Stage<R>) -> bool
+where
+    R: Wait + Threads + Clock + RandomSource + AllocGlobal + Net<Stream = TcpStream> + Copy + Drop,
+{
+    let Ok(mut hand) = stage.worker("w0", "p", None) else {
+        return false;
+    };
+    hand.runs(0, "a")
+        && stage.writes("cancel 1")
+        && stage.writes("cancel 2")
+        && stage.writes("cancel")
+        && stage.writes("cancel 0")
+        && hand.interrupts(0)
+        && hand.breaks_off(0)
+        && hand.runs(1, "c")
+        && hand.is_idle()
+        && hand.exits(1, 0)
+        && stage.reports("build 0 CANCELLED")
+        && stage.reports("build 1 CANCELLED")
+        && stage.ends(&["lane w0 2 0"], 1)
+}
+
+#[test]
+fn a_running_and_a_waiting_build_are_cancelled(rt: HostRuntime) -> Result<(), Fail> {
+    let stage = start(rt, CANCELLED).ok_or("no master")?;
+    assert!(rt; is_cancelled(stage));
+    Ok(())
+}
+
+// Whether the second build waits for the lock of the first.
+fn is_locked<R>(stage: Stage<R>) -> bool
+where
+    R: Wait + Threads + Clock + RandomSource + AllocGlobal + Net<Stream = TcpStream> + Copy + Drop,
+{
+    let Ok(mut first) = stage.worker("w0", "p", None) else {
+        return false;
+    };
+    if !first.runs(0, "a") {
+        return false;
+    }
+    let Ok(mut second) = stage.worker("w1", "p", None) else {
+        return false;
+    };
+    second.is_idle()
+        && first.exits(0, 3)
+        && second.performs(0, "b", "x\n", 0)
+        && stage.reports("build 0 FAILURE")
+        && stage.reports("build 1 SUCCESS")
+        && stage.ends(&["lane w0 1 0", "lane w1 1 1"], 1)
+}
+
+#[test]
+fn a_lock_is_held_by_one_build_at_a_time(rt: HostRuntime) -> Result<(), Fail> {
+    let stage = start(rt, LOCKED).ok_or("no master")?;
+    assert!(rt; is_locked(stage));
+    Ok(())
+}
+
+// Whether a build whose worker leaves between two steps ends RETRY.
+fn is_lost<R>(stage: Stage<R>) -> bool
+where
+    R: Wait + Threads + Clock + RandomSource + AllocGlobal + Net<Stream = TcpStream> + Copy + Drop,
+{
+    let Ok(mut hand) = stage.worker("w0", "p", None) else {
+        return false;
+    };
+    if !hand.performs(0, "a", "x\n", 0) {
+        return false;
+    }
+    drop(hand);
+    stage.awaits("worker w0 lost, ") && stage.reports("build 0 RETRY") && stage.finishes(1)
+}
+
+#[test]
+fn a_worker_that_is_lost_between_two_steps_costs_the_build(rt: HostRuntime) -> Result<(), Fail> {
+    let stage = start(rt, TWO_STEPS).ok_or("no master")?;
+    assert!(rt; is_lost(stage));
+    Ok(())
+}
+
+// Whether a session goes on over a second connection, and no line is lost or doubled.
+fn is_resumed<R>(stage: Stage<R>) -> bool
+where
+    R: Wait + Threads + Clock + RandomSource + AllocGlobal + Net<Stream = TcpStream> + Copy + Drop,
+{
+    let Ok(mut hand) = stage.worker("w0", "p", Some("s")) else {
+        return false;
+    };
+    hand.runs(0, "a")
+        && hand.says(0, Letter::O, "x\n")
+        && hand.leaves()
+        && stage.awaits("worker w0 cut, closed")
+        && hand.says_later(0, Letter::O, "y\n")
+        && hand.returns("w0", "p", "s")
+        && hand.exits(0, 0)
+        && stage.reports("build 0 SUCCESS")
+        && stage.shows(
+            "/api/v2/logs/0/contents",
+            "{\"logchunks\":[{\"content\":\"ox\\noy\\n\",\"firstline\":0,\"logid\":0}],\"meta\":{}}",
+        )
+        && stage.ends(&["lane w0 1 2"], 0)
+}
+
+#[test]
+fn a_session_goes_on_after_a_cut(rt: HostRuntime) -> Result<(), Fail> {
+    let stage = start(rt, RESUMABLE).ok_or("no master")?;
+    assert!(rt; is_resumed(stage));
+    Ok(())
+}
+
+// Whether a session that isn't resumed in time is given up, with its command and its build; and a later
+// login begins another one.
+fn is_given_up<R>(stage: Stage<R>) -> bool
+where
+    R: Wait + Threads + Clock + RandomSource + AllocGlobal + Net<Stream = TcpStream> + Copy + Drop,
+{
+    let Ok(mut hand) = stage.worker("w0", "p", Some("s")) else {
+        return false;
+    };
+    hand.runs(0, "a")
+        && hand.says(0, Letter::O, "x\n")
+        && hand.leaves()
+        && stage.awaits("worker w0 cut, ")
+        && stage.awaits("worker w0 lost, not resumed in time")
+        && stage.reports("build 0 RETRY")
+        && !hand.returns("w0", "p", "s")
+        && stage.ends(&["lane w0 1 1"], 1)
+}
+
+#[test]
+fn a_session_that_is_not_resumed_is_given_up(rt: HostRuntime) -> Result<(), Fail> {
+    let stage = start(rt, SHORT).ok_or("no master")?;
+    assert!(rt; is_given_up(stage));
+    Ok(())
+}

@@ -1,0 +1,256 @@
+//! A worker that does what a test says.
+
+use crate::streams::Steady;
+use bm_lines::{Letter, Text};
+use bm_link::{Attached, LinkFault, WorkerLink};
+use bm_work::{Finish, Sent, WorkAct, Worker};
+use bumpalo::Bump;
+use std::alloc::{AllocGlobal, Global};
+use std::net::{Net, Shutdown, SocketAddr, TcpStream};
+use std::random::RandomSource;
+use std::time::Duration;
+use tungstenite::RandomKeys;
+
+/// How long a read of a worker waits, in milliseconds.
+const READ_TIME: u64 = 100;
+
+/// How many reads a worker waits for an order.
+const MOST_READS: u32 = 200;
+
+/// The end of a worker's connection.
+type Link<R> = WorkerLink<Steady, RandomKeys<R>>;
+
+/// A worker that has logged in.
+#[derive(Drop)]
+pub struct Hand<R> {
+    rt: R,
+    alloc: Global,
+    address: SocketAddr,
+    link: Link<R>,
+    // The stream of the link.
+    stream: TcpStream,
+    core: Worker,
+    arena: Bump,
+    pub attached: Attached,
+}
+
+/// A connection on which a login was answered.
+#[derive(Drop)]
+struct Dialled<R> {
+    link: Link<R>,
+    stream: TcpStream,
+    attached: Attached,
+}
+
+// A connection with the master, on which a login was answered.
+fn dial<R>(
+    rt: R,
+    address: SocketAddr,
+    name: &str,
+    password: &str,
+    session: Option<&str>,
+) -> Result<Dialled<R>, LinkFault>
+where
+    R: RandomSource + AllocGlobal + Net<Stream = TcpStream> + Copy + Drop,
+{
+    let Ok(stream) = TcpStream::connect(&rt, address) else {
+        return Err(LinkFault::Stream);
+    };
+    if stream.set_nodelay(true).is_err()
+        || stream
+            .set_read_timeout(Some(Duration::from_secs(10)))
+            .is_err()
+    {
+        return Err(LinkFault::Stream);
+    }
+    let Ok(other) = stream.try_clone() else {
+        return Err(LinkFault::Stream);
+    };
+    let (link, attached) = match WorkerLink::connect(
+        rt.alloc(),
+        rt,
+        Steady { stream },
+        name,
+        password,
+        session,
+    ) {
+        Ok(dialled) => dialled,
+        Err(fault) => return Err(fault),
+    };
+    if other
+        .set_read_timeout(Some(Duration::from_millis(READ_TIME)))
+        .is_err()
+    {
+        return Err(LinkFault::Stream);
+    }
+    Ok(Dialled {
+        link,
+        stream: other,
+        attached,
+    })
+}
+
+impl<R> Hand<R>
+where
+    R: RandomSource + AllocGlobal + Net<Stream = TcpStream> + Copy + Drop,
+{
+    /// Logs in.
+    pub fn connect(
+        rt: R,
+        address: SocketAddr,
+        name: &str,
+        password: &str,
+        session: Option<&str>,
+    ) -> Result<Hand<R>, LinkFault> {
+        let alloc = rt.alloc();
+        match dial(rt, address, name, password, session) {
+            Ok(
+                Dialled {
+                    link,
+                    stream,
+                    attached,
+                },
+            ) => Ok(Hand {
+                rt,
+                alloc,
+                address,
+                link,
+                stream,
+                core: Worker::new(alloc),
+                arena: Bump::new(alloc),
+                attached,
+            }),
+            Err(fault) => Err(fault),
+        }
+    }
+
+    /// Ends the connection without a word.
+    pub fn leaves(&mut self) -> bool {
+        self.stream.shutdown(Shutdown::Both).is_ok()
+    }
+
+    /// Has something to say of a command, which it says once it is back.
+    pub fn says_later(&mut self, command: u64, letter: Letter, text: &str) -> bool {
+        text.len() <= 65_536 && self.core.say(command, letter, text).is_ok()
+    }
+
+    /// Logs in again, with the same core. Whether the session goes on.
+    pub fn returns(&mut self, name: &str, password: &str, session: &str) -> bool {
+        match dial(self.rt, self.address, name, password, Some(session)) {
+            Ok(
+                Dialled {
+                    link,
+                    stream,
+                    attached,
+                },
+            ) => {
+                self.link = link;
+                self.stream = stream;
+                self.attached = attached;
+                attached == Attached::Resumed && self.resends()
+            }
+            Err(_) => false,
+        }
+    }
+
+    // Sends again what has no answer.
+    fn resends(&mut self) -> bool {
+        match self.core.resend() {
+            Ok(requests) => self.sends(requests.as_slice()),
+            Err(_) => false,
+        }
+    }
+
+    fn sends(&mut self, requests: &[Sent]) -> bool {
+        for request in requests {
+            if self.link.send(self.alloc, request).is_err() {
+                return false;
+            }
+        }
+        true
+    }
+
+    /// The next thing that it is asked for, but for answers; None where nothing is asked for some
+    /// reads, or the connection has ended.
+    fn asked(&mut self, reads: u32) -> Option<WorkAct> {
+        for _ in 0..reads {
+            match self.link.turn(self.alloc, &mut self.arena, &mut self.core) {
+                Ok((_, WorkAct::Nothing | WorkAct::Answered(_))) => {}
+                Ok((_, act)) => return Some(act),
+                Err(_) => return None,
+            }
+        }
+        None
+    }
+
+    /// Whether it is asked to run the command of this number, whose last word is this.
+    pub fn runs(&mut self, command: u64, word: &str) -> bool {
+        match self.asked(MOST_READS) {
+            Some(
+                WorkAct::Run {
+                    command: number,
+                    argv,
+                },
+            ) => { number == command && is_last(argv.as_slice(), word) }
+            _ => false,
+        }
+    }
+
+    /// Whether it is asked to interrupt the command.
+    pub fn interrupts(&mut self, command: u64) -> bool {
+        matches!(self.asked(MOST_READS), Some(WorkAct::Interrupt(number)) if number == command)
+    }
+
+    /// Whether it is asked to shut down.
+    pub fn shuts_down(&mut self) -> bool {
+        matches!(self.asked(MOST_READS), Some(WorkAct::Shutdown))
+    }
+
+    /// Whether it is asked for nothing for a while.
+    pub fn is_idle(&mut self) -> bool {
+        self.asked(3).is_none()
+    }
+
+    /// Says a short text of a command.
+    pub fn says(&mut self, command: u64, letter: Letter, text: &str) -> bool {
+        if text.len() > 65_536 {
+            return false;
+        }
+        match self.core.say(command, letter, text) {
+            Ok(sent) => self.sends(&[sent]),
+            Err(_) => false,
+        }
+    }
+
+    /// Tells the exit code of a command.
+    pub fn exits(&mut self, command: u64, code: i64) -> bool {
+        match self.core.finish(command, Finish::Rc(code)) {
+            Ok(requests) => self.sends(requests.as_slice()),
+            Err(_) => false,
+        }
+    }
+
+    /// Tells that a command was interrupted.
+    pub fn breaks_off(&mut self, command: u64) -> bool {
+        let Ok(fault) = Text::from_str(self.alloc, "interrupted") else {
+            return false;
+        };
+        match self.core.finish(command, Finish::Fault(fault)) {
+            Ok(requests) => self.sends(requests.as_slice()),
+            Err(_) => false,
+        }
+    }
+
+    /// Runs a command of this number and last word as a worker would that prints the text and exits
+    /// with the code.
+    pub fn performs(&mut self, command: u64, word: &str, text: &str, code: i64) -> bool {
+        self.runs(command, word) && self.says(command, Letter::O, text) && self.exits(command, code)
+    }
+}
+
+fn is_last(words: &[Text], word: &str) -> bool {
+    match words.last() {
+        Some(last) => last.as_str() == word,
+        None => false,
+    }
+}

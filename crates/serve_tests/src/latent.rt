@@ -1,0 +1,83 @@
+//! Builds on workers that are started on demand.
+
+use crate::stage::{Stage, start};
+use bm_lines::Letter;
+use std::alloc::AllocGlobal;
+use std::net::{Net, TcpStream};
+use std::random::RandomSource;
+use std::sync::Wait;
+use std::test::Fail;
+use std::thread::Threads;
+use std::time::Clock;
+
+/// A worker whose program ends at once.
+const ENDING: &str = "worker = [{name=\"w0\",password=\"p\",latent=[\"sh\",\"-c\",\"exit 0\"]}]
+build = [{worker=\"w0\", step=[{name=\"s\",command=[\"true\"]}]}]
+";
+
+/// A worker whose program isn't there.
+const MISSING: &str = "worker = [{name=\"w0\",password=\"p\",latent=[\"/no/such/program\"]}]
+build = [{worker=\"w0\", step=[{name=\"s\",command=[\"true\"]}]}]
+";
+
+/// A worker whose program waits, and a build of three steps: one that halts it, one that is skipped,
+/// and one that always runs.
+const STEPS: &str = "worker = [{name=\"w0\",password=\"p\",latent=[\"sleep\",\"60\"],idle_ticks=5}]
+build = [{worker=\"w0\", step=[
+  {name=\"s\",command=[\"sh\",\"-c\",\"echo a; echo b >&2; exit 3\"],haltOnFailure=true},
+  {name=\"s\",command=[\"echo\",\"z\"]},
+  {name=\"s\",command=[\"echo\",\"y\"],alwaysRun=true}]}]
+";
+
+#[test]
+fn a_program_that_ends_costs_the_build(rt: HostRuntime) -> Result<(), Fail> {
+    let stage = start(rt, ENDING).ok_or("no master")?;
+    assert!(rt; stage.reports("build 0 RETRY") && stage.ends(&["lane w0 0 0"], 1));
+    Ok(())
+}
+
+#[test]
+fn a_program_that_is_not_there_costs_the_build(rt: HostRuntime) -> Result<(), Fail> {
+    let stage = start(rt, MISSING).ok_or("no master")?;
+    assert!(rt; stage.reports("build 0 RETRY") && stage.ends(&["lane w0 0 0"], 1));
+    Ok(())
+}
+
+// Whether the three steps come to a failure, the logs to what the worker said, and the worker is told
+// to shut down once it is idle.
+fn is_stepped<R>(stage: Stage<R>) -> bool
+where
+    R: Wait + Threads + Clock + RandomSource + AllocGlobal + Net<Stream = TcpStream> + Copy + Drop,
+{
+    if !stage.awaits("program of w0 started") {
+        return false;
+    }
+    let Ok(mut hand) = stage.worker("w0", "p", None) else {
+        return false;
+    };
+    hand.runs(0, "echo a; echo b >&2; exit 3")
+        && hand.says(0, Letter::H, "sh -c echo a; echo b >&2; exit 3\n")
+        && hand.says(0, Letter::O, "a\n")
+        && hand.says(0, Letter::E, "b\n")
+        && hand.says(0, Letter::H, "program finished with exit code 3\n")
+        && hand.exits(0, 3)
+        && hand.runs(1, "y")
+        && hand.says(1, Letter::H, "echo y\n")
+        && hand.says(1, Letter::O, "y\n")
+        && hand.says(1, Letter::H, "program finished with exit code 0\n")
+        && hand.exits(1, 0)
+        && stage.reports("build 0 FAILURE")
+        && stage.shows(
+            "/api/v2/logs/1/contents",
+            "{\"logchunks\":[{\"content\":\"hecho y\\noy\\nhprogram finished with exit code 0\\n\",\"firstline\":0,\"logid\":1}],\"meta\":{}}",
+        )
+        && hand.shuts_down()
+        && stage.ends(&["lane w0 2 7"], 1)
+}
+
+#[test]
+fn three_steps_on_a_latent_worker_come_to_a_failure(rt: HostRuntime) -> Result<(), Fail> {
+    let stage = start(rt, STEPS).ok_or("no master")?;
+    assert!(rt; is_stepped(stage));
+    Ok(())
+}

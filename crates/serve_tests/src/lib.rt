@@ -1,0 +1,15 @@
+//! Tests of a build master over the loopback: its streams are channels, its workers are scripts.
+#![tactic(auto)]
+
+#[cfg(test)]
+mod builds;
+#[cfg(test)]
+mod hand;
+#[cfg(test)]
+mod latent;
+#[cfg(test)]
+mod logins;
+#[cfg(test)]
+mod stage;
+#[cfg(test)]
+mod streams;
