@@ -26,8 +26,8 @@ fn time<Y: Yard, W: Wait + Drop, R: Wait + Clock>(
     start.elapsed(rt).ok()
 }
 
-/// The time of drains that empty the queue, beside so many viewers that read all the time, or None where something was
-/// refused.
+/// The time of drains that empty the queue, beside so many viewers that read all the time, or None
+/// where something was refused.
 pub fn drains<
     Y: Yard + Send + Sync,
     W: Wait + Drop + Send + Sync,

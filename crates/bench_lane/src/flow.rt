@@ -27,7 +27,8 @@ fn drain_all<Y: Yard, W: Wait + Drop, R: Wait>(
     }
 }
 
-// Reads on from what was read until all lines are there, and lets all threads end. It answers whether the lines came.
+// Reads on from what was read until all lines are there, and lets all threads end. It answers
+// whether the lines came.
 fn read_all<Y: Yard, R: Wait>(rt: &R, viewer: &mut Viewer<Y>, items: u64, marks: &Marks) -> bool {
     let mut lines: u64 = 0;
     for _ in rt.forever() {
@@ -75,8 +76,8 @@ fn time<Y: Yard + Send + Sync, W: Wait + Drop + Send + Sync, R: Threads + Wait +
     if is_read { Some(spent) } else { None }
 }
 
-/// The time from the first event to the last line that a viewer read, beside so many others that read all the time, or None
-/// where something was refused.
+/// The time from the first event to the last line that a viewer read, beside so many others that
+/// read all the time, or None where something was refused.
 pub fn flow<Y: Yard + Send + Sync, W: Wait + Drop + Send + Sync, R: Threads + Wait + Clock + Sync>(
     rt: &R,
     alloc: Global,

@@ -1,6 +1,6 @@
-//! Work through a lane, which the script `bench/lane` times. With words it prints nanoseconds, and how often the viewers that
-//! read all the time have looked; without words it carries some items from the reader's end to a viewer, and prints how
-//! many lines came.
+//! Work through a lane, which the script `bench/lane` times. With words it prints nanoseconds, and
+//! how often the viewers that read all the time have looked; without words it carries some items
+//! from the reader's end to a viewer, and prints how many lines came.
 #![tactic(auto)]
 
 mod drains;

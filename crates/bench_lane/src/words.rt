@@ -12,7 +12,8 @@ const SHOWN: u64 = 1_000;
 pub enum Job {
     /// So many items go from the reader's end to a viewer, and how many lines came is printed.
     Show { items: u64 },
-    /// So many items go from the reader's end to a viewer, beside so many others that read all the time.
+    /// So many items go from the reader's end to a viewer, beside so many others that read all the
+    /// time.
     Flow { items: u64, polling: usize },
     /// So many items are drained beside so many viewers that read all the time.
     Drain { items: u64, polling: usize },

@@ -14,8 +14,8 @@ pub struct Growth {
     pub spent: Duration,
 }
 
-/// Hears updates of command 0, numbered from `first` on, and drains each, until the flag is set or the lane has no room for more.
-/// None where something was refused.
+/// Hears updates of command 0, numbered from `first` on, and drains each, until the flag is set or
+/// the lane has no room for more. None where something was refused.
 pub fn grow<Y: Yard, W: Wait + Drop, R: Wait + Clock>(
     rt: &R,
     alloc: Global,

@@ -1,6 +1,7 @@
-//! The chunk server over a lane, or over bytes that are the same for each request, which the scripts `bench/web` and
-//! `tests/web_clients` visit. It prints where it listens, serves until its standard input ends, and then prints how often the
-//! lane's writer drained meanwhile and in how many nanoseconds.
+//! The chunk server over a lane, or over bytes that are the same for each request, which the
+//! scripts `bench/web` and `tests/web_clients` visit. It prints where it listens, serves until its
+//! standard input ends, and then prints how often the lane's writer drained meanwhile and in how
+//! many nanoseconds.
 #![tactic(auto)]
 
 mod growth;

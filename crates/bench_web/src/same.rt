@@ -21,7 +21,8 @@ fn copied(alloc: Global, bytes: &[u8]) -> Result<Vec<u8>, AllocError> {
 
 impl Answering for Same {
     // Any page.
-    ghost gives = { λ method target reply. (reply ≡ unavailable) ⊎ ((bytes : List ℕ) × (reply ≡ page bytes)) };
+    ghost gives = { λ method target reply. (reply ≡ unavailable)
+        ⊎ ((bytes : List ℕ) × (reply ≡ page bytes)) };
 
     fn answer<R: Wait>(&self, _rt: &R, alloc: Global, _method: &str, _target: &str) -> Answer {
         match copied(alloc, self.body.as_slice()) {

@@ -180,7 +180,8 @@ fn served_by<Y: Yard>(alloc: Global, mut viewers: Vec<Viewer<Y>>, kind: Kind) ->
     Some(Served::Lane(Arc::new(alloc, site).ok()?))
 }
 
-/// Does what is asked, over a lane, until the input ends: what its writer did meanwhile, or None where something was refused.
+/// Does what is asked, over a lane, until the input ends: what its writer did meanwhile, or None
+/// where something was refused.
 pub fn work<Y: Yard + Send + Sync, R>(
     rt: R,
     blank: Blank<R>,

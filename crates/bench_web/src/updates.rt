@@ -6,8 +6,8 @@ use bm_session::{Body, Event};
 use std::alloc::{AllocError, Global};
 use std::sync::Wait;
 
-/// A text with quotes, a backslash, control characters, a line separator and characters of each length, as the name of a log
-/// and as its line.
+/// A text with quotes, a backslash, control characters, a line separator and characters of each
+/// length, as the name of a log and as its line.
 pub const ODD: &str = "\"\\\t\u{1}\u{7f}é\u{2028}😀";
 
 /// The most updates of a lane: it ends with its events.
@@ -58,7 +58,8 @@ fn starts<Y: Yard, W: Wait + Drop, R: Wait>(rt: &R, ends: &mut Ends<Y, W>) -> bo
     ends.reader.go(rt).is_ok() && ends.writer.drain() == Ok(Drained::Took)
 }
 
-/// Shows two commands: the first has so many numbered lines, the second has ended, with one line in a log of another name.
+/// Shows two commands: the first has so many numbered lines, the second has ended, with one line in
+/// a log of another name.
 pub fn fill<Y: Yard, W: Wait + Drop, R: Wait>(
     rt: &R,
     alloc: Global,

@@ -61,7 +61,8 @@ abbrev pub with_ready : Standing → ℕ → Bool → Standing
 with_ready b w ready =
     record {
       workers =
-          option_map_or (λ worker. slice_set b.workers w (record { slots = worker.slots; ready = ready }))
+          option_map_or
+          (λ worker. slice_set b.workers w (record { slots = worker.slots; ready = ready }))
           (slice_get b.workers w) b.workers;
       maxima = b.maxima;
       jobs = b.jobs;

@@ -1,4 +1,5 @@
--- What a clerk's desk is, and what each of its calls does to the lane, by what the lane's link and the lane themselves do.
+-- What a clerk's desk is, and what each of its calls does to the lane, by what the lane's link and
+-- the lane themselves do.
 use Rattle.std.specs.Prelude.{◌≡◌, ℕ, ◌==◌, Bool, true, false, not, ◌||◌, if◌then◌else◌, List, length}
 use Rattle.std.specs.Prelude.{Option, Some, None, Result, Ok, Err}
 use Rattle.bm_session.specs.declared.refusal.Refusal.TheVariants.{Mem, Full}
@@ -30,8 +31,8 @@ use Rattle.bm_clerk.specs.declared.notice.Standing.{Standing}
 use Rattle.bm_clerk.specs.declared.notice.Standing.TheVariants as standing
 use Rattle.bm_clerk.specs.Notices.{standing_of}
 
--- a lane's reader's end, what the lane carries from one link to the next, the link by which it is up, and how long a cut
--- one waits for its worker
+-- a lane's reader's end, what the lane carries from one link to the next, the link by which it is
+-- up, and how long a cut one waits for its worker
 pub record Seat (S : Type 0) : Type 0 where
   pub lane : Heard
   pub carry : Carried
@@ -58,8 +59,9 @@ counting lane t = term_in (standing_of lane.trace) t
 abbrev pub renewed : ℕ → Heard → Term → Term
 renewed n lane t = if is_up lane.trace || not (n == length lane.trace) then begun t else t
 
--- what a build is told of a start: the command's number; to try it later where the lane is busy, or the link failed and the
--- lane took no order; or that it is refused, for a full lane with that reason
+-- what a build is told of a start: the command's number; to try it later where the lane is busy, or
+-- the link failed and the lane took no order; or that it is refused, for a full lane with that
+-- reason
 abbrev pub told_start : Bool → Result ℕ LinkFault → Told
 told_start taken (Ok k) = told.Started k
 told_start taken (Err (Lane Busy)) = told.Later
@@ -98,10 +100,12 @@ module _ {S : Type 0} where
 
   -- a link of the desk did something to the lane, and this is left of it
   abbrev pub Leaves : Seat S → Term → LinkState S → Seat S → Type 0
-  Leaves old term link new = (new.link ≡ kept new.lane (Some link)) × (new.tenure ≡ counting new.lane term)
+  Leaves old term link new =
+      (new.link ≡ kept new.lane (Some link)) × (new.tenure ≡ counting new.lane term)
 
   -- a link takes up a lane that has none, and stays its link while the lane is up
-  abbrev pub TakesUp : (S → Option (List ℕ)) → LinkState S → Heard → Carried → Term → Result Attached LinkFault → Option (LinkState S)
+  abbrev pub TakesUp : (S → Option (List ℕ)) → LinkState S → Heard → Carried → Term
+      → Result Attached LinkFault → Option (LinkState S)
       → Heard → Carried → Term → Type 0
   TakesUp contents link lane carry term r second lane2 carry2 term2 =
       (link2 : LinkState S) × TakesUpFor contents link.login link lane carry r link2 lane2 carry2
@@ -112,43 +116,52 @@ module _ {S : Type 0} where
   abbrev pub Attaches : (S → Option (List ℕ)) → LinkState S → Option (LinkState S) → Seat S
       → Result Attached LinkFault → Seat S → Type 0
   Attaches contents link (Some first) old r new = (new ≡ old) × ((f : LinkFault) × (r ≡ Err f))
-  Attaches contents link None old r new = TakesUp contents link old.lane old.carry old.tenure r new.link new.lane new.carry new.tenure
+  Attaches contents link None old r new =
+      TakesUp contents link old.lane old.carry old.tenure r new.link new.lane new.carry new.tenure
 
   -- a turn of the link
   abbrev pub Turns : (S → Option (List ℕ)) → (S → Option (List ℕ)) → Option (LinkState S) → Seat S
       → Result Turn LinkFault → Seat S → Type 0
   Turns remaining contents None old r new = (r ≡ Ok Quiet) × (new ≡ old)
   Turns remaining contents (Some link) old r new =
-      (link2 : LinkState S) × Turned remaining contents link.stage link old.lane old.carry r link2 new.lane new.carry
+      (link2 : LinkState S)
+      × Turned remaining contents link.stage link old.lane old.carry r link2 new.lane new.carry
       × Leaves old old.tenure link2 new
 
   -- a start: without a link nothing is sent
-  abbrev pub Starts : (S → Option (List ℕ)) → List (List ℕ) → Option (LinkState S) → Seat S → Told → Seat S → Type 0
+  abbrev pub Starts : (S → Option (List ℕ)) → List (List ℕ) → Option (LinkState S) → Seat S → Told
+      → Seat S → Type 0
   Starts contents argv None old t new = (t ≡ told_unlinked old.lane) × (new ≡ old)
   Starts contents argv (Some link) old t new =
       (r : Result ℕ LinkFault) × (link2 : LinkState S)
-      × LinkStarts contents argv link.stage link old.lane old.carry r link2 new.lane new.carry × Leaves old old.tenure link2 new
+      × LinkStarts contents argv link.stage link old.lane old.carry r link2 new.lane new.carry
+      × Leaves old old.tenure link2 new
       × (t ≡ told_start (not (commands old.lane.trace == commands new.lane.trace)) r)
 
   -- an interruption of command k: without a link nothing is sent
-  abbrev pub Interrupts : (S → Option (List ℕ)) → ℕ → Option (LinkState S) → Seat S → Told → Seat S → Type 0
+  abbrev pub Interrupts : (S → Option (List ℕ)) → ℕ → Option (LinkState S) → Seat S → Told → Seat S
+      → Type 0
   Interrupts contents k None old t new = (t ≡ told_unlinked old.lane) × (new ≡ old)
   Interrupts contents k (Some link) old t new =
       (r : Result (Unit {0}) LinkFault) × (link2 : LinkState S)
-      × LinkInterrupts contents k link.stage link old.lane old.carry r link2 new.lane new.carry × Leaves old old.tenure link2 new
+      × LinkInterrupts contents k link.stage link old.lane old.carry r link2 new.lane new.carry
+      × Leaves old old.tenure link2 new
       × (t ≡ told_interrupt (not (orders old.lane.trace == orders new.lane.trace)) r)
 
   -- the worker is asked to shut down, and is not awaited after a cut
   abbrev pub ShutsDown : (S → Option (List ℕ)) → Option (LinkState S) → Seat S → Seat S → Type 0
   ShutsDown contents None old new = new ≡ with_term old (dismissed old.tenure)
   ShutsDown contents (Some link) old new =
-      (r : Result (Unit {0}) LinkFault) × (link2 : LinkState S) × AsksFor contents Shutdown link.stage link old.carry r link2 new.carry
+      (r : Result (Unit {0}) LinkFault) × (link2 : LinkState S)
+      × AsksFor contents Shutdown link.stage link old.carry r link2 new.carry
       × (new.link ≡ Some link2) × (new.lane ≡ old.lane) × (new.tenure ≡ dismissed old.tenure)
 
-  -- the lane hears a Down: the session is given up, if there was one; or nothing changed, since the lane is busy
+  -- the lane hears a Down: the session is given up, if there was one; or nothing changed, since the
+  -- lane is busy
   abbrev pub GivesUp : Seat S → Bool → Seat S → Type 0
   GivesUp old done new =
-      (r : Result Reply (Event × HearRefusal)) × Hears old.lane Down r new.lane × (done ≡ not (is_busy r)) × (new.carry ≡ old.carry)
+      (r : Result Reply (Event × HearRefusal)) × Hears old.lane Down r new.lane
+      × (done ≡ not (is_busy r)) × (new.carry ≡ old.carry)
       × (new.link ≡ (if done then kept new.lane old.link else old.link))
       × (new.tenure ≡ (if done then counting new.lane old.tenure else old.tenure))
 

@@ -3,7 +3,8 @@ use Rattle.std.specs.Prelude.{ℕ, Bool, true, false, nat_le}
 use Rattle.bm_lane.specs.declared.pool.Pass.{Pass}
 use Rattle.bm_lane.specs.declared.pool.Pass.TheVariants.{Go, Skip, Stop}
 
--- a worker ends once the gate is stopped; else it goes for the lane that it claimed, and for no other
+-- a worker ends once the gate is stopped; else it goes for the lane that it claimed, and for no
+-- other
 abbrev pub pass_of : Bool → Bool → Pass
 pass_of true claimed = Stop
 pass_of false true = Go

@@ -15,7 +15,8 @@ use Rattle.bm_clerk.specs.declared.notice.Standing.TheVariants.{Up, Cut, Down}
 abbrev pub standing_of : Trace → Standing
 standing_of t = if is_up t then Up else (if is_cut t then Cut else Down)
 
--- what is told where no login came: a lane that was up and is cut was cut; one that was up or cut and is neither was lost
+-- what is told where no login came: a lane that was up and is cut was cut; one that was up or cut
+-- and is neither was lost
 abbrev pub notice_of : Standing → Standing → LossCause → Option Notice
 notice_of Up Cut cause = Some (notice.Cut cause)
 notice_of Up Down cause = Some (notice.Lost cause)

@@ -12,7 +12,8 @@ use Rattle.bm_lines.specs.Names.{stdio}
 use Rattle.bm_lane.specs.Ends.{Watched}
 use Rattle.bm_lane.specs.Looks.{GivesState}
 
--- what its viewer has seen of the lane, an entry for each command that it started, and whether a start was refused
+-- what its viewer has seen of the lane, an entry for each command that it started, and whether a
+-- start was refused
 pub record Ordering : Type 0 where
   pub viewer : Watched
   pub told : List Told
@@ -38,11 +39,14 @@ is_lost outcome = false
 
 -- a command was started and has its entry; or none was
 abbrev pub Begins : Ordering → Option ℕ → Ordering → Type 0
-Begins old (Some k) new = (new.told ≡ old.told ++ first_entry k ∷ []) × (new.refused ≡ old.refused) × (new.viewer ≡ old.viewer)
+Begins old (Some k) new =
+    (new.told ≡ old.told ++ first_entry k ∷ []) × (new.refused ≡ old.refused)
+    × (new.viewer ≡ old.viewer)
 Begins old None new = new ≡ old
 
 -- the viewer looks for the state of the log of command k
 abbrev pub Looks : Ordering → ℕ → Polled → Ordering → Type 0
 Looks old k said new =
-    (state : Result LogState ViewRefusal) × (cancelled : Bool) × GivesState old.viewer new.viewer k stdio state
+    (state : Result LogState ViewRefusal) × (cancelled : Bool)
+    × GivesState old.viewer new.viewer k stdio state
     × (said ≡ polled cancelled state) × (new.told ≡ old.told) × (new.refused ≡ old.refused)

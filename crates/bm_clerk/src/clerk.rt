@@ -51,10 +51,10 @@ struct Clerk<'a, Y: Yard, S, T, R: Wait + Clock + Drop> {
     why: LossCause,
 }
 
-/// Serves a lane until its door says `Leave`: obeys each order, hears the worker, counts ticks while
-/// the lane is cut, rings the bell after each event, and tells what happens to the lane before it
-/// takes or answers an order after that. Then the door is shut, the session is given up, and the
-/// lane's end comes back.
+/// Serves a lane until its door says `Leave`: obeys each order, hears the worker, counts ticks
+/// while the lane is cut, rings the bell after each event, and tells what happens to the lane
+/// before it takes or answers an order after that. Then the door is shut, the session is given up,
+/// and the lane's end comes back.
 pub fn serve_lane<Y, S, T, R>(
     rt: &R,
     alloc: Global,

@@ -40,7 +40,12 @@ impl<Y: Yard, S> Model for Desk<Y, S> {
 
     ghost Value = { Seat S };
 
-    ghost view = { λ d. record { lane = d.reader; carry = d.carry; link = d.link; tenure = d.tenure } };
+    ghost view = { λ d. record {
+      lane = d.reader;
+      carry = d.carry;
+      link = d.link;
+      tenure = d.tenure;
+    } };
 
     ghost invariant = { λ d. (is_some d.link ≡ is_up d.reader.trace)
         × (is_some d.tenure.cut ≡ is_awaited (standing_of d.reader.trace)) };
@@ -97,8 +102,8 @@ fn told_unlinked<Y: Yard>(reader: &ReaderEnd<Y>) -> Told
     }
 }
 
-/// After the lane had events: a link is kept while the lane is up, and ticks are counted while it is
-/// cut.
+/// After the lane had events: a link is kept while the lane is up, and ticks are counted while it
+/// is cut.
 fn settle<Y: Yard, S: Drop>(
     reader: &ReaderEnd<Y>,
     link: &mut Option<MasterLink<S>>,
@@ -124,7 +129,8 @@ fn put<S: Drop>(place: &mut Option<MasterLink<S>>, link: Option<MasterLink<S>>)
     *place = link;
 }
 
-/// After a login at a lane that had so many events: the count begins anew where it had more of them.
+/// After a login at a lane that had so many events: the count begins anew where it had more of
+/// them.
 fn renew<Y: Yard>(reader: &ReaderEnd<Y>, events: usize, tenure: &mut Tenure)
     ensures { tenure.new ≡ renewed events reader.now tenure.old }
 {
@@ -133,7 +139,8 @@ fn renew<Y: Yard>(reader: &ReaderEnd<Y>, events: usize, tenure: &mut Tenure)
     }
 }
 
-/// A link that has logged in takes a lane up that has none, and stays its link while the lane is up.
+/// A link that has logged in takes a lane up that has none, and stays its link while the lane is
+/// up.
 fn take_up<Y: Yard, S: Read + Write + Drop, R: Wait>(
     rt: &R,
     alloc: Global,
@@ -142,7 +149,8 @@ fn take_up<Y: Yard, S: Read + Write + Drop, R: Wait>(
     tenure: &mut Tenure,
     link: MasterLink<S>,
 ) -> (Result<Attached, LinkFault>, Option<MasterLink<S>>)
-    ensures { TakesUp S.contents link reader.old carry.old tenure.old result.0 result.1 reader.new carry.new tenure.new }
+    ensures { TakesUp S.contents link reader.old carry.old tenure.old result.0 result.1 reader.new
+        carry.new tenure.new }
 {
     let mut link = link;
     let events = reader.trace().len();
@@ -235,8 +243,8 @@ impl<Y: Yard, S: Read + Write + Drop> Desk<Y, S> {
     ///
     /// # Errors
     ///
-    /// Those of the link's `attach`. The link is let go, unless the lane then stays up by it until its
-    /// end can be taken.
+    /// Those of the link's `attach`. The link is let go, unless the lane then stays up by it until
+    /// its end can be taken.
     pub fn attach<R: Wait>(
         &mut self,
         rt: &R,
@@ -327,8 +335,8 @@ impl<Y: Yard, S: Read + Write + Drop> Desk<Y, S> {
         self.tenure.dismiss();
     }
 
-    /// Gives the session up, if there is one. False where that has to wait until the lane's queue has
-    /// room: nothing has changed then.
+    /// Gives the session up, if there is one. False where that has to wait until the lane's queue
+    /// has room: nothing has changed then.
     pub fn give_up<R: Wait>(&mut self, rt: &R) -> bool
         ensures { GivesUp self.old result self.new }
     {

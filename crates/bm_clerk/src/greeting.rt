@@ -59,13 +59,13 @@ fn hand<S: Drop, R: Wait>(rt: &R, door: &Door<S>, visitor: Visitor<S>) -> bool
     door.tell(rt, Order::Attach(visitor.link))
 }
 
-/// Greets a worker on a new connection, within some 10 seconds, and hands its link through its lane's
-/// door. The result is the number of the lane, which is the place of the worker's user.
+/// Greets a worker on a new connection, within some 10 seconds, and hands its link through its
+/// lane's door. The result is the number of the lane, which is the place of the worker's user.
 ///
 /// # Errors
 ///
-/// Those of the link's `accept` and `login`; `Closed` where the lane's clerk has left; `Stream` also
-/// where the time is over. Nothing is left of the connection then.
+/// Those of the link's `accept` and `login`; `Closed` where the lane's clerk has left; `Stream`
+/// also where the time is over. Nothing is left of the connection then.
 pub fn greet<S, R>(
     rt: &R,
     alloc: Global,

@@ -22,8 +22,8 @@ pub enum Notice {
     /// A login of the worker was declined for this cause, which it was told as `already up`, `busy`
     /// or `full`; or the answer to it could not be sent.
     Declined(LinkFault),
-    /// A command was refused, since the lane has had as many events as it may. A loss and a declined
-    /// login tell that by their cause.
+    /// A command was refused, since the lane has had as many events as it may. A loss and a
+    /// declined login tell that by their cause.
     Filled,
 }
 

@@ -191,8 +191,8 @@ fn try_interrupt<S: Drop, R: Wait + Clock>(
     }
 }
 
-/// Waits until the clerk has told all that happened to the lane so far, or has left. Where memory is
-/// wanting the clerk is given a tick for it.
+/// Waits until the clerk has told all that happened to the lane so far, or has left. Where memory
+/// is wanting the clerk is given a tick for it.
 fn settle<S: Drop, R: Wait + Clock>(rt: &R, alloc: Global, door: &Door<S>) {
     let Ok((answer, told)) = bounded(alloc, 1) else {
         thread::sleep(rt, Duration::from_millis(TICK));

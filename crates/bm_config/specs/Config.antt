@@ -1,4 +1,5 @@
--- The configuration that a table makes, or the first key at fault, in the order of the keys below and of the arrays.
+-- The configuration that a table makes, or the first key at fault, in the order of the keys below
+-- and of the arrays.
 use Rattle.std.specs.Prelude.{◌≡◌, ℕ, nat_le, ◌&&◌, ◌||◌, ◌==◌, Bool, true, false, if◌then◌else◌, List, length, sum_by, position, bytes_eq, codes, string_bytes, Option, Some, None, is_some, option_and_then, option_map, Result, Ok, Err}
 use Rattle.std.specs.List.{list_any, list_all, filter_map}
 use Rattle.std.specs.declared.net.socket_addr.SocketAddr.{SocketAddr}
@@ -60,7 +61,8 @@ program_at m = meant_or keys.Latent None program (find keys.Latent m)
 -- the words of a step: at most 10,000, of at most 900,000 bytes together
 abbrev pub command : Data → Option (List (List ℕ))
 command d =
-    option_and_then (λ ds. if nat_le (length ds) 10000 && nat_le (sum_by length (texts_of ds)) 900000
+    option_and_then (λ ds. if nat_le (length ds) 10000
+    && nat_le (sum_by length (texts_of ds)) 900000
     then Some (texts_of ds) else None) (text_array d)
 
 abbrev pub command_at : Members → Result (List (List ℕ)) Key
@@ -158,7 +160,8 @@ abbrev pub locks_of : Members → Result (List LockConfig) Key
 locks_of m = and_then (tables_or_none keys.Lock m) (rows lock_row)
 
 abbrev pub builds_of : List WorkerConfig → List LockConfig → Members → Result (List Build) Key
-builds_of workers locks m = and_then (few_tables 10000 keys.Build m) (rows (build_row workers locks))
+builds_of workers locks m =
+    and_then (few_tables 10000 keys.Build m) (rows (build_row workers locks))
 
 -- the configuration of a table, with the addresses that its texts write
 abbrev pub config_of : Option SocketAddr → Option SocketAddr → Members → Result Config Key
@@ -193,5 +196,6 @@ pub record Says (text : List ℕ) (said : Result Config Key) : Type 0 where
 -- the fault is the text's: no TOML, or the first key at fault; of want of memory nothing is said
 abbrev pub IsFaultOf : List ℕ → ConfigFault → Type 0
 IsFaultOf text faults.Syntax = parse_document text ≡ None
-IsFaultOf text (faults.Key told) = (key : Key) × ((string_bytes told ≡ name_of key) × Says text (Err key))
+IsFaultOf text (faults.Key told) =
+    (key : Key) × ((string_bytes told ≡ name_of key) × Says text (Err key))
 IsFaultOf text faults.Mem = Unit {0}

@@ -1,4 +1,5 @@
--- The rows of an array, each read after those before it, and what an answer of the code is by the definition.
+-- The rows of an array, each read after those before it, and what an answer of the code is by the
+-- definition.
 use Rattle.std.specs.Prelude.{◌≡◌, ℕ, nat_le, ◌&&◌, Bool, if◌then◌else◌, List, [], ◌∷◌, ◌++◌, length, Option, Some, None, option_and_then, is_some, option_map, Result, Ok, Err}
 use Rattle.std.specs.List.{list_all}
 use Rattle.toml.specs.Data.{Data, Members, as_array, as_table}
@@ -53,9 +54,11 @@ few_tables high key members =
     meant_or key [] (λ d. option_and_then (counted 0 high) (tables d)) (find key members)
 
 -- the rows that elements make, each read after those before it
-abbrev pub rows_after : {A : Type 0} → (List A → Data → Result A Key) → List A → List Data → Result (List A) Key
+abbrev pub rows_after : {A : Type 0} → (List A → Data → Result A Key) → List A → List Data
+    → Result (List A) Key
 rows_after read before [] = Ok before
-rows_after read before (d ∷ ds) = and_then (read before d) (λ row. rows_after read (before ++ row ∷ []) ds)
+rows_after read before (d ∷ ds) =
+    and_then (read before d) (λ row. rows_after read (before ++ row ∷ []) ds)
 
 abbrev pub rows : {A : Type 0} → (List A → Data → Result A Key) → List Data → Result (List A) Key
 rows read ds = rows_after read [] ds

@@ -68,7 +68,8 @@ pub(crate) struct Limits {
 
 /// The number at a key.
 pub(crate) fn number(table: &Table, key: Key, limits: Limits) -> Result<u32, Key>
-    ensures value { result ≡ number_at limits.low limits.high limits.missing key (table_view table.now) }
+    ensures value { result
+        ≡ number_at limits.low limits.high limits.missing key (table_view table.now) }
     ensures within { IfOk result (λ n. (limits.low ≤ n) × (n ≤ limits.high)) }
 {
     match find(table, key) {

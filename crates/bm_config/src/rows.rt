@@ -44,7 +44,8 @@ pub(crate) fn read_rows<C, T: Row<C>>(
 
 /// The table that an element is.
 pub(crate) fn table_of(value: &Value, key: Key) -> Result<&Table, Key>
-    ensures { result_map_both (λ t. table_view t.now) (λ k. k) result ≡ table_of key (view value.now) }
+    ensures { result_map_both (λ t. table_view t.now) (λ k. k) result
+        ≡ table_of key (view value.now) }
 {
     value.as_table().ok_or(key)
 }

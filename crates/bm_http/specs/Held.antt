@@ -15,7 +15,8 @@ text_of Contents = codes "/api/v2/logs/{id}/contents"
 
 -- a page's route: the name of its parameter stands in its text from 14 to 16
 abbrev pub route_of : Page → RouteOf Page
-route_of page = record { pattern = pattern_of page; text = text_of page; names = (14, 16) ∷ []; value = page }
+route_of page =
+    record { pattern = pattern_of page; text = text_of page; names = (14, 16) ∷ []; value = page }
 
 abbrev pub held : RowsOf (RouteOf Page)
 held = (pattern_of Contents, route_of Contents) ∷ (pattern_of Log, route_of Log) ∷ []

@@ -1,5 +1,6 @@
--- A reader has to believe Paths, Numbers and Targets, what stands in a request; Refusals; Requests, what it asks for; Bodies; Replies, what it
--- is answered; Shown, what contracts see of requests, sights and answers; and Laws.
+-- A reader has to believe Paths, Numbers and Targets, what stands in a request; Refusals; Requests,
+-- what it asks for; Bodies; Replies, what it is answered; Shown, what contracts see of requests,
+-- sights and answers; and Laws.
 pub mod Paths
 pub mod Numbers
 pub mod Targets

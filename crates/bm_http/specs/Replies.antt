@@ -51,10 +51,12 @@ ChangesLane old new lane v w = (slice_get old lane ≡ Some v) × (new ≡ slice
 abbrev pub Answers : Asked → List Watched → List Watched → Reply → Type 0
 Answers (refused r) old new reply = (reply ≡ refusal r) × (new ≡ old)
 Answers (state id name) old new reply =
-    (v : Watched) × (w : Watched) × (r : Result LogState ViewRefusal) × ChangesLane old new (id % length old) v w
+    (v : Watched) × (w : Watched) × (r : Result LogState ViewRefusal)
+    × ChangesLane old new (id % length old) v w
     × GivesState v w (id / length old) name r × (reply ≡ state_reply id name r)
 Answers (lines id name offset limit) old new reply =
-    (v : Watched) × (w : Watched) × (r : Result Chunk ViewRefusal) × ChangesLane old new (id % length old) v w
+    (v : Watched) × (w : Watched) × (r : Result Chunk ViewRefusal)
+    × ChangesLane old new (id % length old) v w
     × GivesChunk v w (id / length old) name offset limit r × (reply ≡ chunk_reply id r)
 
 -- the reply to a request
@@ -64,4 +66,5 @@ Replies method target old new reply = (a : Asked) × Asks method target a × Ans
 -- at most one viewer has seen more
 abbrev pub SeesOn : List Watched → List Watched → Type 0
 SeesOn old new =
-    (new ≡ old) ⊎ ((lane : ℕ) × (v : Watched) × (w : Watched) × ChangesLane old new lane v w × (w.lane ≡ v.lane) × IsPrefix v.seen w.seen)
+    (new ≡ old) ⊎ ((lane : ℕ) × (v : Watched) × (w : Watched) × ChangesLane old new lane v w
+    × (w.lane ≡ v.lane) × IsPrefix v.seen w.seen)

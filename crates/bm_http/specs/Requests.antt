@@ -9,7 +9,8 @@ use Rattle.bm_http.specs.Targets.{parameter, number_or, path_of, query_of}
 use Rattle.bm_http.specs.declared.paths.Page.{Page}
 use Rattle.bm_http.specs.declared.paths.Page.TheVariants.{Log, Contents}
 
--- what a request asks for: the state of a log, or some of its lines; or nothing, where it is refused as it stands
+-- what a request asks for: the state of a log, or some of its lines; or nothing, where it is
+-- refused as it stands
 pub data Asked : Type 0 where
   refused : Refusal → Asked
   state : ℕ → Name → Asked
@@ -17,7 +18,8 @@ pub data Asked : Type 0 where
 
 -- the page that a path names, and the text of its id; none where it names none
 abbrev pub IsFound : List ℕ → Option (Page × List ℕ) → Type 0
-IsFound path found = MatchOption found ((page : Page) (id : List ℕ) → ¬ Names path page id) (λ p. Names path p.0 p.1)
+IsFound path found =
+    MatchOption found ((page : Page) (id : List ℕ) → ¬ Names path page id) (λ p. Names path p.0 p.1)
 
 -- the log of a query
 abbrev pub name_in : List ℕ → Name
@@ -34,14 +36,18 @@ abbrev pub page_asked : Page → Option ℕ → List ℕ → Asked
 page_asked page None query = refused NoSuchLog
 page_asked Log (Some id) query = state id (name_in query)
 page_asked Contents (Some id) query =
-    lines_asked id (name_in query) (number_or 0 (parameter (codes "offset") query)) (number_or (2 ^ 64 - 1) (parameter (codes "limit") query))
+    lines_asked id (name_in query) (number_or 0 (parameter (codes "offset") query))
+    (number_or (2 ^ 64 - 1) (parameter (codes "limit") query))
 
 -- the checks in their order: the path, the method, the id, the query
 abbrev pub asked : Option (Page × List ℕ) → List ℕ → List ℕ → Asked
 asked None method query = refused NoSuchPage
 asked (Some p) method query =
-    if bytes_eq method (codes "GET") then page_asked p.0 (number_of p.1) query else refused MethodNotAllowed
+    if bytes_eq method (codes "GET") then page_asked p.0 (number_of p.1) query
+    else refused MethodNotAllowed
 
 -- what a request with this method and target asks for
 abbrev pub Asks : List ℕ → List ℕ → Asked → Type 0
-Asks method target a = (found : Option (Page × List ℕ)) × IsFound (path_of target) found × (a ≡ asked found method (query_of target))
+Asks method target a =
+    (found : Option (Page × List ℕ)) × IsFound (path_of target) found
+    × (a ≡ asked found method (query_of target))

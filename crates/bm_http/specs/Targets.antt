@@ -28,14 +28,16 @@ path_of target = local_path (before_first (λ b. b == byte "?") target)
 abbrev pub query_of : List ℕ → List ℕ
 query_of target = after_first (λ b. b == byte "?") target
 
--- the text that a part of a form stands for: a `+` is a space, escapes are bytes, and what isn't UTF-8 is U+FFFD
+-- the text that a part of a form stands for: a `+` is a space, escapes are bytes, and what isn't
+-- UTF-8 is U+FFFD
 abbrev pub text_of : List ℕ → List ℕ
 text_of part = utf8_lossy (decode part)
 
 -- the value of the last pair with this key
 abbrev pub last_value : List ℕ → List (List ℕ × List ℕ) → Option (List ℕ)
 last_value key [] = None
-last_value key ((k, v) ∷ pairs) = option_or (last_value key pairs) (if bytes_eq (text_of k) key then Some (text_of v) else None)
+last_value key ((k, v) ∷ pairs) =
+    option_or (last_value key pairs) (if bytes_eq (text_of k) key then Some (text_of v) else None)
 
 -- the value of a query's last parameter with this key
 abbrev pub parameter : List ℕ → List ℕ → Option (List ℕ)

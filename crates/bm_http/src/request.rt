@@ -35,8 +35,8 @@ pub enum Request<'t> {
 }
 
 impl<'t> Request<'t> {
-    /// What the viewers show of it, one for each lane. The id of a log is the number of its command times the number of
-    /// lanes, plus the lane. No memory is taken but for the lines.
+    /// What the viewers show of it, one for each lane. The id of a log is the number of its command
+    /// times the number of lanes, plus the lane. No memory is taken but for the lines.
     pub fn look<Y: Yard>(self, viewers: &mut [Viewer<Y>]) -> Sight<'t>
         requires { 0 < length viewers.old }
         ensures seen { SeesOn viewers.old viewers.new }

@@ -26,7 +26,8 @@ impl Routes {
         })
     }
 
-    /// What a request with a method and a target asks for. The target is a path and a query, also in absolute form.
+    /// What a request with a method and a target asks for. The target is a path and a query, also
+    /// in absolute form.
     pub fn request<'t>(
         &self,
         alloc: Global,
@@ -54,7 +55,8 @@ impl Routes {
     ) -> Result<Answer, AllocError>
         requires { 0 < length viewers.old }
         ensures seen { SeesOn viewers.old viewers.new }
-        ensures answered { IfOk result (λ a. Replies method.now target.now viewers.old viewers.new (reply_of a)) }
+        ensures answered { IfOk result
+            (λ a. Replies method.now target.now viewers.old viewers.new (reply_of a)) }
     {
         let request = self.request(alloc, method, target)?;
         request.look(viewers).answer(alloc)

@@ -108,7 +108,9 @@ fn lines_by<'t, Y: Yard>(
     span: Span,
 ) -> Sight<'t>
     ensures seen { (viewer.new.lane ≡ viewer.old.lane) × IsPrefix viewer.old.seen viewer.new.seen }
-    ensures told { (r : _) × GivesChunk viewer.old viewer.new command (cow_str_bytes name.entry) span.offset span.limit r
+    ensures told { (r : _)
+        × GivesChunk viewer.old viewer.new command (cow_str_bytes name.entry) span.offset span.limit
+        r
         × (told_by result ≡ chunk_reply id r) }
 {
     let seen = viewer.chunk(command, name.as_str(), span.offset, span.limit);
@@ -123,7 +125,8 @@ pub(crate) fn state_of<'t, Y: Yard>(
 ) -> Sight<'t>
     requires { 0 < length viewers.old }
     ensures seen { SeesOn viewers.old viewers.new }
-    ensures answered { Answers (state id (cow_str_bytes name.entry)) viewers.old viewers.new (told_by result) }
+    ensures answered { Answers (state id (cow_str_bytes name.entry)) viewers.old viewers.new
+        (told_by result) }
 {
     let lanes = viewers.len() as u64;
     let lane = (id % lanes) as usize;

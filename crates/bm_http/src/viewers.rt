@@ -26,7 +26,8 @@ impl<Y: Yard> Viewers<Y> {
     /// What they show of what a request asks for.
     pub fn look<'t>(&mut self, request: Request<'t>) -> Sight<'t>
         ensures seen { SeesOn self.old.all.items self.new.all.items }
-        ensures answered { Answers (asked_by request.entry) self.old.all.items self.new.all.items (told_by result) }
+        ensures answered { Answers (asked_by request.entry) self.old.all.items self.new.all.items
+            (told_by result) }
     {
         request.look(self.all.as_mut_slice())
     }

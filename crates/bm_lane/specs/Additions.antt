@@ -8,7 +8,9 @@ use Rattle.bm_lane.specs.declared.published.Addition.{Addition}
 -- each adds its item to the history before it
 abbrev pub Chain : Front → List Addition → Type 0
 Chain f [] = Unit {0}
-Chain f (op ∷ ops) = (op.front.book ≡ f.book) × (op.front.log ≡ f.log ++ op.item ∷ []) × (op.count ≡ length op.front.log) × Chain op.front ops
+Chain f (op ∷ ops) =
+    (op.front.book ≡ f.book) × (op.front.log ≡ f.log ++ op.item ∷ [])
+    × (op.count ≡ length op.front.log) × Chain op.front ops
 
 -- the history after them
 abbrev pub last_front : Front → List Addition → Front
@@ -23,7 +25,8 @@ abbrev pub kept_list : Option Addition → List Addition
 kept_list None = []
 kept_list (Some op) = op ∷ []
 
--- what a publisher is to a contract: which history it has, what is shown of it, what is held, and what the published book keeps
+-- what a publisher is to a contract: which history it has, what is shown of it, what is held, and
+-- what the published book keeps
 pub record Showing : Type 0 where
   pub history : HistoryId
   pub shown : List Item

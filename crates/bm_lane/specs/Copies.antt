@@ -25,7 +25,8 @@ abbrev pub Begins : Front → Published → Type 0
 Begins s x = (x.front.book ≡ s.book) × IsPrefix s.log x.front.log
 
 abbrev pub Keeps : Published → List Sight → Type 0
-Keeps x views = IsBook x × ((seat : ℕ) (s : Front) → get_elem? views seat ≡ some (Some s) → Begins s x)
+Keeps x views =
+    IsBook x × ((seat : ℕ) (s : Front) → get_elem? views seat ≡ some (Some s) → Begins s x)
 
 -- the copy was seen; it begins with what was seen before
 abbrev pub Shows : Sight → Published → Published → Sight → Type 0

@@ -8,7 +8,8 @@ use Rattle.bm_store.specs.Kept.{Kept, logs_in}
 use Rattle.bm_store.specs.Book.{book}
 use Rattle.bm_lane.specs.Fronts.{HistoryId}
 
--- a queue and a copy without a lane: which of all they are, how many items the queue takes, how many viewers there will be
+-- a queue and a copy without a lane: which of all they are, how many items the queue takes, how
+-- many viewers there will be
 pub record Blanked : Type 0 where
   pub queue : TableId
   pub copy : HistoryId
@@ -22,8 +23,8 @@ pub record Heard : Type 0 where
   pub trace : List Event
   pub put : List Item
 
--- a writer's end: how many viewers its lane has, the items that were taken from the queue, those that viewers are shown,
--- those held until there is memory, and what the published book keeps
+-- a writer's end: how many viewers its lane has, the items that were taken from the queue, those
+-- that viewers are shown, those held until there is memory, and what the published book keeps
 pub record Written : Type 0 where
   pub lane : ℕ
   pub viewers : ℕ
@@ -37,7 +38,8 @@ pub record Watched : Type 0 where
   pub lane : ℕ
   pub seen : List Item
 
--- what was taken is what was shown and then one held item at most, and the published book is the book of what was shown
+-- what was taken is what was shown and then one held item at most, and the published book is the
+-- book of what was shown
 pub record IsWritten (w : Written) : Type 0 where
   pub in_order : w.taken ≡ w.shown ++ w.held
   pub few : length w.held ≤ 1
@@ -53,11 +55,14 @@ WasFirst old x = (y : Item) → old.held ≡ y ∷ [] → y ≡ x
 
 -- one item more is shown: the held one, or else one that was popped
 abbrev pub ShowsOne : Written → Written → Type 0
-ShowsOne old new = (x : Item) × (new.shown ≡ old.shown ++ x ∷ []) × (new.held ≡ []) × IsSame old new × WasFirst old x
+ShowsOne old new =
+    (x : Item) × (new.shown ≡ old.shown ++ x ∷ []) × (new.held ≡ []) × IsSame old new
+    × WasFirst old x
 
 -- nothing more is shown, and what was held or popped is held
 abbrev pub HoldsOne : Written → Written → Type 0
-HoldsOne old new = (x : Item) × (new.shown ≡ old.shown) × (new.held ≡ x ∷ []) × IsSame old new × WasFirst old x
+HoldsOne old new =
+    (x : Item) × (new.shown ≡ old.shown) × (new.held ≡ x ∷ []) × IsSame old new × WasFirst old x
 
 -- the same lane's, which has shown no less
 abbrev pub IsBack : Written → Written → Type 0

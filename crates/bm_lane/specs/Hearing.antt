@@ -8,11 +8,13 @@ use Rattle.bm_lane.specs.declared.refusals.HearRefusal.{HearRefusal}
 use Rattle.bm_lane.specs.declared.refusals.HearRefusal.TheVariants.{Session, Busy}
 use Rattle.bm_lane.specs.Ends.{Heard}
 
--- why the event is not taken: the trace refuses it, or memory is wanting; or it would give an item, and the queue has
--- been given all that it takes at once
+-- why the event is not taken: the trace refuses it, or memory is wanting; or it would give an item,
+-- and the queue has been given all that it takes at once
 abbrev pub Refuses : Heard → Event → HearRefusal → Type 0
-Refuses h e (Session why) = (refusal h.trace e ≡ Some why) ⊎ ((refusal h.trace e ≡ None) × (why ≡ Mem))
-Refuses h e Busy = (refusal h.trace e ≡ None) × (item h.trace e ≢ None) × (h.capacity ≤ length h.put)
+Refuses h e (Session why) =
+    (refusal h.trace e ≡ Some why) ⊎ ((refusal h.trace e ≡ None) × (why ≡ Mem))
+Refuses h e Busy =
+    (refusal h.trace e ≡ None) × (item h.trace e ≢ None) × (h.capacity ≤ length h.put)
 
 -- the end with an event more, whose item, if it gives one, was put
 abbrev pub with_event : Heard → Event → Heard
@@ -20,5 +22,6 @@ with_event h e = record h { trace = h.trace ++ e ∷ []; put = items (h.trace ++
 
 -- the event was taken and answered; or it comes back with the reason, and nothing changed
 abbrev pub Hears : Heard → Event → Result Reply (Event × HearRefusal) → Heard → Type 0
-Hears old e (Ok r) new = (new ≡ with_event old e) × (r ≡ reply old.trace e) × (refusal old.trace e ≡ None)
+Hears old e (Ok r) new =
+    (new ≡ with_event old e) × (r ≡ reply old.trace e) × (refusal old.trace e ≡ None)
 Hears old e (Err back) new = (new ≡ old) × (back.0 ≡ e) × Refuses old e back.1

@@ -10,9 +10,10 @@ use Rattle.bm_store.specs.declared.chunk.ViewRefusal.TheVariants.{Closed}
 use Rattle.bm_lane.specs.Answers.{Answered, told, lines_of_book, state_of_book}
 use Rattle.bm_lane.specs.Ends.{Watched}
 
--- a viewer went from one sight to the next, which is no less, and answered what is said of that; or else Closed, and nothing
--- changed
-pub record Looks {A : Type 0} (old new : Watched) (r : Result A ViewRefusal) (said : List Item → Type 0) : Type 0 where
+-- a viewer went from one sight to the next, which is no less, and answered what is said of that; or
+-- else Closed, and nothing changed
+pub record Looks {A : Type 0} (old new : Watched) (r : Result A ViewRefusal) (said : List Item
+    → Type 0) : Type 0 where
   pub lane : new.lane ≡ old.lane
   pub seen : IsPrefix old.seen new.seen
   pub answer : (r ≡ Err Closed) ⊎ said new.seen
@@ -20,7 +21,8 @@ pub record Looks {A : Type 0} (old new : Watched) (r : Result A ViewRefusal) (sa
 
 -- the asked lines of a log
 abbrev pub GivesChunk : Watched → Watched → ℕ → Name → ℕ → ℕ → Result Chunk ViewRefusal → Type 0
-GivesChunk old new k name off lim r = Looks old new r (λ seen. Answered (lines_of_book seen k name off lim) r)
+GivesChunk old new k name off lim r =
+    Looks old new r (λ seen. Answered (lines_of_book seen k name off lim) r)
 
 -- the state of a log
 abbrev pub GivesState : Watched → Watched → ℕ → Name → Result LogState ViewRefusal → Type 0

@@ -20,14 +20,16 @@ copy_at (b ∷ bs) (suc i) = copy_at bs i
 -- these are the queues and the copies of lane n, lane n + 1 and so on
 abbrev pub ArePlaced : (ℕ → TableId) → (ℕ → HistoryId) → ℕ → List Blanked → Type 0
 ArePlaced queue copy n [] = Unit {0}
-ArePlaced queue copy n (b ∷ bs) = (b.queue ≡ queue n) × (b.copy ≡ copy n) × ArePlaced queue copy (n + 1) bs
+ArePlaced queue copy n (b ∷ bs) =
+    (b.queue ≡ queue n) × (b.copy ≡ copy n) × ArePlaced queue copy (n + 1) bs
 
 -- a reader's end of a blank that took no event, and a writer's that took no item
 abbrev pub new_reader : ℕ → Blanked → Heard
 new_reader n b = record { lane = n; capacity = b.capacity; trace = []; put = [] }
 
 abbrev pub new_writer : ℕ → Blanked → Written
-new_writer n b = record { lane = n; viewers = b.viewers; taken = []; shown = []; held = []; kept = [] }
+new_writer n b =
+    record { lane = n; viewers = b.viewers; taken = []; shown = []; held = []; kept = [] }
 
 -- those of lane n, lane n + 1 and so on, in order
 abbrev pub new_readers : ℕ → List Blanked → List Heard

@@ -5,7 +5,8 @@ use Rattle.bm_lane.specs.declared.pool.Tally.{Tally}
 use Rattle.bm_lane.specs.declared.writer_end.Drained.{Drained}
 use Rattle.bm_lane.specs.declared.writer_end.Drained.TheVariants.{Took, Empty}
 
--- with one drain more: one that took an item or met want of memory is counted, one that found nothing isn't
+-- with one drain more: one that took an item or met want of memory is counted, one that found
+-- nothing isn't
 abbrev pub counted : Tally → Result Drained AllocError → Tally
 counted t (Ok Took) = record t { took = t.took + 1 }
 counted t (Ok Empty) = t

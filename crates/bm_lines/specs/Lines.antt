@@ -10,10 +10,12 @@ without_last_empty [] = []
 without_last_empty ([] ∷ []) = []
 without_last_empty (p ∷ ps) = p ∷ without_last_empty ps
 
--- the parts of a text between the characters \n (byte 10), without a last empty part, each with the letter
+-- the parts of a text between the characters \n (byte 10), without a last empty part, each with the
+-- letter
 abbrev pub lines_of : Letter → List ℕ → List Line
 lines_of letter text =
-    map (λ part. record { letter = letter; text = part }) (without_last_empty (slice_split (λ c. c == 10) text))
+    map (λ part. record { letter = letter; text = part })
+    (without_last_empty (slice_split (λ c. c == 10) text))
 
 -- the letter in lower case
 abbrev pub letter_code : Letter → ℕ

@@ -21,10 +21,12 @@ blocks_under name ps = map (λ (p : Part). p.block) (filter (λ (p : Part). byte
 
 -- the block of the first part with this name
 abbrev pub block_under : Name → List Part → Option (List Line)
-block_under name ps = option_map (λ (p : Part). p.block) (find (λ (p : Part). bytes_eq p.name name) ps)
+block_under name ps =
+    option_map (λ (p : Part). p.block) (find (λ (p : Part). bytes_eq p.name name) ps)
 
 -- the parts after the lines of one more item: behind those of its name, or as a new part at the end
 abbrev pub with_item : Name → List Line → List Part → List Part
 with_item name lines [] = record { name = name; block = lines } ∷ []
 with_item name lines (p ∷ ps) =
-    if bytes_eq p.name name then record { name = p.name; block = p.block ++ lines } ∷ ps else p ∷ with_item name lines ps
+    if bytes_eq p.name name then record { name = p.name; block = p.block ++ lines } ∷ ps
+    else p ∷ with_item name lines ps

@@ -127,7 +127,8 @@ fn grow(
     letter: Letter,
     text: &str,
 ) -> Result<(), AllocError>
-    ensures ok { OnOk result ((arc_value shared.new).items ≡ (arc_value shared.old).items ++ lines_of letter text.now) }
+    ensures ok { OnOk result ((arc_value shared.new).items
+        ≡ (arc_value shared.old).items ++ lines_of letter text.now) }
     ensures err { OnErr result ((arc_value shared.new).items ≡ (arc_value shared.old).items) }
 {
     if let Some(own) = Arc::get_mut(shared) {
@@ -183,7 +184,8 @@ fn count_lines(text: &str) -> usize {
 
 /// The line, without the line end, of a text that has one line.
 fn only_line(text: &str) -> Option<&str>
-    ensures { IfSome result (λ line. without_last_empty (slice_split (λ c. c == 10) text.now) ≡ line.now ∷ []) }
+    ensures { IfSome result (λ line. without_last_empty (slice_split (λ c. c == 10) text.now)
+        ≡ line.now ∷ []) }
 {
     if text.is_empty() {
         return None;
@@ -208,7 +210,10 @@ fn push_lines(out: &mut Vec<Line>, letter: Letter, text: &str) -> Result<(), All
 
 /// Appends a line for each part between the characters `\n`.
 fn push_parts(out: &mut Vec<Line>, letter: Letter, text: &str) -> Result<(), AllocError>
-    ensures ok { OnOk result (out.new.items ≡ out.old.items ++ map (λ part. record { letter = letter; text = part }) (slice_split (λ c. c == 10) text.now)) }
+    ensures ok { OnOk result (out.new.items
+        ≡ out.old.items
+        ++ map (λ part. record { letter = letter; text = part })
+        (slice_split (λ c. c == 10) text.now)) }
     ensures err { OnErr result (take (length out.old.items) out.new.items ≡ out.old.items) }
 {
     let alloc = *out.allocator();
@@ -240,7 +245,8 @@ pub fn content(alloc: Global, lines: &[Line]) -> Result<String, AllocError>
 /// Appends the content of lines to a text. After want of memory a front of it may stand there.
 pub fn append_content(out: &mut String, lines: &[Line]) -> Result<(), AllocError>
     ensures ok { OnOk result (string_bytes out.new ≡ string_bytes out.old ++ content_of lines.now) }
-    ensures err { OnErr result (take (length (string_bytes out.old)) (string_bytes out.new) ≡ string_bytes out.old) }
+    ensures err { OnErr result (take (length (string_bytes out.old)) (string_bytes out.new)
+        ≡ string_bytes out.old) }
 {
     for line in lines {
         out.push_str(line.letter.as_str())?;

@@ -37,8 +37,10 @@ impl NameTable {
 
     /// Adds a name at the end of the list. One that is there already keeps its first place.
     pub fn add(&mut self, alloc: Global, name: &str, place: usize) -> Result<(), AllocError>
-        ensures ok { OnOk result ((names : List Name) → place ≡ length names → HasPlaces self.old names → HasPlaces self.new (names ++ name.now ∷ [])) }
-        ensures err { OnErr result ((names : List Name) → HasPlaces self.old names → HasPlaces self.new names) }
+        ensures ok { OnOk result ((names : List Name) → place ≡ length names
+            → HasPlaces self.old names → HasPlaces self.new (names ++ name.now ∷ [])) }
+        ensures err { OnErr result ((names : List Name) → HasPlaces self.old names
+            → HasPlaces self.new names) }
     {
         if self.place(name).is_none() {
             let key = String::from_str(alloc, name)?;

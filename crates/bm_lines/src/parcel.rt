@@ -107,7 +107,8 @@ impl Parcel {
 
     /// Appends the lines of a text to the part with this name, or to a new part at the end.
     pub fn add(&mut self, name: &LogName, letter: Letter, text: &str) -> Result<(), AllocError>
-        ensures ok { OnOk result (self.new ≡ with_item name.now (lines_of letter text.now) self.old) }
+        ensures ok { OnOk result (self.new
+            ≡ with_item name.now (lines_of letter text.now) self.old) }
         ensures err { OnErr result (self.new ≡ self.old) }
     {
         put(self.alloc, &mut self.parts, name, letter, text)
@@ -123,8 +124,10 @@ impl Parcel {
         text: &str,
     ) -> Result<NameTable, AllocError>
         requires { HasPlaces places (names_of self.old) }
-        ensures ok { OnOk result (self.new ≡ with_item name.now (lines_of letter text.now) self.old) }
-        ensures places { IfOk result (λ t. HasPlaces t (names_of (with_item name.now (lines_of letter text.now) self.old))) }
+        ensures ok { OnOk result (self.new
+            ≡ with_item name.now (lines_of letter text.now) self.old) }
+        ensures places { IfOk result
+            (λ t. HasPlaces t (names_of (with_item name.now (lines_of letter text.now) self.old))) }
         ensures err { OnErr result (self.new ≡ self.old) }
     {
         put_by_table(self.alloc, &mut self.parts, places, name, letter, text)
@@ -153,7 +156,8 @@ fn put(
     letter: Letter,
     text: &str,
 ) -> Result<(), AllocError>
-    ensures ok { OnOk result (items_of parts.new ≡ with_item name.now (lines_of letter text.now) (items_of parts.old)) }
+    ensures ok { OnOk result (items_of parts.new
+        ≡ with_item name.now (lines_of letter text.now) (items_of parts.old)) }
     ensures err { OnErr result (items_of parts.new ≡ items_of parts.old) }
 {
     let slice = parts.as_slice();
@@ -172,7 +176,8 @@ fn push(
     letter: Letter,
     text: &str,
 ) -> Result<(), AllocError>
-    ensures ok { OnOk result (items_of parts.new ≡ items_of parts.old ++ record { name = name.now; block = lines_of letter text.now } ∷ []) }
+    ensures ok { OnOk result (items_of parts.new
+        ≡ items_of parts.old ++ record { name = name.now; block = lines_of letter text.now } ∷ []) }
     ensures err { OnErr result (items_of parts.new ≡ items_of parts.old) }
 {
     let block = cut(alloc, letter, text)?;
@@ -191,8 +196,11 @@ fn put_by_table(
     text: &str,
 ) -> Result<NameTable, AllocError>
     requires { HasPlaces places (names_of (items_of parts.old)) }
-    ensures ok { OnOk result (items_of parts.new ≡ with_item name.now (lines_of letter text.now) (items_of parts.old)) }
-    ensures places { IfOk result (λ t. HasPlaces t (names_of (with_item name.now (lines_of letter text.now) (items_of parts.old)))) }
+    ensures ok { OnOk result (items_of parts.new
+        ≡ with_item name.now (lines_of letter text.now) (items_of parts.old)) }
+    ensures places { IfOk result
+        (λ t. HasPlaces t
+        (names_of (with_item name.now (lines_of letter text.now) (items_of parts.old)))) }
     ensures err { OnErr result (items_of parts.new ≡ items_of parts.old) }
 {
     if let Some(i) = places.place(name.as_str()) {
@@ -213,7 +221,10 @@ fn add_at(
     text: &str,
 ) -> Result<(), AllocError>
     requires { i < length (items_of parts.old) }
-    ensures ok { (name : Name) → i ≡ position_or_len (λ p. bytes_eq p.name name) (items_of parts.old) → OnOk result (items_of parts.new ≡ with_item name (lines_of letter text.now) (items_of parts.old)) }
+    ensures ok { (name : Name)
+        → i ≡ position_or_len (λ p. bytes_eq p.name name) (items_of parts.old)
+        → OnOk result (items_of parts.new
+        ≡ with_item name (lines_of letter text.now) (items_of parts.old)) }
     ensures err { OnErr result (items_of parts.new ≡ items_of parts.old) }
 {
     match parts {

@@ -62,7 +62,8 @@ impl ParcelBuilder {
     ///
     /// After want of memory there is no table; the next call makes it.
     fn add_by_table(&mut self, name: &LogName, letter: Letter, text: &str) -> Result<(), AllocError>
-        ensures ok { OnOk result (self.new ≡ with_item name.now (lines_of letter text.now) self.old) }
+        ensures ok { OnOk result (self.new
+            ≡ with_item name.now (lines_of letter text.now) self.old) }
         ensures err { OnErr result (self.new ≡ self.old) }
     {
         let places = match self.places.take() {

@@ -12,16 +12,24 @@ abbrev pub most_bytes : ℕ
 most_bytes = 1048576
 
 abbrev pub IsLimited : WebSocketConfig → Type 0
-IsLimited c = (c.max_message_size ≡ Some most_bytes) × (c.max_frame_size ≡ Some most_bytes) × (c.accept_unmasked_frames ≡ false)
+IsLimited c =
+    (c.max_message_size ≡ Some most_bytes) × (c.max_frame_size ≡ Some most_bytes)
+    × (c.accept_unmasked_frames ≡ false)
 
 abbrev pub Limit : Limits → Type 0
-Limit c = (c.max_message_size ≡ Some most_bytes) × (c.max_frame_size ≡ Some most_bytes) × (c.accept_unmasked_frames ≡ false)
+Limit c =
+    (c.max_message_size ≡ Some most_bytes) × (c.max_frame_size ≡ Some most_bytes)
+    × (c.accept_unmasked_frames ≡ false)
 
--- a link on which no login was read: a handshake was taken, and the socket has read and sent nothing since
+-- a link on which no login was read: a handshake was taken, and the socket has read and sent
+-- nothing since
 abbrev pub IsAccepted : {S : Type 0} → LinkState S → Type 0
-IsAccepted l = (l.stage ≡ stage.Open) × (l.login ≡ None) × (l.kept ≡ None) × (l.refused ≡ None) × Limit l.socket.conn.config
+IsAccepted l =
+    (l.stage ≡ stage.Open) × (l.login ≡ None) × (l.kept ≡ None) × (l.refused ≡ None)
+    × Limit l.socket.conn.config
     × Serves l.socket
 
--- a worker's socket on which no login was sent: a handshake was answered, and nothing was sent since
+-- a worker's socket on which no login was sent: a handshake was answered, and nothing was sent
+-- since
 abbrev pub IsConnected : {S : Type 0} → Socket S → Type 0
 IsConnected s = Limit s.conn.config × ((key : List ℕ) × Connected key s)

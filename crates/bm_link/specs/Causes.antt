@@ -25,29 +25,39 @@ IsCloseFrame _ = ⊥
 
 -- the bytes are no event, memory is wanting, or the arena refuses its reset
 abbrev pub GivesNoEvent : List ℕ → LinkFault → Type 0
-GivesNoEvent bytes f = ((f ≡ BadMessage) × ((e : Event) → ¬ IsEventOf bytes e)) ⊎ ((f ≡ Mem) ⊎ (f ≡ Arena))
+GivesNoEvent bytes f =
+    ((f ≡ BadMessage) × ((e : Event) → ¬ IsEventOf bytes e)) ⊎ ((f ≡ Mem) ⊎ (f ≡ Arena))
 
 -- a message is not sent: memory is wanting, or the socket fails
 abbrev pub IsUnsent : Connection → List ℕ → LinkFault → Type 0
-IsUnsent conn bytes f = (f ≡ Mem) ⊎ ((x : Error) × WriteFails (write_step conn (binary bytes)) x × (f ≡ fault_of x))
+IsUnsent conn bytes f =
+    (f ≡ Mem) ⊎ ((x : Error) × WriteFails (write_step conn (binary bytes)) x × (f ≡ fault_of x))
 
 module _ {S : Type 0} where
   -- a close frame comes
   abbrev pub IsClosing : (S → Option (List ℕ)) → Socket S → LinkFault → Type 0
-  IsClosing remaining old f = (m : Message) × (new : Socket S) × Reads remaining old new (Ok m) × IsCloseFrame m × (f ≡ Closed)
+  IsClosing remaining old f =
+      (m : Message) × (new : Socket S) × Reads remaining old new (Ok m) × IsCloseFrame m
+      × (f ≡ Closed)
 
-  -- no event is read: the socket fails, and not only since nothing has come yet; a close frame comes; or a binary message that gives none
+  -- no event is read: the socket fails, and not only since nothing has come yet; a close frame
+  -- comes; or a binary message that gives none
   abbrev pub FailsToRead : (S → Option (List ℕ)) → Socket S → LinkFault → Type 0
   FailsToRead remaining old f =
-      ((x : Error) × (new : Socket S) × Reads remaining old new (Err x) × (f ≡ fault_of x) × (is_quiet x ≡ false))
+      ((x : Error) × (new : Socket S) × Reads remaining old new (Err x) × (f ≡ fault_of x)
+      × (is_quiet x ≡ false))
       ⊎ (IsClosing remaining old f
-      ⊎ ((bs : List ℕ) × (m : Message) × (new : Socket S) × Reads remaining old new (Ok m) × (content_of m ≡ binary bs) × GivesNoEvent bs f))
+      ⊎ ((bs : List ℕ) × (m : Message) × (new : Socket S) × Reads remaining old new (Ok m)
+      × (content_of m ≡ binary bs) × GivesNoEvent bs f))
 
-  -- a first message does not come, or is not what it is to be: the socket fails; a close frame comes; a message that is passed
-  -- over elsewhere; or a binary one, whose bytes fail so
-  abbrev pub FailsAtFirst : (List ℕ → LinkFault → Type 0) → (S → Option (List ℕ)) → Socket S → LinkFault → Type 0
+  -- a first message does not come, or is not what it is to be: the socket fails; a close frame
+  -- comes; a message that is passed over elsewhere; or a binary one, whose bytes fail so
+  abbrev pub FailsAtFirst : (List ℕ → LinkFault → Type 0) → (S → Option (List ℕ)) → Socket S
+      → LinkFault → Type 0
   FailsAtFirst Fails remaining old f =
       ((x : Error) × (new : Socket S) × Reads remaining old new (Err x) × (f ≡ fault_of x))
       ⊎ (IsClosing remaining old f
-      ⊎ (((m : Message) × (new : Socket S) × Reads remaining old new (Ok m) × IsPassedOver m × (f ≡ BadMessage))
-      ⊎ ((bs : List ℕ) × (m : Message) × (new : Socket S) × Reads remaining old new (Ok m) × (content_of m ≡ binary bs) × Fails bs f)))
+      ⊎ (((m : Message) × (new : Socket S) × Reads remaining old new (Ok m) × IsPassedOver m
+      × (f ≡ BadMessage))
+      ⊎ ((bs : List ℕ) × (m : Message) × (new : Socket S) × Reads remaining old new (Ok m)
+      × (content_of m ≡ binary bs) × Fails bs f)))

@@ -42,6 +42,8 @@ Ends may_cut lane lane2 e =
 abbrev pub EndsAt : Bool → Heard → Heard → Stage → Type 0
 EndsAt may_cut lane lane2 s = (e : Ended) × Ends may_cut lane lane2 e × (s ≡ stage_after e)
 
--- the lane was not cut, since it may not be or refuses that; it falls, and how far the link has come
+-- the lane was not cut, since it may not be or refuses that; it falls, and how far the link has
+-- come
 abbrev pub FallsAt : Bool → Heard → Heard → Stage → Type 0
-FallsAt may_cut lane lane2 s = (e : Ended) × NoCut may_cut lane × Falls lane lane2 e × (s ≡ stage_after e)
+FallsAt may_cut lane lane2 s =
+    (e : Ended) × NoCut may_cut lane × Falls lane lane2 e × (s ≡ stage_after e)

@@ -41,19 +41,23 @@ IsNoAnswer m f = ((f ≡ BadMessage) × IsOther m) ⊎ ((f ≡ BadLogin) × IsRe
 
 -- the bytes spell such a message
 abbrev pub AreAnswer : List ℕ → Attached → Type 0
-AreAnswer bytes a = (t : Tree) × (m : Meaning) × Spells bytes t × (depth t ≤ 32) × IsMessage t m × IsAnswerOf m a
+AreAnswer bytes a =
+    (t : Tree) × (m : Meaning) × Spells bytes t × (depth t ≤ 32) × IsMessage t m × IsAnswerOf m a
 
 -- the bytes spell an exception to the login
 abbrev pub AreRefusal : List ℕ → Type 0
-AreRefusal bytes = (t : Tree) × (m : Meaning) × Spells bytes t × (depth t ≤ 32) × IsMessage t m × IsRefused m
+AreRefusal bytes =
+    (t : Tree) × (m : Meaning) × Spells bytes t × (depth t ≤ 32) × IsMessage t m × IsRefused m
 
 -- the bytes neither take the login nor refuse it
 abbrev pub AreOther : List ℕ → Type 0
 AreOther bytes = ((a : Attached) → ¬ AreAnswer bytes a) × ¬ AreRefusal bytes
 
--- why bytes are no answer to the login: memory is wanting, they refuse it, or they say something else
+-- why bytes are no answer to the login: memory is wanting, they refuse it, or they say something
+-- else
 abbrev pub AreNoAnswer : List ℕ → LinkFault → Type 0
-AreNoAnswer bytes f = (f ≡ Mem) ⊎ (((f ≡ BadMessage) × AreOther bytes) ⊎ ((f ≡ BadLogin) × AreRefusal bytes))
+AreNoAnswer bytes f =
+    (f ≡ Mem) ⊎ (((f ≡ BadMessage) × AreOther bytes) ⊎ ((f ≡ BadLogin) × AreRefusal bytes))
 
 -- why no WebSocket is agreed: memory is wanting, or the handshake fails
 abbrev pub IsNotAgreed : LinkFault → Type 0
@@ -63,21 +67,28 @@ module _ {S : Type 0} where
   -- a binary message was read, and its bytes are that answer
   abbrev pub ReadsAnswer : (S → Option (List ℕ)) → Socket S → Socket S → Attached → Type 0
   ReadsAnswer remaining old new a =
-      (bs : List ℕ) × (m : Message) × Reads remaining old new (Ok m) × (content_of m ≡ binary bs) × AreAnswer bs a
+      (bs : List ℕ) × (m : Message) × Reads remaining old new (Ok m) × (content_of m ≡ binary bs)
+      × AreAnswer bs a
 
   -- the login was sent, and the answer was read
-  abbrev pub Greets : (S → Option (List ℕ)) → (S → Option (List ℕ)) → List ℕ → List ℕ → Option (List ℕ) → Socket S → Socket S → Attached → Type 0
+  abbrev pub Greets : (S → Option (List ℕ)) → (S → Option (List ℕ)) → List ℕ → List ℕ
+      → Option (List ℕ) → Socket S → Socket S → Attached → Type 0
   Greets remaining contents name password session old new a =
-      (mid : Socket S) × SendsBytes contents (auth_bytes name password session) old mid × ReadsAnswer remaining mid new a
+      (mid : Socket S) × SendsBytes contents (auth_bytes name password session) old mid
+      × ReadsAnswer remaining mid new a
 
   -- why there is no answer: the login was not sent, or the message after it is none
-  abbrev pub FailsToGreet : (S → Option (List ℕ)) → (S → Option (List ℕ)) → List ℕ → List ℕ → Option (List ℕ) → Socket S → LinkFault → Type 0
+  abbrev pub FailsToGreet : (S → Option (List ℕ)) → (S → Option (List ℕ)) → List ℕ → List ℕ
+      → Option (List ℕ) → Socket S → LinkFault → Type 0
   FailsToGreet remaining contents name password session old f =
       IsUnsent old.conn (auth_bytes name password session) f
       ⊎ ((mid : Socket S) × SendsBytes contents (auth_bytes name password session) old mid
       × FailsAtFirst AreNoAnswer remaining mid f)
 
   -- why a worker gets no link: no WebSocket is agreed, or the login fails
-  abbrev pub FailsToConnect : (S → Option (List ℕ)) → (S → Option (List ℕ)) → List ℕ → List ℕ → Option (List ℕ) → LinkFault → Type 0
+  abbrev pub FailsToConnect : (S → Option (List ℕ)) → (S → Option (List ℕ)) → List ℕ → List ℕ
+      → Option (List ℕ) → LinkFault → Type 0
   FailsToConnect remaining contents name password session f =
-      IsNotAgreed f ⊎ ((start : Socket S) × IsConnected start × FailsToGreet remaining contents name password session start f)
+      IsNotAgreed f
+      ⊎ ((start : Socket S) × IsConnected start
+      × FailsToGreet remaining contents name password session start f)

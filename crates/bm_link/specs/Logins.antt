@@ -40,46 +40,62 @@ AreLogin bytes l = (t : Tree) × Spells bytes t × (depth t ≤ 32) × IsLoginOf
 
 -- the bytes are no login, memory is wanting, or the arena refuses its reset
 abbrev pub GivesNoLogin : List ℕ → LinkFault → Type 0
-GivesNoLogin bytes f = ((f ≡ BadMessage) × ((l : Credentials) → ¬ AreLogin bytes l)) ⊎ ((f ≡ Mem) ⊎ (f ≡ Arena))
+GivesNoLogin bytes f =
+    ((f ≡ BadMessage) × ((l : Credentials) → ¬ AreLogin bytes l)) ⊎ ((f ≡ Mem) ⊎ (f ≡ Arena))
 
 module _ {S : Type 0} where
   -- a binary message was read, and its bytes are this login
   abbrev pub ReadsLogin : (S → Option (List ℕ)) → Socket S → Socket S → Credentials → Type 0
   ReadsLogin remaining old new l =
-      (bs : List ℕ) × (m : Message) × Reads remaining old new (Ok m) × (content_of m ≡ binary bs) × AreLogin bs l
+      (bs : List ℕ) × (m : Message) × Reads remaining old new (Ok m) × (content_of m ≡ binary bs)
+      × AreLogin bs l
 
   -- the login that was read is that of the user at this place
   abbrev pub Admits : (S → Option (List ℕ)) → List User → Socket S → ℕ → Named → Socket S → Type 0
   Admits remaining users old place named new =
-      (l : Credentials) × ReadsLogin remaining old new l × (place_of users l.username l.password ≡ Some place) × (named ≡ l.named)
+      (l : Credentials) × ReadsLogin remaining old new l
+      × (place_of users l.username l.password ≡ Some place) × (named ≡ l.named)
 
   -- the login that was read, with this name, is that of no user, and the worker is told so
-  abbrev pub Rejects : (S → Option (List ℕ)) → (S → Option (List ℕ)) → List User → Socket S → List ℕ → Socket S → Type 0
+  abbrev pub Rejects : (S → Option (List ℕ)) → (S → Option (List ℕ)) → List User → Socket S → List ℕ
+      → Socket S → Type 0
   Rejects remaining contents users old name new =
-      (l : Credentials) × (mid : Socket S) × ReadsLogin remaining old mid l × (place_of users l.username l.password ≡ None)
+      (l : Credentials) × (mid : Socket S) × ReadsLogin remaining old mid l
+      × (place_of users l.username l.password ≡ None)
       × (name ≡ l.username) × Tells contents l.named.seq (codes "bad login") mid new
 
   -- the login of a user was read, or that of none, or no login
-  abbrev pub AdmitsOrFails : (S → Option (List ℕ)) → (S → Option (List ℕ)) → List User → Socket S → Result (ℕ × Named) Unadmitted → Socket S → Type 0
+  abbrev pub AdmitsOrFails : (S → Option (List ℕ)) → (S → Option (List ℕ)) → List User → Socket S
+      → Result (ℕ × Named) Unadmitted → Socket S → Type 0
   AdmitsOrFails remaining contents users old (Ok r) new = Admits remaining users old r.0 r.1 new
-  AdmitsOrFails remaining contents users old (Err (unadmitted.Rejected name)) new = Rejects remaining contents users old name new
-  AdmitsOrFails remaining contents users old (Err (unadmitted.Unread f)) new = FailsAtFirst GivesNoLogin remaining old f
+  AdmitsOrFails remaining contents users old (Err (unadmitted.Rejected name)) new =
+      Rejects remaining contents users old name new
+  AdmitsOrFails remaining contents users old (Err (unadmitted.Unread f)) new =
+      FailsAtFirst GivesNoLogin remaining old f
 
   -- why a login fails: it is that of no user, whose name is kept; or none was read
-  abbrev pub FailsToLogIn : (S → Option (List ℕ)) → (S → Option (List ℕ)) → List User → LinkState S → LinkFault → LinkState S → Type 0
+  abbrev pub FailsToLogIn : (S → Option (List ℕ)) → (S → Option (List ℕ)) → List User → LinkState S
+      → LinkFault → LinkState S → Type 0
   FailsToLogIn remaining contents users old f new =
-      ((f ≡ BadLogin) × ((name : List ℕ) × (new.refused ≡ Some name) × Rejects remaining contents users old.socket name new.socket))
+      ((f ≡ BadLogin)
+      × ((name : List ℕ) × (new.refused ≡ Some name)
+      × Rejects remaining contents users old.socket name new.socket))
       ⊎ ((new.refused ≡ old.refused) × FailsAtFirst GivesNoLogin remaining old.socket f)
 
   -- the login of a link on which none was read: it waits for its lane, or the link has failed
-  abbrev pub LogsIn : (S → Option (List ℕ)) → (S → Option (List ℕ)) → List User → LinkState S → Result ℕ LinkFault → LinkState S → Type 0
+  abbrev pub LogsIn : (S → Option (List ℕ)) → (S → Option (List ℕ)) → List User → LinkState S
+      → Result ℕ LinkFault → LinkState S → Type 0
   LogsIn remaining contents users old (Ok place) new =
-      (named : Named) × Admits remaining users old.socket place named new.socket × (new.login ≡ Some named) × (new.stage ≡ stage.Open)
+      (named : Named) × Admits remaining users old.socket place named new.socket
+      × (new.login ≡ Some named) × (new.stage ≡ stage.Open)
       × (new.refused ≡ old.refused)
   LogsIn remaining contents users old (Err f) new =
-      (new.stage ≡ stage.Failed) × (new.login ≡ None) × FailsToLogIn remaining contents users old f new
+      (new.stage ≡ stage.Failed) × (new.login ≡ None)
+      × FailsToLogIn remaining contents users old f new
 
   -- a login: after another, or on a link that is not open, it does nothing
-  abbrev pub LogsInAt : (S → Option (List ℕ)) → (S → Option (List ℕ)) → List User → Stage → Option Named → LinkState S → Result ℕ LinkFault → LinkState S → Type 0
-  LogsInAt remaining contents users stage.Open None old r new = LogsIn remaining contents users old r new
+  abbrev pub LogsInAt : (S → Option (List ℕ)) → (S → Option (List ℕ)) → List User → Stage
+      → Option Named → LinkState S → Result ℕ LinkFault → LinkState S → Type 0
+  LogsInAt remaining contents users stage.Open None old r new =
+      LogsIn remaining contents users old r new
   LogsInAt remaining contents users s l old r new = (r ≡ Err Closed) × (new ≡ old)

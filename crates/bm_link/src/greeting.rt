@@ -37,7 +37,8 @@ fn auth_bytes(
     password: &str,
     session: Option<&str>,
 ) -> Result<Vec<u8>, AllocError>
-    ensures { IfOk result (λ v. v.items ≡ auth_bytes name.now password.now (option_copied session.entry)) }
+    ensures { IfOk result (λ v. v.items
+        ≡ auth_bytes name.now password.now (option_copied session.entry)) }
 {
     let request = Request::Auth {
         username: Text::from_str(alloc, name)?,
@@ -146,8 +147,12 @@ pub(crate) fn greet<S: Read + Write + Drop, K: MaskKeys + Drop>(
     password: &str,
     session: Option<&str>,
 ) -> Result<Attached, LinkFault>
-    ensures answer { IfOk result (Greets S.remaining S.contents name.now password.now (option_copied session.entry) socket.old socket.new) }
-    ensures fault { IfErr result (FailsToGreet S.remaining S.contents name.now password.now (option_copied session.entry) socket.old) }
+    ensures answer { IfOk result
+        (Greets S.remaining S.contents name.now password.now (option_copied session.entry)
+        socket.old socket.new) }
+    ensures fault { IfErr result
+        (FailsToGreet S.remaining S.contents name.now password.now (option_copied session.entry)
+        socket.old) }
 {
     let Ok(bytes) = auth_bytes(alloc, name, password, session) else {
         return Err(LinkFault::Mem);

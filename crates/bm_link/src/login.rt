@@ -56,7 +56,8 @@ fn credentials_of(message: Message) -> Option<Credentials>
 /// The login that a tree is. What stays is copied, so the tree may be dropped afterwards.
 fn login_in(alloc: Global, message: &Value<&Bump>) -> Result<Credentials, LinkFault>
     ensures login { IfOk result (IsLoginOf (tree message.now)) }
-    ensures bad { IfErr result (λ f. f ≡ LinkFault.BadMessage → (l : Login) → ¬ IsLoginOf (tree message.now) l) }
+    ensures bad { IfErr result (λ f. f ≡ LinkFault.BadMessage → (l : Login)
+        → ¬ IsLoginOf (tree message.now) l) }
     ensures fault { IfErr result (λ f. (f ≡ LinkFault.BadMessage) ⊎ (f ≡ LinkFault.Mem)) }
 {
     match message_in(alloc, message) {
@@ -71,7 +72,8 @@ fn login_in(alloc: Global, message: &Value<&Bump>) -> Result<Credentials, LinkFa
 /// The login that bytes are, by a tree in the arena that is gone when the call returns.
 fn login_from(alloc: Global, arena: &Bump, bytes: &[u8]) -> Result<Credentials, LinkFault>
     ensures login { IfOk result (AreLogin bytes.now) }
-    ensures bad { IfErr result (λ f. f ≡ LinkFault.BadMessage → (l : Login) → ¬ AreLogin bytes.now l) }
+    ensures bad { IfErr result (λ f. f ≡ LinkFault.BadMessage → (l : Login)
+        → ¬ AreLogin bytes.now l) }
     ensures fault { IfErr result (λ f. (f ≡ LinkFault.BadMessage) ⊎ (f ≡ LinkFault.Mem)) }
 {
     match decode_whole(arena, bytes) {

@@ -17,7 +17,8 @@ use std::alloc::{Allocator, Global};
 pub(crate) fn tree_in(alloc: Global, bytes: &[u8]) -> Result<Value<Global>, LinkFault>
     ensures found { IfOk result (λ v. Spells bytes.now (tree v) × (depth (tree v) ≤ 32)) }
     ensures only { IfOk result (λ v. (t : Tree) → Spells bytes.now t → depth t ≤ 32 → t ≡ tree v) }
-    ensures bad { IfErr result (λ f. f ≡ LinkFault.BadMessage → (t : Tree) → Spells bytes.now t → ¬ (depth t ≤ 32)) }
+    ensures bad { IfErr result (λ f. f ≡ LinkFault.BadMessage → (t : Tree) → Spells bytes.now t
+        → ¬ (depth t ≤ 32)) }
     ensures fault { IfErr result (λ f. (f ≡ LinkFault.BadMessage) ⊎ (f ≡ LinkFault.Mem)) }
 {
     match decode_whole(alloc, bytes) {
@@ -44,7 +45,8 @@ pub(crate) fn message_in<A: Allocator>(
 ) -> Result<Message, LinkFault>
     ensures found { IfOk result (λ m. IsMessage (tree value.now) (meaning m)) }
     ensures only { IfOk result (λ m. (n : Meaning) → IsMessage (tree value.now) n → n ≡ meaning m) }
-    ensures bad { IfErr result (λ f. f ≡ LinkFault.BadMessage → (n : Meaning) → ¬ IsMessage (tree value.now) n) }
+    ensures bad { IfErr result (λ f. f ≡ LinkFault.BadMessage → (n : Meaning)
+        → ¬ IsMessage (tree value.now) n) }
     ensures fault { IfErr result (λ f. (f ≡ LinkFault.BadMessage) ⊎ (f ≡ LinkFault.Mem)) }
 {
     match read(alloc, value) {

@@ -336,8 +336,8 @@ where
         }
     }
 
-    // Does what follows from the news. Builds may then be wanted or started that were not before, but
-    // for what is only remarked.
+    // Does what follows from the news. Builds may then be wanted or started that were not before,
+    // but for what is only remarked.
     fn hear(&mut self, news: News<Y>) {
         match news {
             News::Step(step) => return self.hear_step(&step),

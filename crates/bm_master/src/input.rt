@@ -8,8 +8,8 @@ use std::io::{ErrorKind, Read};
 use std::sync::Wait;
 use std::time::Clock;
 
-/// How many bytes of a line are kept. Of a longer one nothing is kept: a line that asks for something
-/// is shorter, but for one with thousands of zeros before its number.
+/// How many bytes of a line are kept. Of a longer one nothing is kept: a line that asks for
+/// something is shorter, but for one with thousands of zeros before its number.
 const MOST_LINE: usize = 4096;
 
 /// The line that is being read, without its line end.

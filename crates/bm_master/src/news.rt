@@ -79,8 +79,8 @@ impl<Y: Yard> Mail<Y> {
         })
     }
 
-    /// Tells the foreman. Where memory is wanting it is tried again after a while, so that no news is
-    /// lost but those that come after the foreman has left.
+    /// Tells the foreman. Where memory is wanting it is tried again after a while, so that no news
+    /// is lost but those that come after the foreman has left.
     pub fn tell<R: Wait + Clock>(&self, rt: &R, news: News<Y>) {
         let mut news = news;
         for _ in rt.forever() {

@@ -17,8 +17,8 @@ impl Starter {
         Starter { words, child: None }
     }
 
-    /// Starts the process. It has an empty input, and what it prints is dropped; its errors go where
-    /// those of the master go. The answer is whether it could be started.
+    /// Starts the process. It has an empty input, and what it prints is dropped; its errors go
+    /// where those of the master go. The answer is whether it could be started.
     pub fn start<R: Processes<Started = SystemProcess>>(&mut self, rt: &R, alloc: Global) -> bool {
         let Some((program, rest)) = self.words.as_slice().split_first() else {
             return false;

@@ -114,8 +114,8 @@ where
     }
 }
 
-// The roster of a configuration, with its builds. None where memory is wanting, or the board refuses
-// a build, which never comes.
+// The roster of a configuration, with its builds. None where memory is wanting, or the board
+// refuses a build, which never comes.
 fn roster_of<Y: Yard>(alloc: Global, config: &Config, benches: Vec<Bench<Y>>) -> Option<Roster<Y>> {
     let slots = slots_of(alloc, config.workers.as_slice())?;
     let maxima = maxima_of(alloc, config.locks.as_slice())?;
@@ -235,7 +235,8 @@ fn prepare<Y: Yard, R: Wait + Clock + Copy + Drop, O: Drop, F: Drop>(
     })
 }
 
-// Runs a master over these blanks, and answers whether all went well. None where it could not begin.
+// Runs a master over these blanks, and answers whether all went well. None where it could not
+// begin.
 fn run<Y, R, I, O, F>(
     rt: &R,
     alloc: Global,
@@ -275,7 +276,8 @@ where
     work(start, Report::Listening { workers, web }, input)
 }
 
-// Runs the threads to their end, once it is told that they listen. The answer is whether all went well.
+// Runs the threads to their end, once it is told that they listen. The answer is whether all went
+// well.
 fn work<Y, R, I, O, F>(start: Start<Y, R, O, F>, listening: Report<'_>, input: I) -> Option<bool>
 where
     Y: Yard + Send + Sync,

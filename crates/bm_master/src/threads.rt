@@ -245,9 +245,9 @@ impl<Y: Yard> Staff<Y> {
         self.has_all_clerks && self.pool.is_some() && self.host.is_some()
     }
 
-    // Ends all of them: no connection is waited for any more, and the clerks end while the pool still
-    // drains. The lanes' reader's ends come back in `room`, where there is room for them. The answer is
-    // also whether the pool did its work.
+    // Ends all of them: no connection is waited for any more, and the clerks end while the pool
+    // still drains. The lanes' reader's ends come back in `room`, where there is room for them. The
+    // answer is also whether the pool did its work.
     fn dismiss<R: Wait + Clock + Threads + Drop>(
         self,
         common: &Common<Y, R>,
@@ -499,7 +499,8 @@ where
         thread::scope_env(),
         &common.rt,
         |scope| -> Done<Y, O>
-            requires { IsSend Y.row × IsSync Y.row × IsSend R.row × IsSync R.row × IsSend I.row × IsSend O.row × IsSend F.row }
+            requires { IsSend Y.row × IsSync Y.row × IsSend R.row × IsSync R.row × IsSend I.row
+                × IsSend O.row × IsSend F.row }
         { work_through(scope, common, work) },
     );
     done

@@ -16,8 +16,8 @@ const WRITE_TIME: u64 = 5;
 /// How many writes in a row may meet nothing before one fails.
 const MOST_WRITES: u32 = 100;
 
-/// A connection of a worker. Its writes fail where the worker reads too slowly, and all its calls once
-/// the master ends: so nobody waits for it.
+/// A connection of a worker. Its writes fail where the worker reads too slowly, and all its calls
+/// once the master ends: so nobody waits for it.
 #[derive(Drop)]
 pub struct Visit<R> {
     stream: TcpStream,

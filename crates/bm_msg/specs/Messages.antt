@@ -29,7 +29,8 @@ HasCommand t k = HasText t (codes "command_id") (decimal k) × (k < 2 ^ 63)
 -- the args of an update are its items
 abbrev pub HasItems : Tree → List Field → Type 0
 HasItems t fields =
-    (items : Trees) × (field t (codes "args") ≡ Some (array items)) × (fields_of items ≡ Some fields)
+    (items : Trees) × (field t (codes "args") ≡ Some (array items))
+    × (fields_of items ≡ Some fields)
 
 -- the args of a complete are nil, or the text that names a fault
 abbrev pub HasFault : Tree → Option (List ℕ) → Type 0

@@ -56,7 +56,8 @@ command_key command = at (codes "command_id") (str (decimal command))
 -- the further keys of a request
 abbrev pub keys_of : Asked → List TreePair
 keys_of (auth username password session) =
-    at (codes "username") (str username) ∷ at (codes "password") (str password) ∷ session_key session
+    at (codes "username") (str username) ∷ at (codes "password") (str password)
+    ∷ session_key session
 keys_of (update command fields) =
     command_key command ∷ at (codes "args") (array (trees_of (map item_of fields))) ∷ []
 keys_of (complete command fault) = command_key command ∷ at (codes "args") (fault_tree fault) ∷ []

@@ -35,13 +35,17 @@ abbrev pub told_core : Item → Core → Core
 told_core (item.Text k said) c = with_reports (text k said.letter said.text ∷ []) c
 told_core (item.End k e) c = without_command k (with_reports (reports_of k (finish_of e)) c)
 
--- telling an item: its requests have the next numbers; or the window lacks the places, or its command runs no more,
--- and nothing changed
+-- telling an item: its requests have the next numbers; or the window lacks the places, or its
+-- command runs no more, and nothing changed
 abbrev pub Tells : Item → Core → Result Told AllocError → Core → Type 0
-Tells i c (Ok (told.Text s)) c2 = (s ∷ [] ≡ stream_from (next_number c) (reports_in i)) × (c2 ≡ told_core i c)
-Tells i c (Ok (told.End v)) c2 = (v.items ≡ stream_from (next_number c) (reports_in i)) × (c2 ≡ told_core i c)
-Tells i c (Ok told.Full) c2 = (refusal c (command_of i) (length (reports_in i)) ≡ Some Window) × (c2 ≡ c)
-Tells i c (Ok told.Passed) c2 = (refusal c (command_of i) (length (reports_in i)) ≡ Some NoSuchCommand) × (c2 ≡ c)
+Tells i c (Ok (told.Text s)) c2 =
+    (s ∷ [] ≡ stream_from (next_number c) (reports_in i)) × (c2 ≡ told_core i c)
+Tells i c (Ok (told.End v)) c2 =
+    (v.items ≡ stream_from (next_number c) (reports_in i)) × (c2 ≡ told_core i c)
+Tells i c (Ok told.Full) c2 =
+    (refusal c (command_of i) (length (reports_in i)) ≡ Some Window) × (c2 ≡ c)
+Tells i c (Ok told.Passed) c2 =
+    (refusal c (command_of i) (length (reports_in i)) ≡ Some NoSuchCommand) × (c2 ≡ c)
 Tells i c (Ok told.Nothing) c2 = ⊥
 Tells i c (Err e) c2 = c2 ≡ c
 

@@ -34,8 +34,8 @@ AreApart [] = ⊤
 AreApart (text ∷ []) = ⊤
 AreApart (first ∷ second ∷ rest) = (Fit first second → ⊥) × AreApart (second ∷ rest)
 
--- what is said of these texts is their text, in order, with the letter of their pipe; its lines are theirs, and all that
--- fits is joined
+-- what is said of these texts is their text, in order, with the letter of their pipe; its lines are
+-- theirs, and all that fits is joined
 pub record IsJoined (letter : Letter) (texts : List (List ℕ)) (said : List Said) : Type 0 where
   pub same_text : whole_of (texts_of said) ≡ whole_of texts
   pub same_lines : lines_in letter (texts_of said) ≡ lines_in letter texts
@@ -61,5 +61,6 @@ all_of j = j.done ++ j.current ∷ []
 pub record Adds (old : Joining) (text : List ℕ) (new : Joining) : Type 0 where
   pub letter : new.letter ≡ old.letter
   pub text_grew : whole_of (all_of new) ≡ whole_of (all_of old) ++ text
-  pub lines_grew : lines_in old.letter (all_of new) ≡ lines_in old.letter (all_of old) ++ lines_of old.letter text
+  pub lines_grew : lines_in old.letter (all_of new)
+      ≡ lines_in old.letter (all_of old) ++ lines_of old.letter text
   pub still_apart : AreApart (all_of old) → AreApart (all_of new)

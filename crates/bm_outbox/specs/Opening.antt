@@ -32,12 +32,14 @@ abbrev pub Opens : ℕ → List (List ℕ) → List Item → List Item → List 
 Opens k words follows old new = (said : List Said) × IsHeader (words_line words) said
     × (new ≡ old ++ waiting_texts k said ++ follows)
 
--- A command begins: the line of its words waits, and nothing of it before that line. Where its process can't be
--- started, its end follows at once.
+-- A command begins: the line of its words waits, and nothing of it before that line. Where its
+-- process can't be started, its end follows at once.
 abbrev pub Starts : ℕ → List (List ℕ) → List Item → List Item → Type 0
-Starts k words old new = Opens k words [] old new ⊎ Opens k words (item.End k CannotStart ∷ []) old new
+Starts k words old new =
+    Opens k words [] old new ⊎ Opens k words (item.End k CannotStart ∷ []) old new
 
--- a command has ended with an exit code: the line of that code waits behind all that was told, and its end behind that
+-- a command has ended with an exit code: the line of that code waits behind all that was told, and
+-- its end behind that
 abbrev pub Closes : ℕ → ℤ → List Item → List Item → Type 0
 Closes k code old new = (said : List Said) × IsHeader (exit_line code) said
     × (new ≡ old ++ waiting_texts k said ++ item.End k (Code code) ∷ [])

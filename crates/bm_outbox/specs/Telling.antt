@@ -20,8 +20,11 @@ abbrev pub TellsNext : List Item → Core → Result Told AllocError → List It
 TellsNext [] c r waiting c2 = (r ≡ Ok told.Nothing) × (waiting ≡ []) × (c2 ≡ c)
 TellsNext (first ∷ rest) c r waiting c2 = Tells first c r c2 × (waiting ≡ waits_on first rest r)
 
--- A resumed session sends its requests without an answer again, and all that waits waits on; another one begins anew.
-abbrev pub Begins : Bool → Core → List Item → Result (Vec Sent Global) AllocError → Core → List Item → Type 0
-Begins true c waiting (Ok v) c2 waiting2 = (v.items ≡ unanswered_requests c) × (c2 ≡ c) × (waiting2 ≡ waiting)
+-- A resumed session sends its requests without an answer again, and all that waits waits on;
+-- another one begins anew.
+abbrev pub Begins : Bool → Core → List Item → Result (Vec Sent Global) AllocError → Core → List Item
+    → Type 0
+Begins true c waiting (Ok v) c2 waiting2 =
+    (v.items ≡ unanswered_requests c) × (c2 ≡ c) × (waiting2 ≡ waiting)
 Begins false c waiting (Ok v) c2 waiting2 = (v.items ≡ []) × (c2 ≡ new_core) × (waiting2 ≡ [])
 Begins resumed c waiting (Err e) c2 waiting2 = (c2 ≡ c) × (waiting2 ≡ waiting)

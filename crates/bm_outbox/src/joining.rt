@@ -23,7 +23,11 @@ impl Model for Joiner {
 
     ghost Value = { Joining };
 
-    ghost view = { λ j. record { letter = j.letter; done = texts_of j.done.items; current = string_bytes j.current } };
+    ghost view = { λ j. record {
+      letter = j.letter;
+      done = texts_of j.done.items;
+      current = string_bytes j.current;
+    } };
 
     ghost invariant = { λ j. IsJoining j.letter j.done.items (string_bytes j.current) };
 }
@@ -39,7 +43,8 @@ impl Joiner {
         }
     }
 
-    /// Adds a text to the one that may grow, where both fit into one; or else begins another one with it.
+    /// Adds a text to the one that may grow, where both fit into one; or else begins another one
+    /// with it.
     fn add(&mut self, text: &str) -> Result<(), AllocError>
         requires { length text.now ≤ 65536 }
         ensures { OnOk result (Adds self.old text.now self.new) }
@@ -76,8 +81,8 @@ impl Joiner {
     }
 }
 
-/// Whether a text can follow another one in the same update and its lines stay lines of their own: the first one is
-/// empty or ends its line, and both together are short enough.
+/// Whether a text can follow another one in the same update and its lines stay lines of their own:
+/// the first one is empty or ends its line, and both together are short enough.
 #[tactic(auto, using(crate::proofs::Joins::ends_line))]
 fn fit(first: &str, second: &str) -> bool
     requires first { length first.now ≤ 65536 }
@@ -109,8 +114,8 @@ fn join_all(alloc: Global, letter: Letter, texts: &[Text]) -> Result<Joiner, All
     Ok(joiner)
 }
 
-/// The texts of a pipe that lie ready, joined to fewer: what is said is their text in order, each of at most 65,536
-/// bytes, and its lines are their lines. All that fits is joined.
+/// The texts of a pipe that lie ready, joined to fewer: what is said is their text in order, each
+/// of at most 65,536 bytes, and its lines are their lines. All that fits is joined.
 pub(crate) fn joined(
     alloc: Global,
     letter: Letter,

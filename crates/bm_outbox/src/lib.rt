@@ -1,5 +1,5 @@
-//! What a worker tells its master of its commands, and in which order: the texts of their pipes, joined,
-//! and their ends. Nothing here knows sockets, processes or threads.
+//! What a worker tells its master of its commands, and in which order: the texts of their pipes,
+//! joined, and their ends. Nothing here knows sockets, processes or threads.
 #![tactic(auto)]
 
 mod ending;

@@ -87,8 +87,8 @@ impl Outbox {
         self.push_all(command, header_texts(alloc, line.as_str())?)
     }
 
-    /// Tells the end of a command whose process gave this exit code: the line of that code waits behind the others,
-    /// and the end behind it.
+    /// Tells the end of a command whose process gave this exit code: the line of that code waits
+    /// behind the others, and the end behind it.
     ///
     /// # Errors
     ///
@@ -114,10 +114,11 @@ impl Outbox {
         Ok(())
     }
 
-    /// Ends a command at once: what waits of it is given up, and how it ended waits behind the others. At want of
-    /// memory its end doesn't wait.
+    /// Ends a command at once: what waits of it is given up, and how it ended waits behind the
+    /// others. At want of memory its end doesn't wait.
     pub fn cut_short(&mut self, command: u64, ending: Ending) -> Result<(), AllocError>
-        ensures ok { OnOk result (self.new ≡ without command self.old ++ Item.End command ending ∷ []) }
+        ensures ok { OnOk result (self.new
+            ≡ without command self.old ++ Item.End command ending ∷ []) }
         ensures err { OnErr result (self.new ≡ without command self.old) }
     {
         give_up(&mut self.waiting, command);

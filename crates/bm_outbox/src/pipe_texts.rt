@@ -39,8 +39,8 @@ impl PipeTexts {
         }
     }
 
-    /// What is said of the next bytes of the pipe: the texts that they end, joined. What follows the last of them is
-    /// kept.
+    /// What is said of the next bytes of the pipe: the texts that they end, joined. What follows
+    /// the last of them is kept.
     ///
     /// # Errors
     ///
@@ -59,7 +59,8 @@ impl PipeTexts {
         }
     }
 
-    /// What is said at the end of the pipe: what was kept, if that is anything. Nothing is kept afterwards.
+    /// What is said at the end of the pipe: what was kept, if that is anything. Nothing is kept
+    /// afterwards.
     ///
     /// # Errors
     ///

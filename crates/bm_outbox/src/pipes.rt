@@ -41,8 +41,8 @@ impl Pipes {
         !self.output && !self.errors
     }
 
-    /// The exit code that is told of a command whose process gave this one: -1 stands for none. It is told once all
-    /// that the command printed was taken, and no sooner.
+    /// The exit code that is told of a command whose process gave this one: -1 stands for none. It
+    /// is told once all that the command printed was taken, and no sooner.
     pub fn exit_code(self, code: Option<i32>) -> i64
         requires { are_over self ≡ true }
         ensures { result ≡ exit_code code }

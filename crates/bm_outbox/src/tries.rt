@@ -23,7 +23,8 @@ impl Tries {
     /// Whether the worker connects again: at most 10 times in a row.
     pub fn again(&mut self) -> bool
         ensures again { result ≡ nat_lt self.old.made 10 }
-        ensures made { self.new.made ≡ if nat_lt self.old.made 10 then self.old.made + 1 else self.old.made }
+        ensures made { self.new.made ≡ if nat_lt self.old.made 10 then self.old.made + 1
+            else self.old.made }
     {
         if self.made < MOST {
             self.made += 1;

@@ -13,4 +13,5 @@ pub record StaysThrough (b : Standing) (n m : ℕ) (r : Results) : Type 0 where
 
 -- a build has one result, which nothing takes from it or changes
 abbrev pub ResultsStay : Type 0
-ResultsStay = (b : Standing) (n m : ℕ) (r : Results) → result_on b n ≡ Ok (Some r) → StaysThrough b n m r
+ResultsStay =
+    (b : Standing) (n m : ℕ) (r : Results) → result_on b n ≡ Ok (Some r) → StaysThrough b n m r

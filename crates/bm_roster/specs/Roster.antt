@@ -1,5 +1,5 @@
--- A roster, and what it does to its board. On the board a build is one step, whose outcome is what the
--- build's runner reports.
+-- A roster, and what it does to its board. On the board a build is one step, whose outcome is what
+-- the build's runner reports.
 use Rattle.std.specs.Prelude.{◌≡◌, ◌⊎◌, ◌<◌, ℕ, Bool, true, false, ◌&&◌, ◌==◌, [], ◌∷◌, List, IsOk, Option, Some, None, Result, Ok, Err}
 use Rattle.std.specs.List.{list_any}
 use Rattle.bm_session.specs.declared.results.Results.{Results}

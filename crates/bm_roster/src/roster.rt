@@ -112,7 +112,8 @@ impl<Y: Yard> Roster<Y> {
         ensures number { IfOk result (λ n. n ≡ length self.old.board.jobs) }
         ensures added { OnOk result (self.new
             ≡ with_board self.old (with_build self.old.board (on_board build.now))) }
-        ensures refused { IfErr result (λ r. (add_refusal self.old.board (on_board build.now) ≡ Some r)
+        ensures refused { IfErr result
+            (λ r. (add_refusal self.old.board (on_board build.now) ≡ Some r)
             ⊎ (r ≡ BoardRefusal.Mem)) }
         ensures unchanged { OnErr result (self.new ≡ self.old) }
     {
@@ -243,8 +244,8 @@ impl<Y: Yard> Roster<Y> {
         }
     }
 
-    /// Starts the first of the waiting builds that can be started now. It is to run, and to come back
-    /// by `end`. Builds whose worker takes none are passed over.
+    /// Starts the first of the waiting builds that can be started now. It is to run, and to come
+    /// back by `end`. Builds whose worker takes none are passed over.
     pub fn next(&mut self) -> Option<Commission<Y>>
         ensures started { IfSome result
             (λ c. IsStarted self.old.board self.new.board c.number c.worker) }
@@ -283,9 +284,10 @@ impl<Y: Yard> Roster<Y> {
         self.is_short
     }
 
-    /// A build that was started comes back with what its runner reports, which is kept as its result;
-    /// or CANCELLED, where it was cancelled meanwhile. It gives its slot and its locks back, and its
-    /// viewer goes back to the bench of its lane. The answer is whether it had a place there.
+    /// A build that was started comes back with what its runner reports, which is kept as its
+    /// result; or CANCELLED, where it was cancelled meanwhile. It gives its slot and its locks
+    /// back, and its viewer goes back to the bench of its lane. The answer is whether it had a
+    /// place there.
     pub fn end(&mut self, number: u64, reported: Results, viewer: Viewer<Y>) -> bool
         ensures board { self.new.board ≡ after_end self.old.board number reported }
         ensures given { result ≡ true

@@ -23,8 +23,8 @@ fn build_of(alloc: Global, mode: Mode) -> Result<Build, AllocError> {
     })
 }
 
-/// The roster of a worker with these viewers of its lane, and of so many builds: the first holds the
-/// lock alone, the others beside each other.
+/// The roster of a worker with these viewers of its lane, and of so many builds: the first holds
+/// the lock alone, the others beside each other.
 fn roster_of<Y: Yard>(alloc: Global, viewers: Vec<Viewer<Y>>, builds: u64) -> Option<Roster<Y>> {
     let slots: [u8; 1] = [2];
     let maxima: [u32; 1] = [2];

@@ -13,7 +13,9 @@ is_digits text = nat_lt 0 (length text) && list_all is_digit text
 
 -- the number that the text writes, of 64 bits at most
 abbrev pub number_of : List ℕ → Option ℕ
-number_of text = if is_digits text && nat_lt (digits_value 10 text) (2 ^ 64) then Some (digits_value 10 text) else None
+number_of text =
+    if is_digits text && nat_lt (digits_value 10 text) (2 ^ 64) then Some (digits_value 10 text)
+    else None
 
 -- the build that the line cancels: `cancel` and a number, with one space between
 abbrev pub cancelled : List ℕ → Option ℕ

@@ -11,7 +11,8 @@ escaped c = codes "\\x" ++ digit_glyph false (c / 16) ∷ digit_glyph false (c %
 
 -- a character as a name shows it
 abbrev pub shown : ℕ → List ℕ
-shown c = if c == byte "\\" then codes "\\\\" else (if is_control c then escaped c else encode_utf8 c)
+shown c =
+    if c == byte "\\" then codes "\\\\" else (if is_control c then escaped c else encode_utf8 c)
 
 -- a name on one line
 abbrev pub one_line : List ℕ → List ℕ

@@ -14,8 +14,8 @@ use Rattle.bm_rules.specs.declared.worker_event.ProcessDuty.{ProcessDuty}
 use Rattle.bm_rules.specs.declared.worker_event.ProcessDuty.TheVariants.{None as NoDuty, Start, Shutdown}
 use Rattle.bm_rules.specs.declared.worker_event.Duty.{Duty}
 
--- the machine of a latent worker, whether a connection is attached to the lane, whether a process runs
--- that the master started, and whether the lane takes nothing more
+-- the machine of a latent worker, whether a connection is attached to the lane, whether a process
+-- runs that the master started, and whether the lane takes nothing more
 pub record Known : Type 0 where
   pub latent : Option Standing
   pub attached : Bool
@@ -26,9 +26,9 @@ pub record Known : Type 0 where
 abbrev pub newcomer : Option Standing → Known
 newcomer latent = record { latent = latent; attached = false; running = false; full = false }
 
--- what the machine of a latent worker is told, in this order: no want of a lane that is full; an idle
--- tick only where the worker has no build; and a worker that no process of ours was behind has stopped
--- once it is lost
+-- what the machine of a latent worker is told, in this order: no want of a lane that is full; an
+-- idle tick only where the worker has no build; and a worker that no process of ours was behind has
+-- stopped once it is lost
 abbrev pub told : Known → WorkerEvent → List LatentEvent
 told p Wanted = if p.full then [] else Want ∷ []
 told p Started = LatentStarted ∷ []
@@ -100,7 +100,8 @@ is_stopping Insubstantiating = true
 is_stopping Waiting = true
 is_stopping state = false
 
--- a worker takes builds while it is attached, a latent one while it is substantiated, none on a full lane
+-- a worker takes builds while it is attached, a latent one while it is substantiated, none on a
+-- full lane
 abbrev pub is_ready : Known → Bool
 is_ready p = not p.full && option_map_or (λ w. is_substantiated w.state) p.latent p.attached
 
@@ -114,15 +115,16 @@ is_dismissed after Attached act = option_map_or (λ w. is_stopping w.state) afte
 is_dismissed after event act = after.attached && is_stop act
 
 abbrev pub process_duty : Known → WorkerEvent → Act → ProcessDuty
-process_duty after event act = if is_start act then Start else (if is_dismissed after event act then Shutdown else NoDuty)
+process_duty after event act =
+    if is_start act then Start else (if is_dismissed after event act then Shutdown else NoDuty)
 
 -- its process was started, and its worker has not logged in
 abbrev pub is_substantiating : LatentState → Bool
 is_substantiating Substantiating = true
 is_substantiating state = false
 
--- builds that wait are given up where their worker will not come: its process could not be started, or
--- ended before it logged in, or its lane takes nothing more
+-- builds that wait are given up where their worker will not come: its process could not be started,
+-- or ended before it logged in, or its lane takes nothing more
 abbrev pub gives_up : Known → WorkerEvent → Bool
 gives_up p Wanted = p.full
 gives_up p Failed = true

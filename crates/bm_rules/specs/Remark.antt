@@ -14,11 +14,13 @@ log_number log = log.command * log.lanes + log.lane
 
 -- what became of a worker, and why
 abbrev pub lost_line : List ℕ → List ℕ → LossCause → List ℕ
-lost_line worker what cause = codes "worker " ++ (one_line worker ++ (what ++ (loss_text cause ++ 10 ∷ [])))
+lost_line worker what cause =
+    codes "worker " ++ (one_line worker ++ (what ++ (loss_text cause ++ 10 ∷ [])))
 
 -- what a build did, and the name of what it did it with
 abbrev pub build_line : ℕ → List ℕ → List ℕ → List ℕ
-build_line build what name = codes "build " ++ (decimal build ++ (what ++ (one_line name ++ 10 ∷ [])))
+build_line build what name =
+    codes "build " ++ (decimal build ++ (what ++ (one_line name ++ 10 ∷ [])))
 
 -- what the line says, with its line end
 abbrev pub remark_line : Remark → List ℕ
@@ -26,19 +28,27 @@ remark_line (LoggedIn worker) = codes "worker " ++ (one_line worker.now ++ codes
 remark_line (Resumed worker) = codes "worker " ++ (one_line worker.now ++ codes " resumed\n")
 remark_line (Cut worker cause) = lost_line worker.now (codes " cut, ") cause
 remark_line (Lost worker cause) = lost_line worker.now (codes " lost, ") cause
-remark_line (Dismissed worker) = codes "worker " ++ (one_line worker.now ++ codes " told to shut down\n")
+remark_line (Dismissed worker) =
+    codes "worker " ++ (one_line worker.now ++ codes " told to shut down\n")
 remark_line (Filled worker) = codes "worker " ++ (one_line worker.now ++ codes " full\n")
-remark_line (LoginRefused name why) = codes "login refused, " ++ (refusal_text why ++ (codes ": " ++ (one_line name.now ++ 10 ∷ [])))
+remark_line (LoginRefused name why) =
+    codes "login refused, " ++ (refusal_text why ++ (codes ": " ++ (one_line name.now ++ 10 ∷ [])))
 remark_line (ConnectionRefused why) = codes "connection refused, " ++ (refusal_text why ++ 10 ∷ [])
 remark_line AcceptingPaused = codes "accepting paused\n"
 remark_line (BuildStarted build worker) = build_line build (codes " started on ") worker.now
-remark_line (BuildEnded build result) = codes "build " ++ (decimal build ++ (codes " ended " ++ (result_name result ++ 10 ∷ [])))
+remark_line (BuildEnded build result) =
+    codes "build " ++ (decimal build ++ (codes " ended " ++ (result_name result ++ 10 ∷ [])))
 remark_line (BuildCancelled build) = codes "build " ++ (decimal build ++ codes " to be cancelled\n")
 remark_line (StepStarted build log step) =
-    build_line build (codes " step started, log " ++ (decimal (log_number log) ++ codes ": ")) step.now
+    build_line build (codes " step started, log " ++ (decimal (log_number log) ++ codes ": "))
+    step.now
 remark_line (StepRefused build step) = build_line build (codes " step not started: ") step.now
 remark_line (StepEnded build log result step) =
-    build_line build (codes " step ended " ++ (result_name result ++ (codes ", log " ++ (decimal (log_number log) ++ codes ": ")))) step.now
-remark_line (ProgramStarted worker) = codes "program of " ++ (one_line worker.now ++ codes " started\n")
-remark_line (ProgramFailed worker) = codes "program of " ++ (one_line worker.now ++ codes " not started\n")
+    build_line build (codes " step ended "
+    ++ (result_name result ++ (codes ", log " ++ (decimal (log_number log) ++ codes ": "))))
+    step.now
+remark_line (ProgramStarted worker) =
+    codes "program of " ++ (one_line worker.now ++ codes " started\n")
+remark_line (ProgramFailed worker) =
+    codes "program of " ++ (one_line worker.now ++ codes " not started\n")
 remark_line (ProgramEnded worker) = codes "program of " ++ (one_line worker.now ++ codes " ended\n")

@@ -7,6 +7,9 @@ use Rattle.bm_rules.specs.declared.report.Report.TheVariants.{Listening, Build, 
 
 -- what the line says, with its line end
 abbrev pub report_line : Report → List ℕ
-report_line (Listening workers web) = codes "listening " ++ (socket_text workers ++ (32 ∷ (socket_text web ++ 10 ∷ [])))
-report_line (Build number result) = codes "build " ++ (decimal number ++ (32 ∷ (result_name result ++ 10 ∷ [])))
-report_line (Lane name commands lines) = codes "lane " ++ (name.now ++ (32 ∷ (decimal commands ++ (32 ∷ (decimal lines ++ 10 ∷ [])))))
+report_line (Listening workers web) =
+    codes "listening " ++ (socket_text workers ++ (32 ∷ (socket_text web ++ 10 ∷ [])))
+report_line (Build number result) =
+    codes "build " ++ (decimal number ++ (32 ∷ (result_name result ++ 10 ∷ [])))
+report_line (Lane name commands lines) =
+    codes "lane " ++ (name.now ++ (32 ∷ (decimal commands ++ (32 ∷ (decimal lines ++ 10 ∷ [])))))

@@ -1,6 +1,6 @@
-//! What a build master decides beside its threads and sockets: when a lane is given up, when a worker
-//! takes builds and its process is started or stopped, what a line of its input asks for, how it ends,
-//! and what it tells its operator.
+//! What a build master decides beside its threads and sockets: when a lane is given up, when a
+//! worker takes builds and its process is started or stopped, what a line of its input asks for,
+//! how it ends, and what it tells its operator.
 #![tactic(auto)]
 
 mod cancel;

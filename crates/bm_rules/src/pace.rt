@@ -4,8 +4,8 @@ ghost use Rattle.std.specs.Prelude.{◌≡◌, ◌≤◌, ◌+◌, ◌-◌, ◌*
 
 use std::marker::Model;
 
-/// Counts whole ticks by a clock, for a thread that doesn't wake at each of them: none is lost and none
-/// counted twice. Times are in milliseconds since some moment.
+/// Counts whole ticks by a clock, for a thread that doesn't wake at each of them: none is lost and
+/// none counted twice. Times are in milliseconds since some moment.
 #[derive(Debug, Drop)]
 pub struct Pace {
     /// How long a tick is.
@@ -34,11 +34,12 @@ impl Pace {
         Pace { tick, last: now }
     }
 
-    /// How many ticks have ended since the last call. What has passed of the next one counts later. A clock
-    /// that stands before the last tick's end gives none.
+    /// How many ticks have ended since the last call. What has passed of the next one counts later.
+    /// A clock that stands before the last tick's end gives none.
     pub fn ticks(&mut self, now: u64) -> u64
         ensures ticks { result ≡ (now - self.old.last) / self.old.tick }
-        ensures left { self.new ≡ record { tick = self.old.tick; last = self.old.last + result * self.old.tick } }
+        ensures left { self.new
+            ≡ record { tick = self.old.tick; last = self.old.last + result * self.old.tick } }
     {
         let ticks = now.saturating_sub(self.last) / self.tick;
         self.last += ticks * self.tick;

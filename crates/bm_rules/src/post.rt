@@ -10,8 +10,9 @@ use bm_latent::{Act, Latent, LatentEvent, LatentState};
 use std::marker::Model;
 
 /// What a build master knows of one worker. One that isn't latent takes builds while its connection
-/// is attached. One that is latent takes them while it is substantiated; its process is started once
-/// a build waits for it, and its worker is told to shut down once it has been idle for long enough.
+/// is attached. One that is latent takes them while it is substantiated; its process is started
+/// once a build waits for it, and its worker is told to shut down once it has been idle for long
+/// enough.
 #[derive(Debug, Drop)]
 pub struct Post {
     latent: Option<Latent>,
@@ -25,7 +26,12 @@ impl Model for Post {
 
     ghost Value = { Known };
 
-    ghost view = { λ p. record { latent = p.latent; attached = p.attached; running = p.running; full = p.full } };
+    ghost view = { λ p. record {
+      latent = p.latent;
+      attached = p.attached;
+      running = p.running;
+      full = p.full;
+    } };
 }
 
 impl Post {
@@ -45,7 +51,8 @@ impl Post {
     /// build.
     pub fn latent(idle_ticks: u32) -> Post
         requires { 1 ≤ idle_ticks }
-        ensures { result ≡ newcomer (Some (record { state = LatentState.Not; idle = 0; limit = idle_ticks })) }
+        ensures { result
+            ≡ newcomer (Some (record { state = LatentState.Not; idle = 0; limit = idle_ticks })) }
     {
         Post {
             latent: Some(Latent::new(idle_ticks)),
@@ -80,7 +87,8 @@ impl Post {
         }
     }
 
-    // Tells the machine of a latent worker what it is to hear of the event. Answers what it asks for.
+    // Tells the machine of a latent worker what it is to hear of the event. Answers what it asks
+    // for.
     fn tell_machine(&mut self, event: WorkerEvent) -> Act
         ensures known { self.new ≡ record {
           latent = latent_after self.old event;
@@ -168,8 +176,8 @@ impl Post {
             }
     }
 
-    /// Whether ticks are to be told: while the worker's process runs, whose end is to be seen, and while
-    /// idle ticks count.
+    /// Whether ticks are to be told: while the worker's process runs, whose end is to be seen, and
+    /// while idle ticks count.
     pub fn is_timed(&self) -> bool
         ensures { result ≡ is_timed self.now }
     {

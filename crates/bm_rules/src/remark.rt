@@ -12,8 +12,8 @@ use std::alloc::{AllocError, Global};
 use std::io;
 use std::io::Write;
 
-/// A line of a build master's standard error: something that its operator asks about. Names are shown on
-/// one line (`one_line`). Nothing here has room for a password.
+/// A line of a build master's standard error: something that its operator asks about. Names are
+/// shown on one line (`one_line`). Nothing here has room for a password.
 #[derive(Clone, Copy, Debug)]
 pub enum Remark<'a> {
     /// A worker logged in, and a session began: `worker NAME logged in`.
@@ -29,7 +29,8 @@ pub enum Remark<'a> {
         worker: &'a str,
         cause: LossCause,
     },
-    /// A worker's session ended, and each command that ran on it with it: `worker NAME lost, CAUSE`.
+    /// A worker's session ended, and each command that ran on it with it: `worker NAME lost,
+    /// CAUSE`.
     Lost {
         worker: &'a str,
         cause: LossCause,
@@ -42,8 +43,8 @@ pub enum Remark<'a> {
     Filled {
         worker: &'a str,
     },
-    /// A connection that gave a worker's name was not taken up: `login refused, WHY: NAME`. The name may be
-    /// no worker's.
+    /// A connection that gave a worker's name was not taken up: `login refused, WHY: NAME`. The
+    /// name may be no worker's.
     LoginRefused {
         name: &'a str,
         why: LoginRefusal,

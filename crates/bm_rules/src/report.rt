@@ -22,8 +22,8 @@ pub enum Report<'a> {
         number: u64,
         result: Results,
     },
-    /// A worker's lane had so many commands, and so many lines in their logs: `lane NAME COMMANDS LINES`,
-    /// with the name as the configuration has it.
+    /// A worker's lane had so many commands, and so many lines in their logs: `lane NAME COMMANDS
+    /// LINES`, with the name as the configuration has it.
     Lane {
         name: &'a str,
         commands: u64,

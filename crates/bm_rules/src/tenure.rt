@@ -57,16 +57,16 @@ impl Tenure {
         }
     }
 
-    /// Nobody is awaited: the worker was told to shut down, or its process ended. A lane that is cut
-    /// is over at once, another one at its cut.
+    /// Nobody is awaited: the worker was told to shut down, or its process ended. A lane that is
+    /// cut is over at once, another one at its cut.
     pub fn dismiss(&mut self)
         ensures { self.new ≡ dismissed self.old }
     {
         self.dismissed = true;
     }
 
-    /// A tick passed. Answers whether the lane is to be given up now; that stays so until a connection
-    /// is attached or the lane was given up.
+    /// A tick passed. Answers whether the lane is to be given up now; that stays so until a
+    /// connection is attached or the lane was given up.
     pub fn tick(&mut self) -> bool
         ensures term { self.new ≡ passed self.old }
         ensures over { result ≡ is_over (passed self.old) }

@@ -6,8 +6,8 @@ use std::alloc::Global;
 use std::process::Abort;
 use std::test::Fail;
 
-/// An event of a worker, whether it takes builds then, what is done with its process, and whether the
-/// builds that wait are given up.
+/// An event of a worker, whether it takes builds then, what is done with its process, and whether
+/// the builds that wait are given up.
 type Row = (WorkerEvent, bool, ProcessDuty, bool);
 
 /// A worker goes through the rows.

@@ -42,7 +42,8 @@ IsWaitedFor turns entry = entry.ended ≡ None → entry.polls ≡ turns
 -- a run of the steps: one outcome for each step, SKIPPED just for those that don't run; the port
 -- told an entry for each step that ran, in order, but for the last where its start was refused; and
 -- the build's result
-pub record IsRun (steps : List StepPlan) (turns : ℕ) (before after : List Told) (refused : Bool) (report : Report) : Type 0 where
+pub record IsRun (steps : List StepPlan) (turns : ℕ) (before after : List Told) (refused : Bool)
+    (report : Report) : Type 0 where
   pub entries : List Told
   pub told : after ≡ before ++ entries
   pub count : length report.outcomes ≡ length steps
@@ -53,7 +54,8 @@ pub record IsRun (steps : List StepPlan) (turns : ℕ) (before after : List Told
   pub result : report.result ≡ result_of steps report.outcomes
 
 -- a step that was run: refused with RETRY, or told of by one entry
-pub record IsStepRun (turns : ℕ) (before after : List Told) (refused : Bool) (outcome : Results) : Type 0 where
+pub record IsStepRun (turns : ℕ) (before after : List Told) (refused : Bool)
+    (outcome : Results) : Type 0 where
   pub entries : List Told
   pub told : after ≡ before ++ entries
   pub outcomes : outcome ∷ [] ≡ told_outcomes entries refused

@@ -44,8 +44,8 @@ struct Scripted {
 }
 
 impl Scripted {
-    /// Whether there is room for one entry more. Where one request for memory is refused, the second
-    /// try succeeds.
+    /// Whether there is room for one entry more. Where one request for memory is refused, the
+    /// second try succeeds.
     fn has_room(&mut self) -> bool
         ensures told { self.new.entries.told ≡ self.old.entries.told }
         ensures refused { self.new.refused ≡ self.old.refused }

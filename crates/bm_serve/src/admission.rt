@@ -20,8 +20,9 @@ const PAUSE: u64 = 20;
 
 type Visitor<R, S> = Visit<TcpStream, Pages<R, S>, OwnedSemaphorePermit>;
 
-/// The connections of a listener, of which each holds a place until it ends. Where one can't be taken in, since
-/// descriptors, memory or places are wanting, there is a pause before the next is tried.
+/// The connections of a listener, of which each holds a place until it ends. Where one can't be
+/// taken in, since descriptors, memory or places are wanting, there is a pause before the next is
+/// tried.
 #[derive(Drop)]
 pub struct Admission<R, S> {
     pub rt: R,

@@ -1,4 +1,5 @@
-//! The chunk server over HTTP/1.1: connections are taken in, so many at once, and served until a stop.
+//! The chunk server over HTTP/1.1: connections are taken in, so many at once, and served until a
+//! stop.
 #![tactic(auto)]
 
 mod admission;

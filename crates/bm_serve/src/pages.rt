@@ -44,8 +44,8 @@ fn target_in(uri: &Uri) -> &str {
     target.as_str()
 }
 
-// The response with an answer: JSON under each status but 503. Under 405 it names the one method that is
-// allowed (RFC 9110).
+// The response with an answer: JSON under each status but 503. Under 405 it names the one method
+// that is allowed (RFC 9110).
 fn response(alloc: Global, answer: Answer) -> Response<Full<Bytes>> {
     let Answer { status, body } = answer;
     let Ok(body) = Bytes::from_vec(body) else {

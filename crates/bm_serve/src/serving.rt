@@ -34,8 +34,8 @@ pub struct Limits {
 }
 
 /// Serves over HTTP/1.1 until `stop` is ready or its sender is gone, and at most a moment longer,
-/// whatever clients do. Then nobody but the caller holds what was served. An error says that serving could
-/// not begin.
+/// whatever clients do. Then nobody but the caller holds what was served. An error says that
+/// serving could not begin.
 pub fn serve<R, S>(
     rt: R,
     limits: Limits,

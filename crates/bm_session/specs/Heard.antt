@@ -11,7 +11,8 @@ use Rattle.bm_session.specs.declared.event.Body.TheVariants.{Auth, Update, Compl
 use Rattle.bm_session.specs.declared.event.Event.{Event}
 use Rattle.bm_session.specs.declared.event.Event.TheVariants.{In}
 
--- a login, an update by the lines and the exit code that it carries, or a complete; what only a master asks is no operation
+-- a login, an update by the lines and the exit code that it carries, or a complete; what only a
+-- master asks is no operation
 abbrev pub body_of : Asked → Body
 body_of (auth username password session) = Auth
 body_of (update command fields) = Update command (carried fields) (last_rc fields)
@@ -25,7 +26,9 @@ event_of (response n result exception) = In n (Answered exception)
 
 -- the tree is this event: that of its message, or the request whose further keys are at fault
 abbrev pub IsEvent : Tree → Event → Type 0
-IsEvent t e = ((m : Meaning) × IsMessage t m × (e ≡ event_of m)) ⊎ ((n : ℕ) × IsFaulty t (fault.BadArgs n) × (e ≡ In n BadArgs))
+IsEvent t e =
+    ((m : Meaning) × IsMessage t m × (e ≡ event_of m))
+    ⊎ ((n : ℕ) × IsFaulty t (fault.BadArgs n) × (e ≡ In n BadArgs))
 
 -- what a tree with this fault is: bad arguments are a request
 abbrev pub faulty_as : MsgError → Result Event MsgError

@@ -26,12 +26,13 @@ EventsAreNumbered = (t : Tree) (e : Event) → IsEvent t e → IsNumbered e
 abbrev pub next_place : Trace → Event → Moment
 next_place t e = record { past = t; event = e }
 
--- the orders without an answer where the event comes next: none where a session begins; else those that it doesn't answer,
--- and the event itself where it is an order
+-- the orders without an answer where the event comes next: none where a session begins; else those
+-- that it doesn't answer, and the event itself where it is an order
 abbrev pub pending_after : Trace → Event → List Moment
 pending_after t e =
     if begins_session (next_place t e) then []
-    else filter (λ m. not (is_answer_to (orders m.past) e)) (pending t) ++ (if is_order e then next_place t e ∷ [] else [])
+    else filter (λ m. not (is_answer_to (orders m.past) e)) (pending t)
+    ++ (if is_order e then next_place t e ∷ [] else [])
 
 abbrev pub PendingFollows : Type 0
 PendingFollows = (t : Trace) (e : Event) → pending (t ++ e ∷ []) ≡ pending_after t e

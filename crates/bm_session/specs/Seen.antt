@@ -16,7 +16,9 @@ IsMerged (a ∷ b ∷ rs) = (a.first ≤ a.last) × IsApart a b × IsMerged (b �
 
 -- the verdict of the range that has the number
 abbrev pub verdict_in : List Seen → ℕ → Option Verdict
-verdict_in rs n = option_map (λ (r : Seen). r.verdict) (find (λ (r : Seen). nat_le r.first n && nat_le n r.last) rs)
+verdict_in rs n =
+    option_map (λ (r : Seen). r.verdict)
+    (find (λ (r : Seen). nat_le r.first n && nat_le n r.last) rs)
 
 -- the ranges hold just the numbers that the trace had, each with its first verdict
 pub record HoldsSeen (rs : List Seen) (t : Trace) : Type 0 where

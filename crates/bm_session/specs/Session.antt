@@ -30,7 +30,8 @@ abbrev pub needed : Event → ℕ
 needed Down = 1
 needed _ = 2
 
--- the plan is for this session as it is: the event is accepted, and the plan says what the trace says
+-- the plan is for this session as it is: the event is accepted, and the plan says what the trace
+-- says
 pub record IsPlanFor (s : Lane) (p : Planned) : Type 0 where
   pub accepted : refusal s.trace p.event ≡ None
   pub answered : p.sent ≡ reply s.trace p.event

@@ -41,21 +41,39 @@ counts t e = false
 -- what is kept of an open command
 abbrev pub open_entry : Trace → ℕ → Open
 open_entry t k =
-    record { command = k; order = start_order t k; stopped = list_any (is_stop_of k) t; told = result_of_rc (last_rc t k) }
+    record {
+      command = k;
+      order = start_order t k;
+      stopped = list_any (is_stop_of k) t;
+      told = result_of_rc (last_rc t k);
+    }
 
 -- the entry after a stop of command k
 abbrev pub with_stop : ℕ → Open → Open
-with_stop k o = record { command = o.command; order = o.order; stopped = (o.stopped || (k == o.command)); told = o.told }
+with_stop k o =
+    record {
+      command = o.command;
+      order = o.order;
+      stopped = (o.stopped || (k == o.command));
+      told = o.told;
+    }
 
 -- the entry after an exit code of command k
 abbrev pub with_told : ℕ → Results → Open → Open
-with_told k r o = record { command = o.command; order = o.order; stopped = o.stopped; told = (if k == o.command then r else o.told) }
+with_told k r o =
+    record {
+      command = o.command;
+      order = o.order;
+      stopped = o.stopped;
+      told = (if k == o.command then r else o.told);
+    }
 
 -- how the command ends, by a fault or by a complete
 abbrev pub ends_as : Open → Bool → Results
 ends_as o fault = if o.stopped then Cancelled else if fault then Exception else o.told
 
--- how a command ended, where its own end is kept, if it had one: without one it is open, or its session was given up
+-- how a command ended, where its own end is kept, if it had one: without one it is open, or its
+-- session was given up
 abbrev pub outcome_from : Option Results → Bool → Option Results
 outcome_from (Some r) is_open = Some r
 outcome_from None true = None
@@ -68,7 +86,8 @@ pub record IsTable (tb : Table) (t : Trace) : Type 0 where
   pub numbered : tb.orders ≡ orders t
   pub listed : tb.opened.items ≡ map (open_entry t) (open_commands t)
   pub counted : length tb.outcomes.items ≡ commands t
-  pub ended : (k : ℕ) → k < commands t → outcome_from (slice_index_or tb.outcomes.items k None) (is_open t k) ≡ outcome t k
+  pub ended : (k : ℕ) → k < commands t
+      → outcome_from (slice_index_or tb.outcomes.items k None) (is_open t k) ≡ outcome t k
   pub had : (n : ℕ) → verdict_in tb.seen.ranges n ≡ seen t n
 
 -- the table is that of some trace whose lane is up
@@ -79,7 +98,8 @@ IsTableUp tb = (t : Trace) × IsTable tb t × (is_up t ≡ true)
 abbrev pub table_room : Table → ℕ
 table_room tb = min (vec_capacity tb.outcomes - vec_len tb.outcomes) tb.seen.room
 
--- what a session keeps: its trace and room, and the table of its trace, with places for four open commands
+-- what a session keeps: its trace and room, and the table of its trace, with places for four open
+-- commands
 pub record IsSession (s : Lane) (tb : Table) : Type 0 where
   pub lane : IsLane s
   pub table : IsTable tb s.trace

@@ -112,9 +112,13 @@ abbrev pub refuses : Trace → ℕ → Event → Bool
 refuses past k (In n (Answered true)) = was_order past k n
 refuses past k _ = false
 
--- this place ends command k, if it is open: a giving up, a fresh complete of it, or a refusal of its start
+-- this place ends command k, if it is open: a giving up, a fresh complete of it, or a refusal of
+-- its start
 abbrev pub ends_at : ℕ → Moment → Bool
-ends_at k m = nat_lt k (commands m.past) && (is_down_event m.event || (is_fresh m && is_complete_of k m.event) || refuses m.past k m.event)
+ends_at k m =
+    nat_lt k (commands m.past)
+    && (is_down_event m.event || (is_fresh m && is_complete_of k m.event)
+    || refuses m.past k m.event)
 
 -- the end of command k: the first place that ends it
 abbrev pub ending : Trace → ℕ → Option Moment
@@ -136,7 +140,8 @@ updates k m = is_fresh m && is_update_of k m.event && is_open m.past k
 
 -- the blocks that these updates carried under a name, in order
 abbrev pub blocks : Trace → ℕ → Name → List (List Line)
-blocks t k name = flat_map (λ m. blocks_under name (parcel_of m.event)) (filter (updates k) (moments t))
+blocks t k name =
+    flat_map (λ m. blocks_under name (parcel_of m.event)) (filter (updates k) (moments t))
 
 -- the log of command k under a name: the lines of these blocks
 abbrev pub log : Trace → ℕ → Name → List Line
@@ -144,11 +149,13 @@ log t k name = joined (blocks t k name)
 
 -- the log is there: `stdio` once command k is started, another name from its first block on
 abbrev pub has_log : Trace → ℕ → Name → Bool
-has_log t k name = nat_lt k (commands t) && (bytes_eq name stdio || not (is_empty (blocks t k name)))
+has_log t k name =
+    nat_lt k (commands t) && (bytes_eq name stdio || not (is_empty (blocks t k name)))
 
 -- the last exit code that these updates carried, under whatever name
 abbrev pub last_rc : Trace → ℕ → Option ℤ
-last_rc t k = fold (λ _ z. Some z) None (filter_map (λ m. rc_of m.event) (filter (updates k) (moments t)))
+last_rc t k =
+    fold (λ _ z. Some z) None (filter_map (λ m. rc_of m.event) (filter (updates k) (moments t)))
 
 -- what the last exit code says: 0 is a success, another a failure, none an exception
 abbrev pub result_of_rc : Option ℤ → Results
@@ -156,7 +163,8 @@ result_of_rc None = Exception
 result_of_rc (Some (pos zero)) = Success
 result_of_rc (Some _) = Failure
 
--- how command k ends here: given up; else a stop was ordered; else a fault; else what its exit code says
+-- how command k ends here: given up; else a stop was ordered; else a fault; else what its exit code
+-- says
 abbrev pub result_at : ℕ → Moment → Results
 result_at k m =
     if is_down_event m.event then Retry
@@ -214,8 +222,11 @@ item t Go = Some (Open (commands t))
 item t (Stop k) = None
 item t Cut = None
 item t Down = item_if (not (is_empty (open_commands t))) Gone
-item t (In n (Update k parcel rc)) = item_if (updates k (record { past = t; event = In n (Update k parcel rc) })) (Lines k parcel)
-item t (In n body) = option_map (λ k. End k (result_at k (record { past = t; event = In n body }))) (ended_by t (In n body))
+item t (In n (Update k parcel rc)) =
+    item_if (updates k (record { past = t; event = In n (Update k parcel rc) })) (Lines k parcel)
+item t (In n body) =
+    option_map (λ k. End k (result_at k (record { past = t; event = In n body })))
+    (ended_by t (In n body))
 
 -- what a trace does to the logs, in order
 abbrev pub items : Trace → List Item
@@ -289,13 +300,15 @@ visible t d = unwrap_or (find (λ p. productive p == d) (prefixes t)) t
 
 -- the first verdict on the number n in this session, while the lane is up or cut
 abbrev pub seen : Trace → ℕ → Option Verdict
-seen t n = if is_up t || is_cut t then option_map (λ m. verdict m.past m.event) (first_with t n) else None
+seen t n =
+    if is_up t || is_cut t then option_map (λ m. verdict m.past m.event) (first_with t n) else None
 
 -- of the orders at these places, those without a later answer
 abbrev pub unanswered : List Moment → List Moment
 unanswered [] = []
 unanswered (m ∷ ms) =
-    if is_order m.event && not (list_any (λ l. is_answer_to (orders m.past) l.event) ms) then m ∷ unanswered ms else unanswered ms
+    if is_order m.event && not (list_any (λ l. is_answer_to (orders m.past) l.event) ms)
+    then m ∷ unanswered ms else unanswered ms
 
 -- the orders of this session that the worker hasn't answered yet
 abbrev pub pending : Trace → List Moment

@@ -38,7 +38,8 @@ impl Event {
     ///
     /// # Errors
     ///
-    /// The first reason why the value is no message, but for bad arguments; `Mem` where memory ran out.
+    /// The first reason why the value is no message, but for bad arguments; `Mem` where memory ran
+    /// out.
     pub fn of_value<A: Allocator>(alloc: Global, value: &Value<A>) -> Result<Event, MsgError>
         // What is answered is the event that the value is.
         ensures event { IfOk result (IsEvent (tree value.now)) }
@@ -72,7 +73,8 @@ impl Event {
         }
     }
 
-    /// What a message of the worker is to its session. Requests that only a master sends are no operation.
+    /// What a message of the worker is to its session. Requests that only a master sends are no
+    /// operation.
     pub fn of_message(alloc: Global, message: Message) -> Result<Event, AllocError>
         ensures { IfOk result (λ event. event ≡ event_of (meaning message)) }
     {
@@ -86,7 +88,8 @@ impl Event {
         }
     }
 
-    /// What an update of one text is to its session. The text stays where it is: its lines are copied.
+    /// What an update of one text is to its session. The text stays where it is: its lines are
+    /// copied.
     fn of_text(alloc: Global, update: TextUpdate<'_>) -> Result<Event, AllocError>
         ensures { IfOk result (λ event. event ≡ event_of (says update.entry)) }
     {

@@ -101,8 +101,8 @@ fn append_added(
     }
 }
 
-/// The log of the command under the name, and whether it has a block. A table runs over the trace, which was taken, and
-/// tells which updates count.
+/// The log of the command under the name, and whether it has a block. A table runs over the trace,
+/// which was taken, and tells which updates count.
 pub fn walk(
     alloc: Global,
     t: &[Event],

@@ -9,8 +9,8 @@ use crate::seen::Seen;
 use std::alloc::{AllocError, Global};
 use std::marker::Model;
 
-/// The request numbers of a session, as sorted ranges of which no two could be one, each with the first verdict on its
-/// numbers.
+/// The request numbers of a session, as sorted ranges of which no two could be one, each with the
+/// first verdict on its numbers.
 #[derive(Drop)]
 pub struct Ranges {
     vec: Vec<Seen>,
@@ -23,7 +23,10 @@ impl Model for Ranges {
 
     ghost Value = { RangeList };
 
-    ghost view = { λ r. record { ranges = r.vec.items; room = vec_capacity r.vec - vec_len r.vec } };
+    ghost view = { λ r. record {
+      ranges = r.vec.items;
+      room = vec_capacity r.vec - vec_len r.vec;
+    } };
 
     ghost invariant = { λ r. IsMerged r.vec.items };
 }
@@ -122,7 +125,8 @@ impl Ranges {
         self.vec.clear();
     }
 
-    /// How many ranges begin at the number or before it. Numbers come mostly in order, so the last range is tried first.
+    /// How many ranges begin at the number or before it. Numbers come mostly in order, so the last
+    /// range is tried first.
     fn place(&self, number: u64) -> usize
         ensures { IsPlace self.now.ranges number result }
     {

@@ -39,7 +39,8 @@ impl Verdict {
         }
     }
 
-    /// The bytes of the response that tells the verdict on request `seq`. They are read back, whatever follows them.
+    /// The bytes of the response that tells the verdict on request `seq`. They are read back,
+    /// whatever follows them.
     pub fn answer(self, alloc: Global, seq: u64) -> Result<Vec<u8>, AllocError>
         requires { seq < 2 ^ 63 }
         ensures bytes { IfOk result (λ bytes. bytes.items

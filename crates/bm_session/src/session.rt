@@ -74,7 +74,8 @@ impl Session {
         events
     }
 
-    /// Whether the lane is up: a connection of the worker takes messages and orders. It takes constant time.
+    /// Whether the lane is up: a connection of the worker takes messages and orders. It takes
+    /// constant time.
     pub fn is_up(&self) -> bool
         ensures { result ≡ up_of self.now.trace }
     {
@@ -104,8 +105,8 @@ impl Session {
         self.table.commands()
     }
 
-    /// The log of the command under the name, or None where that log isn't there. It reads the whole trace, and takes
-    /// memory for that unless the command was never started.
+    /// The log of the command under the name, or None where that log isn't there. It reads the
+    /// whole trace, and takes memory for that unless the command was never started.
     pub fn log(&self, alloc: Global, command: u64, name: &str) -> Result<Option<Block>, AllocError>
         ensures log { IfOk result (λ log. log ≡ (if has_log_in self.now.trace command name.now
             then Some (log_of self.now.trace command name.now) else None)) }
@@ -128,8 +129,9 @@ impl Session {
         self.table.outcome(command)
     }
 
-    /// The numbers of the requests that the session had, with the first verdicts, as sorted ranges of which no two
-    /// overlap or could be one. While the session is neither up nor cut there are none.
+    /// The numbers of the requests that the session had, with the first verdicts, as sorted ranges
+    /// of which no two overlap or could be one. While the session is neither up nor cut there are
+    /// none.
     pub fn seen(&self) -> &[Seen]
         ensures holds { HoldsSeen result.now self.now.trace }
         ensures none { (up_of self.now.trace || cut_of self.now.trace) ≡ false → result.now ≡ [] }
@@ -137,8 +139,9 @@ impl Session {
         self.table.seen.as_slice()
     }
 
-    /// Decides whether the event is taken next, and takes the memory that this needs. The session means the same
-    /// afterwards, and earlier plans for it stay good. An event that isn't taken comes back with the reason.
+    /// Decides whether the event is taken next, and takes the memory that this needs. The session
+    /// means the same afterwards, and earlier plans for it stay good. An event that isn't taken
+    /// comes back with the reason.
     ///
     /// To give up a session that is up or cut takes no memory.
     pub fn ready(&mut self, event: Event) -> Result<Plan, (Event, Refusal)>
@@ -161,7 +164,8 @@ impl Session {
         }
     }
 
-    /// What the master sends after the event, and its item, or why it isn't taken. Makes the room that it needs.
+    /// What the master sends after the event, and its item, or why it isn't taken. Makes the room
+    /// that it needs.
     fn prepare(&mut self, event: &Event) -> Result<(Reply, Option<Item>), Refusal>
         ensures same { self.new.trace ≡ self.old.trace }
         ensures room { self.old.room ≤ self.new.room }
@@ -203,8 +207,8 @@ impl Session {
         self.events.push_reserved(event);
     }
 
-    /// Takes the event of the plan: answers what the master sends, and the event's item unless it was taken from the
-    /// plan before.
+    /// Takes the event of the plan: answers what the master sends, and the event's item unless it
+    /// was taken from the plan before.
     pub fn commit(&mut self, plan: Plan) -> (Reply, Option<Item>)
         requires { IsPlanFor self.old plan }
         ensures trace { self.new.trace ≡ self.old.trace ++ plan.event ∷ [] }
@@ -216,7 +220,8 @@ impl Session {
         (reply, item)
     }
 
-    /// A session that took the events, one after the other, and what came of each. A refused event is passed over.
+    /// A session that took the events, one after the other, and what came of each. A refused event
+    /// is passed over.
     pub fn run(alloc: Global, events: Vec<Event>) -> Result<(Session, Vec<Ran>), AllocError>
         ensures trace { IfOk result (λ r. r.0.trace ≡ trace_after [] events.items) }
         ensures ran { IfOk result (λ r. r.1.items ≡ ran_after [] events.items) }

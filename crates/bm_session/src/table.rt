@@ -154,9 +154,11 @@ pub struct Table {
     pub orders: u64,
     /// The open commands, oldest first: at most four.
     pub opened: Vec<Open>,
-    /// For each command how it ended. None stands for one that is open, and for one that ended with its session.
+    /// For each command how it ended. None stands for one that is open, and for one that ended with
+    /// its session.
     pub outcomes: Vec<Option<Results>>,
-    /// The request numbers that the session had, with the first verdicts. None while the lane is down.
+    /// The request numbers that the session had, with the first verdicts. None while the lane is
+    /// down.
     pub seen: Ranges,
 }
 
@@ -514,8 +516,8 @@ impl Table {
         self.orders += 1;
     }
 
-    /// Takes a message of the worker. The number of a request that is fresh is kept with its verdict, and a repeat
-    /// changes nothing.
+    /// Takes a message of the worker. The number of a request that is fresh is kept with its
+    /// verdict, and a repeat changes nothing.
     fn take_in(&mut self, number: u64, body: &Body)
         requires known { IsTableUp self.old }
         requires room { 0 < table_room self.old }

@@ -29,8 +29,8 @@ pub(crate) fn again<T: Drop, F: Fn() -> Result<T, AllocError>>(make: F) -> Resul
     }
 }
 
-/// Plans to take the event. After want of memory the session is as before, and the event that came back is
-/// tried again.
+/// Plans to take the event. After want of memory the session is as before, and the event that came
+/// back is tried again.
 pub(crate) fn planned(session: &mut Session, event: Event) -> Result<Plan, Refusal>
     ensures { IfOk result (λ plan. IsPlanFor session.new plan) }
 {
@@ -147,8 +147,8 @@ fn assert_logs(
     Ok(())
 }
 
-/// The session takes the events of the rows, each of which has its answer. Then command 0 has these logs, and
-/// ended so.
+/// The session takes the events of the rows, each of which has its answer. Then command 0 has these
+/// logs, and ended so.
 fn plays(
     rt: &(impl AllocGlobal + Abort),
     rows: &[Row],
@@ -233,7 +233,8 @@ fn is_copied_parcel(alloc: Global, parcel: Parcel, lines: &str) -> bool {
     is_copied_ran(alloc, &ran, lines)
 }
 
-/// Whether a copy of the event is update 3 of command 0 with these lines, also after copies of what comes of it.
+/// Whether a copy of the event is update 3 of command 0 with these lines, also after copies of what
+/// comes of it.
 fn is_copied_event(alloc: Global, event: &Event, lines: &str) -> bool {
     match event.copy() {
         Ok(

@@ -26,7 +26,10 @@ no_logs = record { blocks = λ _. []; ended = None }
 
 -- with a parcel more, where the command is open
 abbrev pub with_parcel : List Part → Logs → Logs
-with_parcel parcel l = if is_none l.ended then record { blocks = λ name. l.blocks name ++ blocks_under name parcel; ended = None } else l
+with_parcel parcel l =
+    if is_none l.ended
+    then record { blocks = λ name. l.blocks name ++ blocks_under name parcel; ended = None }
+    else l
 
 -- ended, where the command is open
 abbrev pub with_end : Results → Logs → Logs
@@ -76,11 +79,16 @@ placed_log name l = if is_there name l then Some (placed (l.blocks name)) else N
 -- how many lines a log has, as far as 64 bits count, and how its command ended
 abbrev pub state_log : Name → Logs → Option LogState
 state_log name l =
-    if is_there name l then Some (record { lines = min (length (joined (l.blocks name))) (2 ^ 64 - 1); ended = l.ended }) else None
+    if is_there name l
+    then Some (record {
+      lines = min (length (joined (l.blocks name))) (2 ^ 64 - 1);
+      ended = l.ended;
+    }) else None
 
 -- the asked lines of a log
 abbrev pub chunk_log : Name → ℕ → ℕ → Logs → Option (List Line)
-chunk_log name off lim l = if is_there name l then Some (slice (joined (l.blocks name)) off lim) else None
+chunk_log name off lim l =
+    if is_there name l then Some (slice (joined (l.blocks name)) off lim) else None
 
 -- what a book answers for the log of command k under a name: none where it is not there
 abbrev pub placed_in : List Logs → ℕ → Name → Option (List Placed)

@@ -39,7 +39,8 @@ logs_in cs = map logs_kept cs
 abbrev pub with_block : Name → List Line → List Named → List Named
 with_block name block [] = record { name = name; blocks = block ∷ [] } ∷ []
 with_block name block (l ∷ ls) =
-    if bytes_eq l.name name then record { name = l.name; blocks = l.blocks ++ block ∷ [] } ∷ ls else l ∷ with_block name block ls
+    if bytes_eq l.name name then record { name = l.name; blocks = l.blocks ++ block ∷ [] } ∷ ls
+    else l ∷ with_block name block ls
 
 -- and with the blocks of parts, in order
 abbrev pub with_parts : List Part → List Named → List Named
@@ -50,7 +51,8 @@ abbrev pub without_block : Name → List Named → List Named
 without_block name [] = []
 without_block name (l ∷ ls) =
     if bytes_eq l.name name
-    then if nat_le (length l.blocks) 1 then ls else record { name = l.name; blocks = take (length l.blocks - 1) l.blocks } ∷ ls
+    then if nat_le (length l.blocks) 1 then ls
+    else record { name = l.name; blocks = take (length l.blocks - 1) l.blocks } ∷ ls
     else l ∷ without_block name ls
 
 -- each log has a block
@@ -64,7 +66,8 @@ nothing_kept = record { named = []; ended = None }
 
 -- with a parcel more, where the command is open
 abbrev pub kept_with_parcel : List Part → Kept → Kept
-kept_with_parcel parcel c = if is_none c.ended then record { named = with_parts parcel c.named; ended = None } else c
+kept_with_parcel parcel c =
+    if is_none c.ended then record { named = with_parts parcel c.named; ended = None } else c
 
 -- ended, where the command is open
 abbrev pub kept_with_end : Results → Kept → Kept

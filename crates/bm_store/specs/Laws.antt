@@ -17,7 +17,9 @@ BooksHaveTheLogs = (t : Trace) → was_taken t ≡ true → book (items t) ≡ l
 
 -- that of the first d items has those of the prefix that viewers see
 abbrev pub VisibleBooksHaveTheLogs : Type 0
-VisibleBooksHaveTheLogs = (t : Trace) (d : ℕ) → was_taken t ≡ true → d ≤ productive t → book (take d (items t)) ≡ logs (visible t d)
+VisibleBooksHaveTheLogs =
+    (t : Trace) (d : ℕ) → was_taken t ≡ true → d ≤ productive t
+    → book (take d (items t)) ≡ logs (visible t d)
 
 -- and answers each look as that prefix does
 abbrev pub BooksAnswerLooks : Type 0
@@ -27,4 +29,5 @@ BooksAnswerLooks =
 
 -- a book in memory means the logs that its items make
 abbrev pub KeptBooksMeanLogs : Type 0
-KeptBooksMeanLogs = (cs : List Kept) (i : Item) → logs_in (kept_after cs i) ≡ after_item (logs_in cs) i
+KeptBooksMeanLogs =
+    (cs : List Kept) (i : Item) → logs_in (kept_after cs i) ≡ after_item (logs_in cs) i

@@ -33,7 +33,8 @@ impl Model for Book {
 
 /// Adds a parcel to the logs of the command at a place, where there is one and it is open.
 fn add_at(commands: &mut [CommandLogs], place: u64, parcel: &Parcel) -> Result<(), AllocError>
-    ensures ok { OnOk result (commands.new ≡ change_at place (kept_with_parcel parcel.now) commands.old) }
+    ensures ok { OnOk result (commands.new
+        ≡ change_at place (kept_with_parcel parcel.now) commands.old) }
     ensures err { OnErr result (commands.new ≡ commands.old) }
 {
     let place = place as usize;
@@ -145,7 +146,9 @@ impl Book {
     /// The lines of a log from the place `offset` on, `limit` at most, as far as the log goes: a
     /// place at or behind its end gives none. `NoLog` where the log isn't there.
     pub fn slice(&self, k: u64, name: &str, offset: u64, limit: u64) -> Result<Chunk, ViewRefusal>
-        ensures { MatchOption (chunk_in (logs_in self.now) k name.now offset limit) (result ≡ Err ViewRefusal.NoLog) (λ lines. (result ≡ Ok (chunk_of offset lines)) ⊎ (result ≡ Err ViewRefusal.Mem)) }
+        ensures { MatchOption (chunk_in (logs_in self.now) k name.now offset limit) (result
+            ≡ Err ViewRefusal.NoLog) (λ lines. (result ≡ Ok (chunk_of offset lines))
+            ⊎ (result ≡ Err ViewRefusal.Mem)) }
     {
         let Some(blocks) = self.blocks(k, name) else {
             return Err(ViewRefusal::NoLog);

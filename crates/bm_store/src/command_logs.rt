@@ -34,7 +34,8 @@ impl Model for CommandLogs {
 
     ghost view = { λ k. record { named = k.named.items; ended = k.ended } };
 
-    ghost invariant = { λ k. (have_blocks k.named.items ≡ true) × HasPlacesIfAny k.places (names_kept k.named.items) };
+    ghost invariant = { λ k. (have_blocks k.named.items ≡ true)
+        × HasPlacesIfAny k.places (names_kept k.named.items) };
 }
 
 /// The place of the log with the name, if there is one.
@@ -74,7 +75,8 @@ fn known<'a>(places: &Option<NameTable>, logs: &'a [NamedLog], name: &str) -> Op
 
 /// Adds the block of a part under its name.
 fn add(logs: &mut Vec<NamedLog>, part: &Part) -> Result<(), AllocError>
-    ensures ok { OnOk result (logs.new.items ≡ with_block part.now.name part.now.block logs.old.items) }
+    ensures ok { OnOk result (logs.new.items
+        ≡ with_block part.now.name part.now.block logs.old.items) }
     ensures err { OnErr result (logs.new.items ≡ logs.old.items) }
 {
     let place = place_of(logs.as_slice(), &part.name);
@@ -84,7 +86,8 @@ fn add(logs: &mut Vec<NamedLog>, part: &Part) -> Result<(), AllocError>
 /// Adds the block of a part to the log at a place, or as a new log.
 fn add_at(logs: &mut Vec<NamedLog>, place: Option<usize>, part: &Part) -> Result<(), AllocError>
     requires { place ≡ position (λ l. bytes_eq l.name part.now.name) logs.old.items }
-    ensures ok { OnOk result (logs.new.items ≡ with_block part.now.name part.now.block logs.old.items) }
+    ensures ok { OnOk result (logs.new.items
+        ≡ with_block part.now.name part.now.block logs.old.items) }
     ensures err { OnErr result (logs.new.items ≡ logs.old.items) }
 {
     match place {
@@ -115,7 +118,8 @@ fn remove_last(logs: &mut Vec<NamedLog>, name: &LogName)
 
 /// Undoes the adding of parts, the last one first.
 fn take_back(logs: &mut Vec<NamedLog>, parts: &[Part])
-    ensures { (base : List Named) → have_blocks base ≡ true → logs.old.items ≡ with_parts parts.now base → logs.new.items ≡ base }
+    ensures { (base : List Named) → have_blocks base ≡ true
+        → logs.old.items ≡ with_parts parts.now base → logs.new.items ≡ base }
 {
     let mut left = parts.len();
     while left > 0 {
@@ -127,7 +131,8 @@ fn take_back(logs: &mut Vec<NamedLog>, parts: &[Part])
 /// Adds the blocks of all parts, or of none.
 fn add_all(logs: &mut Vec<NamedLog>, parts: &[Part]) -> Result<(), AllocError>
     ensures ok { OnOk result (logs.new.items ≡ with_parts parts.now logs.old.items) }
-    ensures err { OnErr result (have_blocks logs.old.items ≡ true → logs.new.items ≡ logs.old.items) }
+    ensures err { OnErr result (have_blocks logs.old.items ≡ true
+        → logs.new.items ≡ logs.old.items) }
 {
     for done in 0..parts.len() {
         if add(logs, &parts[done]).is_err() {
@@ -145,8 +150,10 @@ fn add_by_table(
     part: &Part,
 ) -> Result<NameTable, AllocError>
     requires { HasPlaces places (names_kept logs.old.items) }
-    ensures ok { OnOk result (logs.new.items ≡ with_block part.now.name part.now.block logs.old.items) }
-    ensures places { IfOk result (λ t. HasPlaces t (names_kept (with_block part.now.name part.now.block logs.old.items))) }
+    ensures ok { OnOk result (logs.new.items
+        ≡ with_block part.now.name part.now.block logs.old.items) }
+    ensures places { IfOk result
+        (λ t. HasPlaces t (names_kept (with_block part.now.name part.now.block logs.old.items))) }
     ensures err { OnErr result (logs.new.items ≡ logs.old.items) }
 {
     let place = places.place(part.name.as_str());
@@ -169,8 +176,10 @@ fn add_all_by_table(
 ) -> Result<NameTable, AllocError>
     requires { HasPlaces places (names_kept logs.old.items) }
     ensures ok { OnOk result (logs.new.items ≡ with_parts parts.now logs.old.items) }
-    ensures places { IfOk result (λ t. HasPlaces t (names_kept (with_parts parts.now logs.old.items))) }
-    ensures err { OnErr result (have_blocks logs.old.items ≡ true → logs.new.items ≡ logs.old.items) }
+    ensures places { IfOk result
+        (λ t. HasPlaces t (names_kept (with_parts parts.now logs.old.items))) }
+    ensures err { OnErr result (have_blocks logs.old.items ≡ true
+        → logs.new.items ≡ logs.old.items) }
 {
     let mut places = places;
     for i in 0..parts.len() {
@@ -209,7 +218,8 @@ impl CommandLogs {
         }
     }
 
-    /// The blocks of a log with their places: `stdio` is always there, another from its first block.
+    /// The blocks of a log with their places: `stdio` is always there, another from its first
+    /// block.
     pub fn blocks(&self, name: &str) -> Option<&[Placed]>
         ensures { option_copied result ≡ placed_log name.now (logs_kept self.now) }
     {
@@ -222,7 +232,9 @@ impl CommandLogs {
 
     /// How many lines a log has, where it is there.
     fn count(&self, name: &str) -> Option<u64>
-        ensures { result ≡ (if is_there name.now (logs_kept self.now) then Some (length (joined (blocks_of self.now.named name.now))) else None) }
+        ensures { result
+            ≡ (if is_there name.now (logs_kept self.now)
+            then Some (length (joined (blocks_of self.now.named name.now))) else None) }
     {
         match known(&self.places, self.named.as_slice(), name) {
             Some(log) => Some(log.lines()),

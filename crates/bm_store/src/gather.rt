@@ -17,7 +17,8 @@ use std::alloc::{AllocError, Global};
 fn seek(blocks: &[Placed], offset: u64) -> (usize, u64)
     requires { blocks.now ≡ placed (map block_at blocks.now) }
     ensures inside { result.0 ≤ length blocks.now }
-    ensures rest { drop offset (joined (map block_at blocks.now)) ≡ drop result.1 (joined (map block_at (drop result.0 blocks.now))) }
+    ensures rest { drop offset (joined (map block_at blocks.now))
+        ≡ drop result.1 (joined (map block_at (drop result.0 blocks.now))) }
     ensures last { (p : Placed) → slice_get blocks.now (result.0 + 1) ≡ Some p → offset < p.first }
 {
     let mut low = 0;
@@ -49,8 +50,11 @@ fn window(lines: &[Line], skip: u64, limit: u64) -> &[Line]
 /// Appends the content of the lines of all blocks behind the first `skip`, of `limit` lines at
 /// most, and counts them.
 fn gather(out: &mut String, blocks: &[Placed], skip: u64, limit: u64) -> Result<u64, AllocError>
-    ensures content { IfOk result (λ n. string_bytes out.new ≡ string_bytes out.old ++ content_of (slice (joined (map block_at blocks.now)) skip limit)) }
-    ensures count { IfOk result (λ n. n ≡ length (slice (joined (map block_at blocks.now)) skip limit)) }
+    ensures content { IfOk result (λ n. string_bytes out.new
+        ≡ string_bytes out.old
+        ++ content_of (slice (joined (map block_at blocks.now)) skip limit)) }
+    ensures count { IfOk result (λ n. n
+        ≡ length (slice (joined (map block_at blocks.now)) skip limit)) }
 {
     let mut skip = skip;
     let mut left = limit;
@@ -70,7 +74,8 @@ fn gather(out: &mut String, blocks: &[Placed], skip: u64, limit: u64) -> Result<
 /// The asked lines of a log whose blocks stand at their places.
 pub fn chunk(alloc: Global, blocks: &[Placed], offset: u64, limit: u64) -> Result<Chunk, AllocError>
     requires { blocks.now ≡ placed (map block_at blocks.now) }
-    ensures { IfOk result (λ c. c ≡ chunk_of offset (slice (joined (map block_at blocks.now)) offset limit)) }
+    ensures { IfOk result (λ c. c
+        ≡ chunk_of offset (slice (joined (map block_at blocks.now)) offset limit)) }
 {
     let (start, skip) = seek(blocks, offset);
     let mut content = String::new(alloc);

@@ -68,7 +68,8 @@ impl NamedLog {
 
     /// Adds a block at the end. Memory is wanting, too, for a log of 2^64 lines.
     pub fn push(&mut self, block: Block) -> Result<(), AllocError>
-        ensures ok { OnOk result (self.new ≡ record self.old { blocks = self.old.blocks ++ block ∷ [] }) }
+        ensures ok { OnOk result (self.new
+            ≡ record self.old { blocks = self.old.blocks ++ block ∷ [] }) }
         ensures err { OnErr result (self.new ≡ self.old) }
     {
         let first = self.lines;
@@ -83,7 +84,8 @@ impl NamedLog {
 
     /// Takes the last block away.
     pub fn pop(&mut self)
-        ensures { self.new ≡ record self.old { blocks = take (length self.old.blocks - 1) self.old.blocks } }
+        ensures { self.new
+            ≡ record self.old { blocks = take (length self.old.blocks - 1) self.old.blocks } }
     {
         if let Some(last) = self.blocks.pop() {
             self.lines = last.first;

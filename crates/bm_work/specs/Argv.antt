@@ -13,12 +13,14 @@ abbrev pub strs_of : Trees → Option (List (List ℕ))
 strs_of none = Some []
 strs_of (item t ts) = option_and_then (λ s. option_map (λ more. s ∷ more) (strs_of ts)) (str_of t)
 
--- the words of a command: a shell runs a str, and an array of at least one str and of strs alone is run as it is
+-- the words of a command: a shell runs a str, and an array of at least one str and of strs alone is
+-- run as it is
 abbrev pub words_of : Option Tree → Option (List (List ℕ))
 words_of (Some (str s)) = Some (codes "sh" ∷ codes "-c" ∷ s ∷ [])
 words_of (Some (array (item t ts))) = strs_of (item t ts)
 words_of _ = None
 
--- the words that the key `command` of the arguments has, where the arguments are a map with such a command
+-- the words that the key `command` of the arguments has, where the arguments are a map with such a
+-- command
 abbrev pub argv_of : Tree → Option (List (List ℕ))
 argv_of args = words_of (field args (codes "command"))

@@ -1,4 +1,5 @@
--- A worker's side of a session: what it answers, what it reported, and what it still awaits an answer to.
+-- A worker's side of a session: what it answers, what it reported, and what it still awaits an
+-- answer to.
 use Rattle.std.specs.Prelude.{◌≡◌, ℕ, ◌+◌, ◌<◌, ◌≤◌, ◌==◌, ◌^◌, Bool, not, ◌&&◌, nat_le, List, [], ◌∷◌, ◌++◌, length, map, filter, All, codes, bytes_eq, Option, Some, None, is_none, if◌then◌else◌}
 use Rattle.std.specs.List.{list_any}
 use Rattle.std.specs.Ordering.{nat_cmp}
@@ -16,8 +17,8 @@ use Rattle.bm_work.specs.declared.act.WorkAct.TheVariants.{Run, Interrupt, Print
 use Rattle.bm_work.specs.declared.act.WorkRefusal.{WorkRefusal}
 use Rattle.bm_work.specs.declared.act.WorkRefusal.TheVariants.{NoSuchCommand, Window}
 
--- the commands that run, what was reported in this session, the numbers of its requests that were answered,
--- and the numbers of the master's requests of this session, each with its first answer
+-- the commands that run, what was reported in this session, the numbers of its requests that were
+-- answered, and the numbers of the master's requests of this session, each with its first answer
 pub record Core : Type 0 where
   pub running : List ℕ
   pub reports : List Report
@@ -130,7 +131,8 @@ bad_request c n = heard_bad c n (get c.answers n)
 abbrev pub awaits : Core → ℕ → Bool
 awaits c n = list_any (λ (s : Sent). s.seq == n) (unanswered_requests c)
 
--- after a response to request n: an answer counts only where it is awaited, so that none frees a later request
+-- after a response to request n: an answer counts only where it is awaited, so that none frees a
+-- later request
 abbrev pub freed : Core → ℕ → Core
 freed c n =
     record {
@@ -191,8 +193,9 @@ abbrev pub Rise : ℕ → List ℕ → ℕ → Type 0
 Rise low [] high = low ≤ high
 Rise low (n ∷ ns) high = (low ≤ n) × Rise (n + 1) ns high
 
--- What holds of a worker at any time: at most four commands run, the unanswered requests fit into the
--- window, oldest first, no number is above those below 2^63, and only requests that were sent are answered.
+-- What holds of a worker at any time: at most four commands run, the unanswered requests fit into
+-- the window, oldest first, no number is above those below 2^63, and only requests that were sent
+-- are answered.
 pub record IsCore (c : Core) : Type 0 where
   pub few : length c.running ≤ 4
   pub within : length (unanswered_requests c) ≤ window
@@ -200,7 +203,8 @@ pub record IsCore (c : Core) : Type 0 where
   pub numbered : next_number c ≤ 2 ^ 63
   pub sent_before : All (λ n. n < next_number c) c.answered
 
--- What a worker keeps beside its core: the number of its next request, and its requests without an answer.
+-- What a worker keeps beside its core: the number of its next request, and its requests without an
+-- answer.
 pub record IsKept (c : Core) (next : ℕ) (unanswered : List Sent) : Type 0 where
   pub core : IsCore c
   pub number : next ≡ next_number c

@@ -10,7 +10,8 @@ use Rattle.bm_msg.specs.Meaning.{Asked, update, complete, request}
 use Rattle.bm_msg.specs.Trees.{tree_of}
 use Rattle.bm_work.specs.declared.sent.Sent.{Sent}
 
--- what a worker reports of a command: a text of it, its exit code, or its end, where it went wrong with a fault
+-- what a worker reports of a command: a text of it, its exit code, or its end, where it went wrong
+-- with a fault
 pub data Report : Type 0 where
   text : (command : ℕ) (letter : Letter) (text : List ℕ) → Report
   code : (command : ℕ) (code : ℤ) → Report

@@ -12,7 +12,8 @@ use std::marker::Model;
 /// The most bytes of a line that go into one text.
 const LONGEST: usize = 16_384;
 
-/// Joins what a pipe gives, piece by piece, to texts: each ends with its line, or after 16,384 bytes of it.
+/// Joins what a pipe gives, piece by piece, to texts: each ends with its line, or after 16,384
+/// bytes of it.
 #[derive(Drop)]
 pub struct Assembler {
     letter: Letter,
@@ -47,8 +48,8 @@ impl Assembler {
         self.letter
     }
 
-    /// The texts that end in the kept bytes followed by the piece; what follows the last of them is kept.
-    /// Bytes that are not UTF-8 are shown as U+FFFD. Want of memory changes nothing.
+    /// The texts that end in the kept bytes followed by the piece; what follows the last of them is
+    /// kept. Bytes that are not UTF-8 are shown as U+FFFD. Want of memory changes nothing.
     pub fn feed(&mut self, piece: &[u8]) -> Result<Vec<Text>, AllocError>
         ensures texts { IfOk result (λ texts. texts.items
             ≡ shown (texts_of (self.old.kept ++ piece.now))) }
@@ -69,8 +70,8 @@ impl Assembler {
         Ok(texts)
     }
 
-    /// The kept bytes as the last text, or None where none are kept. None are kept afterwards. Want of
-    /// memory changes nothing.
+    /// The kept bytes as the last text, or None where none are kept. None are kept afterwards. Want
+    /// of memory changes nothing.
     pub fn rest(&mut self) -> Result<Option<Text>, AllocError>
         ensures text { IfOk result (λ text. text ≡ last_text self.old.kept) }
         ensures kept { OnOk result (self.new ≡ record self.old { kept = [] }) }

@@ -1,4 +1,5 @@
-//! What a worker reported. It exists in the proofs alone: it takes no memory, and its calls do nothing.
+//! What a worker reported. It exists in the proofs alone: it takes no memory, and its calls do
+//! nothing.
 
 ghost use Rattle.std.specs.Prelude.{◌≡◌, ℕ, List, [], ◌++◌};
 ghost use Rattle.std.specs.Borrow.{ftrue};

@@ -97,7 +97,8 @@ fn update(alloc: Global, seq: u64, command: u64, field: Field) -> Result<Sent, A
     numbered(alloc, seq, Request::Update { command, fields })
 }
 
-/// The requests that tell how the command ended: the exit code and a complete, or a complete with a fault.
+/// The requests that tell how the command ended: the exit code and a complete, or a complete with a
+/// fault.
 #[tactic(auto, using(crate::proofs::Sizes::sizes))]
 pub(crate) fn ending(
     alloc: Global,

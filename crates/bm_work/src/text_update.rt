@@ -26,7 +26,8 @@ fn name_of(letter: Letter) -> &'static str
     }
 }
 
-/// Appends the keys before the items, and their values. After want of memory a part may stand there.
+/// Appends the keys before the items, and their values. After want of memory a part may stand
+/// there.
 fn put_front(out: &mut Vec<u8>, seq: u64, command: &str) -> Result<(), AllocError>
     requires { length command.now < 2 ^ 32 }
     ensures { OnOk result (out.new.items ≡ out.old.items ++ map_head 4

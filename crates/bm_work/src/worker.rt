@@ -24,8 +24,8 @@ use std::marker::Model;
 /// The most requests without an answer.
 const WINDOW: usize = 64;
 
-/// A worker's side of a session: the commands that run, the requests that have no answer yet, and the
-/// requests that were heard. What it reported in the session, it keeps in the proofs alone.
+/// A worker's side of a session: the commands that run, the requests that have no answer yet, and
+/// the requests that were heard. What it reported in the session, it keeps in the proofs alone.
 #[derive(Drop)]
 pub struct Worker {
     running: Vec<u64>,
@@ -82,9 +82,9 @@ impl Worker {
         *self = Worker::new(alloc);
     }
 
-    /// What a message asks the worker to do, and the bytes of the response to a request. A repeat, whatever
-    /// it carries, has the first one's response and asks nothing. A response has none: it frees the place of
-    /// its request.
+    /// What a message asks the worker to do, and the bytes of the response to a request. A repeat,
+    /// whatever it carries, has the first one's response and asks nothing. A response has none: it
+    /// frees the place of its request.
     ///
     /// # Errors
     ///
@@ -109,7 +109,8 @@ impl Worker {
         }
     }
 
-    /// What a request with that number asks whose keys are missing or of another kind: nothing, and its response.
+    /// What a request with that number asks whose keys are missing or of another kind: nothing, and
+    /// its response.
     ///
     /// # Errors
     ///
@@ -136,8 +137,9 @@ impl Worker {
     ///
     /// # Errors
     ///
-    /// `NoSuchCommand` exactly where the command doesn't run, else `Window` exactly where 64 requests have
-    /// no answer or the numbers below 2^63 are used up, else `Mem`. They change nothing.
+    /// `NoSuchCommand` exactly where the command doesn't run, else `Window` exactly where 64
+    /// requests have no answer or the numbers below 2^63 are used up, else `Mem`. They change
+    /// nothing.
     pub fn say(&mut self, command: u64, letter: Letter, text: &str) -> Result<Sent, WorkRefusal>
         requires { length text.now ≤ 65536 }
         ensures sent { IfOk result (λ s. s
@@ -160,13 +162,14 @@ impl Worker {
         Ok(sent)
     }
 
-    /// The requests that tell how the command ended: an update with the exit code and a complete, or a
-    /// complete with the fault. They are kept until their answers are heard, and the command runs no more.
+    /// The requests that tell how the command ended: an update with the exit code and a complete,
+    /// or a complete with the fault. They are kept until their answers are heard, and the command
+    /// runs no more.
     ///
     /// # Errors
     ///
-    /// `NoSuchCommand` exactly where the command doesn't run, else `Window` exactly where the window or the
-    /// numbers below 2^63 lack the places, else `Mem`. They change nothing.
+    /// `NoSuchCommand` exactly where the command doesn't run, else `Window` exactly where the
+    /// window or the numbers below 2^63 lack the places, else `Mem`. They change nothing.
     pub fn finish(&mut self, command: u64, finish: Finish) -> Result<Vec<Sent>, WorkRefusal>
         requires { length (fault_of finish) ≤ 65536 }
         ensures sent { IfOk result (λ v. v.items
@@ -196,7 +199,8 @@ impl Worker {
         Ok(requests)
     }
 
-    /// Exactly the requests of the stream that have no answer, oldest first, with the bytes that were sent.
+    /// Exactly the requests of the stream that have no answer, oldest first, with the bytes that
+    /// were sent.
     pub fn resend(&self) -> Result<Vec<Sent>, AllocError>
         ensures unanswered { IfOk result (λ v. v.items
             ≡ without_answer self.now.answered (stream self.now.reports)) }

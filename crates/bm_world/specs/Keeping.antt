@@ -5,7 +5,8 @@ use Rattle.bm_session.specs.declared.item.Item.{Item}
 use Rattle.bm_store.specs.Book.{book}
 use Rattle.bm_store.specs.Kept.{Kept, logs_in}
 
--- the queue has the items of the trace that viewers do not see yet, and the book is that of the others
+-- the queue has the items of the trace that viewers do not see yet, and the book is that of the
+-- others
 pub record IsKept (t : Trace) (queue : List Item) (kept : List Kept) : Type 0 where
   pub taken : was_taken t ≡ true
   pub few : length queue ≤ productive t

@@ -16,7 +16,8 @@ VisibleLogsGrow =
 
 -- once all is drained they see all of it
 abbrev pub DrainedLogsAreWhole : Type 0
-DrainedLogsAreWhole = (t : Trace) (k : ℕ) (name : Name) → log (visible t (productive t)) k name ≡ log t k name
+DrainedLogsAreWhole =
+    (t : Trace) (k : ℕ) (name : Name) → log (visible t (productive t)) k name ≡ log t k name
 
 -- a lane some steps later, and a log under a name
 pub record IsLater (v w : World) (k : ℕ) (name : Name) : Type 0 where
@@ -24,10 +25,12 @@ pub record IsLater (v w : World) (k : ℕ) (name : Name) : Type 0 where
   pub shown : v.shown ≤ w.shown
   pub few : w.shown ≤ productive w.trace
   pub seen : IsPrefix (log (visible v.trace v.shown) k name) (log (visible w.trace w.shown) k name)
-  pub has_log : has_log (visible v.trace v.shown) k name ≡ true → has_log (visible w.trace w.shown) k name ≡ true
+  pub has_log : has_log (visible v.trace v.shown) k name ≡ true
+      → has_log (visible w.trace w.shown) k name ≡ true
   pub true_log : IsPrefix (log (visible w.trace w.shown) k name) (log w.trace k name)
 
--- whatever steps follow, a log that viewers see stays there and goes on, and is a prefix of the true one
+-- whatever steps follow, a log that viewers see stays there and goes on, and is a prefix of the
+-- true one
 abbrev pub LooksNeverShrink : Type 0
 LooksNeverShrink =
     (c : ℕ) (first more : List Step) (k : ℕ) (name : Name)

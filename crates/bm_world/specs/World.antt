@@ -1,4 +1,5 @@
--- A lane over interleavings: its trace, and how much of it viewers see. The trace is cut here; the code never cuts it.
+-- A lane over interleavings: its trace, and how much of it viewers see. The trace is cut here; the
+-- code never cuts it.
 use Rattle.std.specs.Prelude.{◌≡◌, ℕ, ◌+◌, ◌<◌, nat_lt, nat_le, fold, Bool, true, ◌&&◌, if◌then◌else◌, List, [], ◌∷◌, ◌++◌, Option, Some, None, is_some}
 use Rattle.bm_lines.specs.Names.{Name}
 use Rattle.bm_lines.specs.declared.line.Line.{Line}
@@ -32,7 +33,10 @@ heard w e (Some r) = (Refused r, w)
 heard w e None =
     if is_busy w e
     then (Busy, w)
-    else (Heard (reply w.trace e), record { capacity = w.capacity; trace = w.trace ++ e ∷ []; shown = w.shown })
+    else (
+      Heard (reply w.trace e),
+      record { capacity = w.capacity; trace = w.trace ++ e ∷ []; shown = w.shown },
+    )
 
 abbrev pub drained : World → Stepped
 drained w =
@@ -54,7 +58,8 @@ stepped w (Hear e) = heard w e (refusal w.trace e)
 stepped w Drain = drained w
 stepped w (Look k name off lim) = (seen w k name off lim, w)
 
--- a step may take memory: an event that is accepted, a drain that finds an item, a look at a log that is there
+-- a step may take memory: an event that is accepted, a drain that finds an item, a look at a log
+-- that is there
 abbrev pub TakesMemory : World → Step → Type 0
 TakesMemory w (Hear e) = refusal w.trace e ≡ None
 TakesMemory w Drain = w.shown < productive w.trace

@@ -6,6 +6,7 @@ use Rattle.hex.specs.Hex.{decode_of}
 abbrev pub without_spaces : List ℕ → List ℕ
 without_spaces text = filter (λ b. not (b == 32)) text
 
--- without its spaces the text is two hex digits of either case for each of the bytes, and nothing else
+-- without its spaces the text is two hex digits of either case for each of the bytes, and nothing
+-- else
 abbrev pub Write : List ℕ → List ℕ → Type 0
 Write text bytes = decode_of (without_spaces text) ≡ Ok bytes

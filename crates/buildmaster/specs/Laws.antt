@@ -10,14 +10,16 @@ use Rattle.bm_work.specs.Stream.{Report, sent, said}
 use Rattle.buildmaster.specs.Resumed.{Happening, is_resumed_schedule, linked_after, at_first, acts_of, unanswered}
 use Rattle.buildmaster.specs.Schedule.{Act, reported, scene_after, opening, is_schedule, is_over, was_started, requests_taken, Deliver, is_allowed, command_of}
 
--- in every schedule, for every capacity, the log of a command is a prefix of what the worker said for it
+-- in every schedule, for every capacity, the log of a command is a prefix of what the worker said
+-- for it
 abbrev pub SaidIsLogged : Type 0
 SaidIsLogged =
     (c : ℕ) (acts : List Act) (k : ℕ)
     → is_schedule c acts ≡ true
     → IsPrefix (log (scene_after (opening c) acts).lane.trace k stdio) (said (reported acts) k)
 
--- where every request of the session in which it was started was taken, it is all of it, whatever follows that session
+-- where every request of the session in which it was started was taken, it is all of it, whatever
+-- follows that session
 abbrev pub AllSaidIsLogged : Type 0
 AllSaidIsLogged =
     (c : ℕ) (acts more : List Act) (k : ℕ)
@@ -46,7 +48,8 @@ NumbersAreSmall =
     → slice_get (scene_after (opening c) acts).worker.reports n ≡ Some r
     → (n < 2 ^ 63) × (command_of r < 2 ^ 63)
 
--- over connections that are cut and resumed too, the log of a command is a prefix of what the worker said for it
+-- over connections that are cut and resumed too, the log of a command is a prefix of what the
+-- worker said for it
 abbrev pub ResumedIsLogged : Type 0
 ResumedIsLogged =
     (c : ℕ) (ps : List Happening) (k : ℕ)
@@ -54,7 +57,8 @@ ResumedIsLogged =
     → IsPrefix (log (linked_after (at_first c) ps).scene.lane.trace k stdio)
     (said (reported (acts_of ps)) k)
 
--- where the worker has no request unanswered, no session was given up and the lane is drained, viewers see all of it
+-- where the worker has no request unanswered, no session was given up and the lane is drained,
+-- viewers see all of it
 abbrev pub AllResumedIsLogged : Type 0
 AllResumedIsLogged =
     (c : ℕ) (ps : List Happening) (k : ℕ)
@@ -63,14 +67,16 @@ AllResumedIsLogged =
     → list_any is_down_event (linked_after (at_first c) ps).scene.lane.trace ≡ false
     → (linked_after (at_first c) ps).scene.lane.shown
     ≡ productive (linked_after (at_first c) ps).scene.lane.trace
-    → log (visible (linked_after (at_first c) ps).scene.lane.trace (linked_after (at_first c) ps).scene.lane.shown) k stdio
+    → log (visible (linked_after (at_first c) ps).scene.lane.trace
+    (linked_after (at_first c) ps).scene.lane.shown) k stdio
     ≡ said (reported (acts_of ps)) k
 
 -- a request of one of these reports, with the number of its place
 abbrev pub IsSentOf : List Report → Sent → Type 0
 IsSentOf reports s = (r : Report) × (slice_get reports s.seq ≡ Some r) × (s ≡ sent s.seq r)
 
--- what is sent over a connection, first or again, are the worker's requests, each with its number and its bytes
+-- what is sent over a connection, first or again, are the worker's requests, each with its number
+-- and its bytes
 abbrev pub SentAreRequests : Type 0
 SentAreRequests =
     (c : ℕ) (ps : List Happening)
@@ -78,7 +84,8 @@ SentAreRequests =
     → AllByRecursion (IsSentOf (linked_after (at_first c) ps).scene.worker.reports)
     (linked_after (at_first c) ps).link.sent
 
--- its acts are a schedule, and what is reached is what that schedule reaches: so all that holds of schedules holds here
+-- its acts are a schedule, and what is reached is what that schedule reaches: so all that holds of
+-- schedules holds here
 abbrev pub ResumedIsSchedule : Type 0
 ResumedIsSchedule =
     (c : ℕ) (ps : List Happening)

@@ -1,5 +1,5 @@
--- What a reader of this crate has to believe: all of these files. The lemmas of proofs/ only help their proofs.
--- what a worker and its lane do, connection after connection
+-- What a reader of this crate has to believe: all of these files. The lemmas of proofs/ only help
+-- their proofs. what a worker and its lane do, connection after connection
 pub mod Schedule
 -- the same over connections that are cut and resumed
 pub mod Resumed

@@ -1,8 +1,10 @@
--- Resumed schedules: schedules over connections that are cut and resumed, with what is in flight on them.
+-- Resumed schedules: schedules over connections that are cut and resumed, with what is in flight on
+-- them.
 --
--- Two things they take for granted of the world. The worker's core is never restarted inside a session: each connection that
--- resumes meets the core that the last one had. And the worker hears of a giving up: no cut drops the answer `new` to the `auth`
--- that follows one, so its core is new from that Up on. What an old core says until it hears `new` counts as said before that Up.
+-- Two things they take for granted of the world. The worker's core is never restarted inside a
+-- session: each connection that resumes meets the core that the last one had. And the worker hears
+-- of a giving up: no cut drops the answer `new` to the `auth` that follows one, so its core is new
+-- from that Up on. What an old core says until it hears `new` counts as said before that Up.
 use Rattle.std.specs.Prelude.{ℕ, ◌+◌, Bool, true, false, ◌==◌, not, ◌&&◌, nat_lt, List, [], ◌∷◌, ◌++◌, length, take, Option, Some, None, if◌then◌else◌, option_map, unwrap_or, slice_get, fold, filter_map}
 use Rattle.std.specs.List.{list_any}
 use Rattle.bm_session.specs.declared.event.Event.TheVariants.{Up}
@@ -12,8 +14,8 @@ use Rattle.bm_work.specs.Stream.{stream, stream_from, without_answer}
 use Rattle.bm_world.specs.declared.step.Step.TheVariants.{Hear}
 use Rattle.buildmaster.specs.Schedule.{Act, Say, Finish, Deliver, Make, reported_by, Scene, opening, is_allowed, after}
 
--- the requests that the worker sent over this connection, in order, how many of them the lane took, and the numbers of the
--- requests of the session whose answers reached the worker
+-- the requests that the worker sent over this connection, in order, how many of them the lane took,
+-- and the numbers of the requests of the session whose answers reached the worker
 pub record Link : Type 0 where
   pub sent : List Sent
   pub arrived : ℕ
@@ -40,14 +42,16 @@ unanswered x = without_answer x.link.answered (stream x.scene.worker.reports)
 
 -- the next request of those that were sent over this connection has the number n
 abbrev pub is_next : Link → ℕ → Bool
-is_next link n = unwrap_or (option_map (λ (s : Sent). s.seq == n) (slice_get link.sent link.arrived)) false
+is_next link n =
+    unwrap_or (option_map (λ (s : Sent). s.seq == n) (slice_get link.sent link.arrived)) false
 
 abbrev pub is_possible : Linked → Happening → Bool
 -- a connection keeps the order
 is_possible x (Do (Deliver n)) = is_next x.link n
 is_possible x (Do a) = is_allowed x.scene a
--- only what the lane took over this connection is answered over it. A cut may lose answers: one that lies in the worker's
--- socket already is learned after the cut too, and none once another connection began
+-- only what the lane took over this connection is answered over it. A cut may lose answers: one
+-- that lies in the worker's socket already is learned after the cut too, and none once another
+-- connection began
 is_possible x (Learn n) = list_any (λ (s : Sent). s.seq == n) (take x.link.arrived x.link.sent)
 
 -- What follows
@@ -57,7 +61,8 @@ abbrev pub is_taken : Scene → Act → Bool
 is_taken s a = nat_lt (length s.lane.trace) (length (after s a).lane.trace)
 
 abbrev pub with_sent : List Sent → Link → Link
-with_sent requests link = record { sent = link.sent ++ requests; arrived = link.arrived; answered = link.answered }
+with_sent requests link =
+    record { sent = link.sent ++ requests; arrived = link.arrived; answered = link.answered }
 
 -- the requests of this act, with the next numbers
 abbrev pub requests_by : Scene → Act → List Sent
@@ -74,10 +79,12 @@ link_after x (Do (Deliver n)) =
 -- a connection that resumes begins with the unanswered requests; one of a new session with nothing
 link_after x (Do (Make (Hear Up))) =
     if not (is_taken x.scene (Make (Hear Up))) then x.link
-    else if is_cut x.scene.lane.trace then record { sent = unanswered x; arrived = 0; answered = x.link.answered }
+    else if is_cut x.scene.lane.trace
+    then record { sent = unanswered x; arrived = 0; answered = x.link.answered }
     else new_link
 link_after x (Do a) = x.link
-link_after x (Learn n) = record { sent = x.link.sent; arrived = x.link.arrived; answered = x.link.answered ++ n ∷ [] }
+link_after x (Learn n) =
+    record { sent = x.link.sent; arrived = x.link.arrived; answered = x.link.answered ++ n ∷ [] }
 
 abbrev pub scene_then : Scene → Happening → Scene
 scene_then s (Do a) = after s a

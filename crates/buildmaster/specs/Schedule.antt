@@ -1,4 +1,5 @@
--- Schedules: the connections of a worker, one after the other, as a list of what the worker does and its lane meets.
+-- Schedules: the connections of a worker, one after the other, as a list of what the worker does
+-- and its lane meets.
 use Rattle.std.specs.Prelude.{ℕ, Bool, true, false, ◌==◌, not, ◌&&◌, nat_lt, nat_le, List, [], ◌∷◌, ◌++◌, length, Option, Some, None, if◌then◌else◌, flat_map, count_by, option_map, is_none, slice_get, fold}
 use Rattle.std.specs.List.{list_any}
 use Rattle.bm_lines.specs.declared.line.Letter.{Letter}
@@ -17,7 +18,8 @@ use Rattle.bm_world.specs.World.{World, stepped, start}
 
 -- The worker
 
--- the commands that the worker ran in this session, and what it reported of them: its requests are the stream of the reports
+-- the commands that the worker ran in this session, and what it reported of them: its requests are
+-- the stream of the reports
 pub record Worker : Type 0 where
   pub ran : List ℕ
   pub reports : List Report
@@ -110,11 +112,13 @@ is_own_step _ = true
 
 abbrev pub is_allowed : Scene → Act → Bool
 -- once, in the session in which its start was taken, and where the worker didn't refuse it
-is_allowed s (Run k) = was_started s.lane.trace k && not (was_refused s.lane.trace k) && not (has_run s.worker k)
+is_allowed s (Run k) =
+    was_started s.lane.trace k && not (was_refused s.lane.trace k) && not (has_run s.worker k)
 is_allowed s (Say k letter t) = is_running s.worker k
 is_allowed s (Finish k ending) = is_running s.worker k
 -- the next request that wasn't taken yet, or one that was: none is passed over
-is_allowed s (Deliver n) = nat_lt n (length s.worker.reports) && nat_le n (requests_taken s.lane.trace)
+is_allowed s (Deliver n) =
+    nat_lt n (length s.worker.reports) && nat_le n (requests_taken s.lane.trace)
 -- no refusal of the start of a command that the worker ran
 is_allowed s (Respond n true) = not (list_any (λ k. was_order s.lane.trace k n) s.worker.ran)
 is_allowed s (Respond n false) = true
@@ -138,8 +142,9 @@ lane_after w (Some step) = (stepped w step).1
 abbrev pub is_new_session : Trace → Bool
 is_new_session t = is_none (refusal t Up) && not (is_cut t)
 
--- a new session begins with a worker that is new, or lost the old one: its core is never restarted inside a session, it hears that
--- the session is new, and what an old core says until it hears so counts as said before this Up
+-- a new session begins with a worker that is new, or lost the old one: its core is never restarted
+-- inside a session, it hears that the session is new, and what an old core says until it hears so
+-- counts as said before this Up
 abbrev pub worker_after : Scene → Act → Worker
 worker_after s (Run k) = with_run k s.worker
 worker_after s (Say k letter t) = with_reports (reported_by (Say k letter t)) s.worker

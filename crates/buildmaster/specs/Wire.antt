@@ -15,8 +15,8 @@ use Rattle.bm_value.specs.declared.fault.DecodeError.TheVariants.{Mem as NoMemor
 use Rattle.bm_msg.specs.declared.fault.MsgError.TheVariants.{Mem}
 use Rattle.buildmaster.specs.Schedule.{as_heard}
 
--- what a worker can say: of a command with a number below 2^63, as every start that is read has it, a text or a fault in UTF-8 of
--- at most 65,536 bytes, or an exit code that MessagePack has
+-- what a worker can say: of a command with a number below 2^63, as every start that is read has it,
+-- a text or a fault in UTF-8 of at most 65,536 bytes, or an exit code that MessagePack has
 abbrev pub CanBeSaid : Report → Type 0
 CanBeSaid (text k letter t) = (k < 2 ^ 63) × IsUtf8 t × (length t ≤ 65536)
 CanBeSaid (code k z) = (k < 2 ^ 63) × IsNum z
@@ -32,9 +32,12 @@ pub record AreRead (bytes : List ℕ) (m : Meaning) : Type 0 where
 
 -- the bytes of request n can be decoded and read, as that request
 abbrev pub BytesAreRead : Type 0
-BytesAreRead = (n : ℕ) (r : Report) → n < 2 ^ 63 → CanBeSaid r → AreRead (sent n r).bytes (request n (asked_by r))
+BytesAreRead =
+    (n : ℕ) (r : Report) → n < 2 ^ 63 → CanBeSaid r
+    → AreRead (sent n r).bytes (request n (asked_by r))
 
--- whatever tree they spell, and whatever message it is, its event is the one that a schedule delivers as request n
+-- whatever tree they spell, and whatever message it is, its event is the one that a schedule
+-- delivers as request n
 abbrev pub BytesAreTheEvent : Type 0
 BytesAreTheEvent =
     (n : ℕ) (r : Report) (t : Tree) (m : Meaning)
@@ -52,7 +55,9 @@ IsHeard (Err (Spelling NoMemory)) event = Unit {0}
 IsHeard (Err (Telling Mem)) event = Unit {0}
 IsHeard (Err other) event = ⊥
 
--- where the bytes are those of a request that a worker can say, the call answers the event that a schedule delivers
+-- where the bytes are those of a request that a worker can say, the call answers the event that a
+-- schedule delivers
 unfoldable pub HearsRequests : List ℕ → Result Event Unread → Type 0
 HearsRequests bytes answered =
-    (n : ℕ) (r : Report) → n < 2 ^ 63 → CanBeSaid r → bytes ≡ (sent n r).bytes → IsHeard answered (as_heard n r)
+    (n : ℕ) (r : Report) → n < 2 ^ 63 → CanBeSaid r → bytes ≡ (sent n r).bytes
+    → IsHeard answered (as_heard n r)

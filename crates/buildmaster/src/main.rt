@@ -1,5 +1,5 @@
-//! The build master: serves the workers, builds and logs of a configuration, or replays the recorded
-//! events of a worker's lane.
+//! The build master: serves the workers, builds and logs of a configuration, or replays the
+//! recorded events of a worker's lane.
 #![tactic(auto)]
 
 mod answers;
@@ -49,7 +49,8 @@ fn words<R: Env + AllocGlobal>(rt: &R) -> Result<Vec<String>, AllocError> {
     }
 }
 
-/// Tells the usage, and answers the exit status of words that ask for nothing that the program does.
+/// Tells the usage, and answers the exit status of words that ask for nothing that the program
+/// does.
 fn tell_usage<F: Write + Drop>(faults: F) -> u8 {
     let mut faults = faults;
     // Where the usage can't be told, the status still says that the words are wrong.

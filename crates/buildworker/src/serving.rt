@@ -68,8 +68,8 @@ impl Work {
         unreachable!()
     }
 
-    /// Goes on with the session, or begins anew. It listens after each request that is sent again, so
-    /// that answers count although the connection should not last until the end of them.
+    /// Goes on with the session, or begins anew. It listens after each request that is sent again,
+    /// so that answers count although the connection should not last until the end of them.
     fn begin<S, K, R>(
         &mut self,
         rt: &R,

@@ -1,5 +1,5 @@
-//! A test aid: an allocator that refuses one request, so that a test can meet want of memory at each
-//! request in turn.
+//! A test aid: an allocator that refuses one request, so that a test can meet want of memory at
+//! each request in turn.
 //!
 //! A sweep calls with `at` 1, 2, .. until a run leaves the allocator unspent:
 //!
@@ -29,8 +29,8 @@ pub struct Refusing<B: Allocator> {
 }
 
 impl<B: Allocator> Refusing<B> {
-    /// An allocator over `inner` that refuses the request `at`. Which one that is can be in no clause:
-    /// it is a cell's content.
+    /// An allocator over `inner` that refuses the request `at`. Which one that is can be in no
+    /// clause: it is a cell's content.
     pub fn new(inner: B, at: u64) -> Refusing<B>
         ensures { result.inner ≡ inner }
     {

@@ -108,8 +108,8 @@ fn an_input_that_ends_at_once_ends_an_idle_master(rt: HostRuntime) -> Result<(),
     Ok(())
 }
 
-// Whether a build that runs is cancelled at its step, but for one that always runs, and one that waits
-// at once.
+// Whether a build that runs is cancelled at its step, but for one that always runs, and one that
+// waits at once.
 fn is_cancelled<R>(stage: Stage<R>) -> bool
 where
     R: Wait + Threads + Clock + RandomSource + AllocGlobal + Net<Stream = TcpStream> + Copy + Drop,
@@ -220,8 +220,8 @@ fn a_session_goes_on_after_a_cut(rt: HostRuntime) -> Result<(), Fail> {
     Ok(())
 }
 
-// Whether a session that isn't resumed in time is given up, with its command and its build; and a later
-// login begins another one.
+// Whether a session that isn't resumed in time is given up, with its command and its build; and a
+// later login begins another one.
 fn is_given_up<R>(stage: Stage<R>) -> bool
 where
     R: Wait + Threads + Clock + RandomSource + AllocGlobal + Net<Stream = TcpStream> + Copy + Drop,

@@ -20,8 +20,8 @@ const MISSING: &str = "worker = [{name=\"w0\",password=\"p\",latent=[\"/no/such/
 build = [{worker=\"w0\", step=[{name=\"s\",command=[\"true\"]}]}]
 ";
 
-/// A worker whose program waits, and a build of three steps: one that halts it, one that is skipped,
-/// and one that always runs.
+/// A worker whose program waits, and a build of three steps: one that halts it, one that is
+/// skipped, and one that always runs.
 const STEPS: &str = "worker = [{name=\"w0\",password=\"p\",latent=[\"sleep\",\"60\"],idle_ticks=5}]
 build = [{worker=\"w0\", step=[
   {name=\"s\",command=[\"sh\",\"-c\",\"echo a; echo b >&2; exit 3\"],haltOnFailure=true},
@@ -43,8 +43,8 @@ fn a_program_that_is_not_there_costs_the_build(rt: HostRuntime) -> Result<(), Fa
     Ok(())
 }
 
-// Whether the three steps come to a failure, the logs to what the worker said, and the worker is told
-// to shut down once it is idle.
+// Whether the three steps come to a failure, the logs to what the worker said, and the worker is
+// told to shut down once it is idle.
 fn is_stepped<R>(stage: Stage<R>) -> bool
 where
     R: Wait + Threads + Clock + RandomSource + AllocGlobal + Net<Stream = TcpStream> + Copy + Drop,

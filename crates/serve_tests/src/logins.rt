@@ -15,8 +15,8 @@ const ONE: &str = "worker = [{name=\"w0\",password=\"p\"}]
 build = [{worker=\"w0\", step=[{name=\"s\",command=[\"a\"]}]}]
 ";
 
-// Whether logins under a wrong name or password are refused, and a second login under a name, while the
-// first one goes on.
+// Whether logins under a wrong name or password are refused, and a second login under a name, while
+// the first one goes on.
 fn is_guarded<R>(stage: Stage<R>) -> bool
 where
     R: Wait + Threads + Clock + RandomSource + AllocGlobal + Net<Stream = TcpStream> + Copy + Drop,

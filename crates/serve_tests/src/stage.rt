@@ -172,8 +172,8 @@ where
         self.input.send(&self.rt, b'\n').is_ok()
     }
 
-    /// Ends the input. Whether these lines come then, and nothing more, and the master ends with this
-    /// status.
+    /// Ends the input. Whether these lines come then, and nothing more, and the master ends with
+    /// this status.
     pub fn ends(self, lines: &[&str], status: u8) -> bool {
         let Stage {
             rt,

@@ -34,8 +34,8 @@ fn answered<Y: Yard>(
     Ok(())
 }
 
-// The one viewer of these ends joins the others. The ends stay: viewers see nothing once their writer
-// is gone.
+// The one viewer of these ends joins the others. The ends stay: viewers see nothing once their
+// writer is gone.
 fn joins<Y: Yard, W: Wait + Drop>(
     viewers: &mut Vec<Viewer<Y>>,
     ends: &mut Option<Ends<Y, W>>,

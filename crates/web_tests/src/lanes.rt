@@ -50,7 +50,8 @@ fn shows<Y: Yard, W: Wait + Drop>(writer: &mut WriterEnd<Y, W>) -> bool {
     false
 }
 
-// Whether the lane shows an ended command with one line, and an open one with a text in a log of this name.
+// Whether the lane shows an ended command with one line, and an open one with a text in a log of
+// this name.
 fn plays<Y: Yard, W: Wait + Drop, R: Wait>(
     rt: &R,
     alloc: Global,
@@ -71,8 +72,8 @@ fn plays<Y: Yard, W: Wait + Drop, R: Wait>(
         && shows(&mut ends.writer)
 }
 
-/// The ends of a lane that showed two commands: the first has ended with the line `a`, the second is
-/// open, with a text in its log of this name.
+/// The ends of a lane that showed two commands: the first has ended with the line `a`, the second
+/// is open, with a text in its log of this name.
 pub fn shown<Y: Yard, W: Wait + Drop, R: Wait>(
     rt: &R,
     alloc: Global,

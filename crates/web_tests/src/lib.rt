@@ -1,4 +1,5 @@
-//! Tests of the chunk server: answers over real lanes byte for byte, and the same over the loopback.
+//! Tests of the chunk server: answers over real lanes byte for byte, and the same over the
+//! loopback.
 #![tactic(auto)]
 
 #[cfg(test)]

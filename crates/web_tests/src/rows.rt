@@ -88,7 +88,8 @@ pub const WIRE: &[Row] = &[
     ("GET", "http://host/api/v2/logs/0/contents?offset=1", BEHIND),
 ];
 
-/// Over the first lane alone, by the routes: states of logs, and a name that isn't written as it is.
+/// Over the first lane alone, by the routes: states of logs, and a name that isn't written as it
+/// is.
 pub const SOME: &[Row] = &[
     ("GET", "/api/v2/logs/0", ENDED),
     ("GET", "/api/v2/logs/1?name=a+b", OPEN),
@@ -209,7 +210,8 @@ const ODD_LINE: Reply = (
         \"firstline\":0,\"logid\":4}],\"meta\":{}}",
 );
 
-// Of three lanes: logs of command 0 of the third and the second, and of command 1 of the first and the third.
+// Of three lanes: logs of command 0 of the third and the second, and of command 1 of the first and
+// the third.
 const THIRD: Reply = (
     200,
     r#"{"logs":[{"complete":true,"logid":2,"name":"stdio","num_lines":1,"type":"s"}],"meta":{}}"#,

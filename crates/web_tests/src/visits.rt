@@ -111,8 +111,8 @@ impl<R: Net<Stream = TcpStream> + Clock + AllocGlobal + Copy> Client<R> {
         Ok(is_begun(&stream))
     }
 
-    // One that says a byte now and then, and one that has asked and is idle, are cut off. Others are
-    // answered meanwhile.
+    // One that says a byte now and then, and one that has asked and is idle, are cut off. Others
+    // are answered meanwhile.
     fn slow(self) -> io::Result<bool> {
         let (method, target, _) = LINES;
         let idle = self.connect()?;

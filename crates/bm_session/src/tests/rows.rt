@@ -140,7 +140,8 @@ fn values_are_heard_as_their_events(rt: HostRuntime) -> Result<(), AllocError> {
     plays(&rt, &ROWS, &LOGS, None)
 }
 
-/// Whether the session is up, whether it is cut, and the numbers of the next order and the next command.
+/// Whether the session is up, whether it is cut, and the numbers of the next order and the next
+/// command.
 type State = (bool, bool, u64, u64);
 
 fn is_in(session: &Session, state: &State) -> bool {

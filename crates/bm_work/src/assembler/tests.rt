@@ -226,7 +226,8 @@ fn is_same_cut(
     Ok(are_same(cut.as_slice(), whole))
 }
 
-/// Whether a text ends with a line just for each line end in the bytes, of which there is one at least.
+/// Whether a text ends with a line just for each line end in the bytes, of which there is one at
+/// least.
 fn has_lines_of(texts: &[Text], bytes: &[u8]) -> bool {
     let wanted = bytes.iter().filter(|byte| **byte == b'\n').count();
     let lines = texts.iter().filter(|text| text.as_str().ends_with('\n'));

@@ -15,7 +15,8 @@ use std::alloc::{AllocError, Global};
 pub enum Turn {
     /// Hears the message that the bytes spell.
     Hear(&'static [u8]),
-    /// Hears the order of that number to start the command, with the value that the bytes spell as its arguments.
+    /// Hears the order of that number to start the command, with the value that the bytes spell as
+    /// its arguments.
     Start(u32, u64, &'static [u8]),
     /// Hears the answer to the request with that number.
     Answer(u32),
@@ -68,7 +69,8 @@ fn response(seq: u32) -> Message {
     })
 }
 
-/// Hears the message, a second time where memory was refused, since that changed nothing and gave it back.
+/// Hears the message, a second time where memory was refused, since that changed nothing and gave
+/// it back.
 fn hear(worker: &mut Worker, message: Option<Message>) -> Result<Given, WorkRefusal> {
     let message = message.ok_or(WorkRefusal::Mem)?;
     let message = match worker.hear(message) {
