@@ -7,6 +7,7 @@ ghost use Rattle.bm_clerk.specs.Ports.{Begins, Looks, is_lost, polled};
 use crate::door::{Door, Order, Told};
 use bm_board::{StepPlan, Words};
 use bm_lane::{Viewer, Yard};
+use bm_lines::STDIO;
 use bm_runner::{Entries, Polled, Port};
 use bm_session::Results;
 use bm_store::{LogState, ViewRefusal};
@@ -17,9 +18,6 @@ use std::sync::Wait;
 use std::sync::atomic::{AtomicBool, Ordering};
 use std::thread;
 use std::time::{Clock, Duration};
-
-/// The log of what a command writes to its standard outputs.
-const STDIO: &str = "stdio";
 
 /// How long a tick is, in milliseconds.
 const TICK: u64 = 10;
