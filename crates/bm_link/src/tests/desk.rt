@@ -3,11 +3,12 @@ ghost use Rattle.std.specs.Prelude.{◌≡◌, ◌<◌, ◌≤◌};
 
 use super::both::worker_stream;
 use super::lengths::Long;
-use super::{AUTH, HEAD, Script, joined, script_of};
+use super::watch::End;
+use super::{AGREED, AUTH, HEAD, Script, joined, script_of};
 use crate::*;
 use bm_lane::{Blank, Drained, Ends, Yard, open};
 use bm_lines::Text;
-use bm_session::{Body, Event};
+use bm_session::{Body, Event, Results};
 use bumpalo::Bump;
 use std::alloc::{AllocError, Global};
 use std::marker::Brand;
@@ -170,14 +171,16 @@ impl<Y: Yard, W: Wait + Drop> Desk<Y, W> {
         }
     }
 
-    /// From now on a link's stream gives single bytes, and fails after so many calls.
-    pub fn fails_after(&mut self, calls: u32) {
-        self.calls = Some(calls);
-    }
-
-    /// From now on a link's stream ends after so many bytes.
-    pub fn is_cut_after(&mut self, bytes: usize) {
-        self.cut = Some(bytes);
+    /// From now on a link's stream comes to this end. One that fails gives single bytes.
+    pub fn ends_so(&mut self, end: End) {
+        self.calls = match end {
+            End::Fails(calls) => Some(calls),
+            _ => None,
+        };
+        self.cut = match end {
+            End::Cut(bytes) => Some(bytes),
+            _ => None,
+        };
     }
 
     /// A link over this stream takes the place of the one before.
@@ -205,6 +208,13 @@ impl<Y: Yard, W: Wait + Drop> Desk<Y, W> {
             stream.fails_after(calls);
         }
         self.accept(stream)
+    }
+
+    /// The link before is let go, and one takes its place over a stream that gives these bytes
+    /// after the head.
+    pub fn accepts(&mut self, said: &[u8]) -> Answer {
+        self.link = None;
+        self.accept_from(&[said], usize::MAX)
     }
 
     /// The same, over a stream that gives a head of these pieces.
@@ -379,6 +389,74 @@ impl<Y: Yard, W: Wait + Drop> Desk<Y, W> {
 
     pub fn has_link(&self) -> bool {
         self.link.is_some()
+    }
+
+    /// A call of the link's stream failed, or there is no link.
+    pub fn has_failed(&self) -> bool {
+        match &self.link {
+            Some(link) => link.stream().has_failed,
+            None => true,
+        }
+    }
+
+    /// What the link wrote behind the handshake.
+    pub fn written(&self) -> &[u8] {
+        match &self.link {
+            Some(link) => link
+                .stream()
+                .output
+                .as_slice()
+                .get(AGREED.len()..)
+                .unwrap_or_default(),
+            None => b"",
+        }
+    }
+
+    pub fn trace(&self) -> &[Event] {
+        self.ends.reader.trace()
+    }
+
+    pub fn is_cut(&self) -> bool {
+        self.ends.reader.is_cut()
+    }
+
+    /// How many commands were started.
+    pub fn commands(&self) -> u64 {
+        self.ends.reader.next_command()
+    }
+
+    /// Shows the viewer all that is in the queue. Where memory is wanting for an item it is tried
+    /// again.
+    fn shows(&mut self) {
+        for _ in 0..16 {
+            if matches!(self.ends.writer.drain(), Ok(Drained::Empty)) {
+                return;
+            }
+        }
+    }
+
+    /// How command 0 ended, as its viewer sees it.
+    pub fn ended(&mut self) -> Option<Results> {
+        self.shows();
+        match self.ends.viewers.first_mut() {
+            Some(viewer) => match viewer.state(0, "stdio") {
+                Ok(state) => state.ended,
+                Err(_) => None,
+            },
+            None => None,
+        }
+    }
+
+    /// Whether this is the whole log of command 0 under that name, as its viewer sees it.
+    pub fn logged(&mut self, name: &str, content: &str) -> bool {
+        self.shows();
+        match self.ends.viewers.first_mut() {
+            Some(viewer) => match viewer.chunk(0, name, 0, u64::MAX) {
+                Ok(chunk) => chunk.content.as_str() == content,
+                Err(_) => false,
+            },
+            None => false,
+        }
     }
 
     /// The lane had its Down last, or had no event.

@@ -32,6 +32,15 @@ impl Long {
     }
 }
 
+/// A binary message of these bytes in one frame, under the key of zeros.
+pub(crate) fn binary(alloc: Global, bytes: &[u8]) -> Result<Vec<u8>, AllocError> {
+    let mut frame = Vec::new(alloc);
+    frame.push(b'\x82')?;
+    push_length(&mut frame, bytes.len())?;
+    frame.extend_from_slice(bytes)?;
+    Ok(frame)
+}
+
 /// The length of a masked frame in its shortest form, and the key of zeros.
 fn push_length(frames: &mut Vec<u8>, length: usize) -> Result<(), AllocError> {
     match u16::try_from(length) {

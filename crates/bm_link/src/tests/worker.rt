@@ -1,5 +1,7 @@
 //! A worker's link over memory.
 
+mod failing;
+
 use super::{
     AGREED, AUTH, AUTH_S, BAD_LOGIN, CLOSE, DONE, NEW, ORDER, RESUMED, Script, TEXT, TRUE,
     script_of,
@@ -45,9 +47,14 @@ impl Bench {
 
     /// The same of a worker that names this session.
     fn named(alloc: Global, session: Option<&str>, messages: &[&[u8]]) -> Result<Bench, LinkFault> {
-        let Ok(stream) = script_of(alloc, AGREED, messages) else {
-            return Err(LinkFault::Mem);
-        };
+        match script_of(alloc, AGREED, messages) {
+            Ok(stream) => Bench::over(alloc, session, stream),
+            Err(_) => Err(LinkFault::Mem),
+        }
+    }
+
+    /// The same over this stream.
+    fn over(alloc: Global, session: Option<&str>, stream: Script) -> Result<Bench, LinkFault> {
         match WorkerLink::connect(alloc, Zeros {}, stream, "w0", "p", session) {
             Ok((link, attached)) => Ok(Bench {
                 alloc,
