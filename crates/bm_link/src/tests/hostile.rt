@@ -1,5 +1,5 @@
-//! Bytes at a live link that no honest worker sends: messages with a byte changed, cut short, or that
-//! claim more than they have.
+//! Bytes at a live link that no honest worker sends: messages with a byte changed, cut short, or
+//! that claim more than they have.
 //!
 //! Whether bytes are an event is what the readings of `bm_value` and `bm_session` say; all that
 //! comes of it is told here: an event is taken and answered as the protocol has it, and any other

@@ -3,14 +3,13 @@
 //!
 //! How the next link takes the lane up follows from how far the one before came:
 //!
-//! - It read no login, or could not be answered before the lane went up: the lane had no event, and
-//!   the session is new.
-//! - The lane went up, and the answer `new` wasn't heard: the worker's core is new all the same, and
-//!   has nothing to say again, so it goes on where it is told `resumed`.
+//! - The lane didn't go up by it: it had no event, and the session is new.
+//! - The lane went up, and the answer `new` wasn't heard: the worker's core is new all the same,
+//!   and has nothing to say again, so it goes on where it is told `resumed`.
 //! - An order was taken, and sent or not: it is sent by the next link, and answered once.
 //! - A response was taken: its order is not sent again.
-//! - An update was taken, and its answer sent or not: a worker without the answer says it again, and
-//!   gets the same answer. It adds no line.
+//! - An update was taken, and its answer sent or not: a worker without the answer says it again,
+//!   and gets the same answer. It adds no line.
 ghost use Rattle.std.specs.Prelude.{◌≡◌};
 
 use super::desk::{Answer, CLOSED, Call, Desk, HEARD, NOTED};

@@ -6,7 +6,7 @@ use crate::LinkFault;
 /// Where a stream comes to its end.
 #[derive(Clone, Copy)]
 pub(crate) enum End {
-    /// It fails after so many of its calls.
+    /// It fails once, behind so many of its calls.
     Fails(u32),
     /// It ends after so many bytes.
     Cut(usize),

@@ -1,5 +1,5 @@
-//! A worker's stream that fails at one of its calls, at each in turn, or ends after one of its bytes;
-//! and a second link of its core, which a resumed session has.
+//! A worker's stream that fails at one of its calls, at each in turn, or ends after one of its
+//! bytes; and a second link of its core, which a resumed session has.
 
 use super::super::desk::{Answer, CLOSED, HEARD, NOTED};
 use super::super::failing::ended_right;
@@ -96,8 +96,8 @@ impl Bench {
         Answer::Done
     }
 
-    /// The answer to what the worker does. Its core does its part whatever became of the link; where
-    /// it heard of no command a stray request is sent.
+    /// The answer to what the worker does. Its core does its part whatever became of the link;
+    /// where it heard of no command a stray request is sent.
     fn does(&mut self, act: Act) -> Answer {
         match act {
             Act::Turn => self.turns(),
