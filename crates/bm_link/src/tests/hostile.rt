@@ -61,13 +61,22 @@ fn ended_by(seq: u64, body: &Body) -> Option<Results> {
     }
 }
 
+/// The bytes of the answer to the request, where it is nil or an exception of few bytes.
+fn answer_bytes(alloc: Global, seq: u64, exception: Option<&str>) -> Option<Vec<u8>> {
+    if seq >= NUMBER_LIMIT {
+        return None;
+    }
+    match exception {
+        Some(text) if text.len() < 64 => write_answer(alloc, seq, Some(text)).ok(),
+        Some(_) => None,
+        None => write_answer(alloc, seq, None).ok(),
+    }
+}
+
 /// Whether this is the frame of the answer to the request.
 fn is_answer(alloc: Global, frame: &[u8], seq: u64, body: &Body) -> bool {
-    if seq >= NUMBER_LIMIT {
-        return false;
-    }
-    match (write_answer(alloc, seq, exception_to(body)), frame) {
-        (Ok(right), [b'\x82', length, bytes @ ..]) => {
+    match (answer_bytes(alloc, seq, exception_to(body)), frame) {
+        (Some(right), [b'\x82', length, bytes @ ..]) => {
             bytes.len() == usize::from(*length) && bytes == right.as_slice()
         }
         _ => false,
@@ -262,19 +271,36 @@ fn each_value<R: Wait>(
     is_right
 }
 
-/// A byte of a message is changed: each of them, to each value.
-#[test]
-fn a_changed_byte_is_an_event_or_a_bad_message(rt: HostRuntime) -> Result<(), Fail> {
-    for frame in &WORKED {
-        let bytes = payload(frame);
-        let mut tally = Tally::NONE;
-        for place in 0..bytes.len() {
-            let is_right = each_value(&rt, rt.alloc(), bytes, place, &mut tally);
-            assert!(rt; is_right, "byte {place} of {bytes:?}");
-        }
-        assert!(rt; tally.events > 255 && tally.bad > 255);
+/// A byte of a message is changed: each of them, to each value. Some of that are events, and some
+/// are bad messages.
+fn is_changed<R: Wait + Abort>(rt: &R, alloc: Global, frame: &[u8]) {
+    let bytes = payload(frame);
+    let mut tally = Tally::NONE;
+    for place in 0..bytes.len() {
+        let is_right = each_value(rt, alloc, bytes, place, &mut tally);
+        assert!(rt; is_right, "byte {place}");
     }
-    Ok(())
+    assert!(rt; tally.events > 255 && tally.bad > 255);
+}
+
+#[test]
+fn a_changed_login_is_an_event_or_a_bad_message(rt: HostRuntime) {
+    is_changed(&rt, rt.alloc(), AUTH);
+}
+
+#[test]
+fn a_changed_update_is_an_event_or_a_bad_message(rt: HostRuntime) {
+    is_changed(&rt, rt.alloc(), UPDATE);
+}
+
+#[test]
+fn a_changed_complete_is_an_event_or_a_bad_message(rt: HostRuntime) {
+    is_changed(&rt, rt.alloc(), COMPLETE_THREE);
+}
+
+#[test]
+fn a_changed_response_is_an_event_or_a_bad_message(rt: HostRuntime) {
+    is_changed(&rt, rt.alloc(), DONE);
 }
 
 /// No front of a message is one.

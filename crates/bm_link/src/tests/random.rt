@@ -42,10 +42,11 @@ impl Words {
 
     /// One of these, or nothing where there is none.
     fn piece(&mut self, pieces: &[&'static [u8]]) -> &'static [u8] {
-        if pieces.is_empty() {
+        let count = pieces.len();
+        if count == 0 {
             return b"";
         }
-        pieces[self.below(pieces.len())]
+        pieces[self.below(count)]
     }
 }
 
@@ -122,7 +123,7 @@ fn random_pairs(alloc: Global, words: &mut Words) -> Result<Vec<u8>, AllocError>
 fn random_update(alloc: Global, words: &mut Words) -> Result<Vec<u8>, AllocError> {
     let count = words.below(4);
     let mut bytes = Vec::new(alloc);
-    bytes.push(0x84 + (count & 0x03) as u8)?;
+    bytes.push(0x84 | (count & 0x03) as u8)?;
     bytes.extend_from_slice(
         b"\xaaseq_number\0\xa2op\xa6update\xaacommand_id\xa10\xa4args\x91\x92\xa6stdout\xa2a\n",
     )?;
@@ -151,7 +152,7 @@ fn spliced(
 fn mutated(alloc: Global, words: &mut Words) -> Result<Vec<u8>, AllocError> {
     let mut bytes = payload(words.piece(&WORKED)).to_vec(alloc)?;
     for _ in 0..=words.below(4) {
-        let place = words.below(bytes.len().max(1));
+        let place = words.below(64).min(bytes.len());
         let single = [words.byte()];
         let piece = match words.below(4) {
             0 | 1 => single.as_slice(),

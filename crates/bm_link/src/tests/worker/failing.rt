@@ -232,7 +232,7 @@ fn seen(alloc: Global, login: Login, end: End) -> Option<Watch> {
     }
     let step = Step {
         right: Answer::Attached(login.attached),
-        bytes: AGREED.len() + login.answer.len(),
+        bytes: AGREED.len().saturating_add(login.answer.len()),
         is_late: false,
     };
     let mut watch = Watch::of(end);
@@ -268,8 +268,8 @@ fn a_worker_loses_nothing_by_a_failing_stream(rt: HostRuntime) -> Result<(), Fai
 
 /// All the bytes that the worker reads over its first link, where its login has this answer.
 fn most_bytes(login: Login) -> usize {
-    let rest = ORDER.len() + ANSWER.len() + ANSWER_ONE.len() + CLOSE.len();
-    AGREED.len() + rest + login.answer.len().min(100)
+    let bytes = AGREED.len() + ORDER.len() + ANSWER.len() + ANSWER_ONE.len() + CLOSE.len();
+    bytes.saturating_add(login.answer.len())
 }
 
 #[test]
