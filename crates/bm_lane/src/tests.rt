@@ -1,5 +1,6 @@
 //! Worked scripts on a lane: in one thread, in many, and under a pool; and many lanes at once.
 
+mod full;
 mod hand;
 mod many;
 mod named;

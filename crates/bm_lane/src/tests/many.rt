@@ -17,9 +17,10 @@ use std::thread;
 use std::thread::{Threads, join};
 
 /// How often a thread calls again, yielding each time.
-const ROUNDS: u64 = 10_000_000;
+pub const ROUNDS: u64 = 10_000_000;
 
-const UPDATES: u64 = 1_000;
+/// How many updates of its command a lane hears.
+pub const UPDATES: u64 = 1_000;
 
 #[test]
 fn viewers_in_threads_of_their_own_see_the_same(rt: HostRuntime) -> Result<(), Fail> {
@@ -102,8 +103,8 @@ fn hear_once<Y: Yard, R: Wait>(rt: &R, reader: &mut ReaderEnd<Y>, event: Event) 
     }
 }
 
-// Hears the event, again after Busy.
-fn hear_at_last<Y: Yard, R: Wait>(
+/// Hears the event, again after Busy.
+pub fn hear_at_last<Y: Yard, R: Wait>(
     rt: &R,
     reader: &mut ReaderEnd<Y>,
     event: Event,
@@ -120,8 +121,9 @@ fn hear_at_last<Y: Yard, R: Wait>(
     false
 }
 
-fn number(alloc: Global, n: u64) -> Result<String, AllocError> {
-    for _ in 0..2 {
+/// The text of that update.
+pub fn number(alloc: Global, n: u64) -> Result<String, AllocError> {
+    for _ in 0..TRIES {
         if let Ok(text) = format!(in alloc; "{n}\n") {
             return Ok(text);
         }
@@ -186,14 +188,14 @@ fn watch<Y: Yard>(viewer: &mut Viewer<Y>) -> bool {
     false
 }
 
-// Whether this is the line of that number.
-fn is_line(alloc: Global, line: Option<&str>, seq: u64) -> Result<bool, AllocError> {
+/// Whether this is the line of that number.
+pub fn is_line(alloc: Global, line: Option<&str>, seq: u64) -> Result<bool, AllocError> {
     let text = format!(in alloc; "o{seq}")?;
     Ok(line == Some(text.as_str()))
 }
 
-// Whether the lines of the whole log are the numbers in order.
-fn is_counted(alloc: Global, answer: &Chunk) -> Result<bool, AllocError> {
+/// Whether the lines of the whole log are the numbers in order.
+pub fn is_counted(alloc: Global, answer: &Chunk) -> Result<bool, AllocError> {
     let mut lines = answer.content.as_str().lines();
     for seq in 0..UPDATES {
         if !is_line(alloc, lines.next(), seq)? {
@@ -257,8 +259,8 @@ fn after_threads<Y: Yard + Send + Sync, W: Wait + Drop + Send + Sync, R: Threads
     })
 }
 
-// The whole log is there, each number in order.
-fn assert_whole(rt: &impl Abort, alloc: Global, settled: &Settled) -> Result<(), Fail> {
+/// The whole log is there, each number in order.
+pub fn assert_whole(rt: &impl Abort, alloc: Global, settled: &Settled) -> Result<(), Fail> {
     assert!(rt; is_left(settled, UPDATES + 2, &[UPDATES + 1]));
     let Ok(whole) = settled.book.slice(0, "stdio", 0, UPDATES) else {
         return Err(Fail::from(AllocError));
