@@ -1,5 +1,7 @@
 //! Texts that are configurations, and texts that aren't.
 
+mod memory;
+
 use crate::{Config, ConfigFault, read_config};
 use bm_board::Mode;
 use std::alloc::Global;
