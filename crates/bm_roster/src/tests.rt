@@ -1,5 +1,7 @@
 //! A worker with two slots, and builds on it.
 
+mod memory;
+
 ghost use Rattle.std.specs.Prelude.{◌≡◌, ◌<◌, ◌≤◌, All};
 
 use super::*;
