@@ -1,5 +1,7 @@
 //! What waits, is joined and is told, on the happy path and at a full window.
 
+mod memory;
+
 use crate::words::{exit_line, words_line};
 use crate::*;
 use bm_lines::{Letter, Text};
@@ -10,23 +12,24 @@ use std::alloc::{AllocError, Global};
 use std::test::Fail;
 
 /// A worker in which command 0 runs.
-fn worker_of(alloc: Global) -> Result<Worker, Fail> {
+fn worker_of(alloc: Global) -> Option<Worker> {
     let mut vec = Vec::new(alloc);
-    vec.push(Value::from_str(alloc, "true")?)?;
+    vec.push(Value::from_str(alloc, "true").ok()?).ok()?;
     let mut pairs = Vec::new(alloc);
-    pairs.push(Pair {
-        key: Value::from_str(alloc, "command")?,
+    let pair = Pair {
+        key: Value::from_str(alloc, "command").ok()?,
         value: Value::Array(Items { vec }),
-    })?;
+    };
+    pairs.push(pair).ok()?;
     let request = Request::StartCommand {
         command: 0,
-        name: Text::from_str(alloc, "shell")?,
+        name: Text::from_str(alloc, "shell").ok()?,
         args: Value::Map(Pairs { vec: pairs }),
     };
     let mut worker = Worker::new(alloc);
     let order = Message::Request(Numbered { seq: 0, request });
-    worker.hear(order).ok().ok_or("no command")?;
-    Ok(worker)
+    worker.hear(order).ok()?;
+    Some(worker)
 }
 
 /// Puts a line of command 0 into the outbox.
@@ -41,7 +44,7 @@ fn push_line(alloc: Global, outbox: &mut Outbox) -> Result<(), AllocError> {
 #[test]
 fn a_full_window_keeps_the_next_text(rt: HostRuntime) -> Result<(), Fail> {
     let alloc = rt.alloc();
-    let mut worker = worker_of(alloc)?;
+    let mut worker = worker_of(alloc).ok_or("no command")?;
     let mut outbox = Outbox::new(alloc);
     for number in 0..65u64 {
         push_line(alloc, &mut outbox)?;
@@ -72,7 +75,7 @@ fn a_full_window_keeps_the_next_text(rt: HostRuntime) -> Result<(), Fail> {
 #[test]
 fn an_end_is_told_at_once_or_behind_the_texts(rt: HostRuntime) -> Result<(), Fail> {
     let alloc = rt.alloc();
-    let mut worker = worker_of(alloc)?;
+    let mut worker = worker_of(alloc).ok_or("no command")?;
     let mut outbox = Outbox::new(alloc);
     push_line(alloc, &mut outbox)?;
     outbox.cut_short(0, Ending::Interrupted)?;
