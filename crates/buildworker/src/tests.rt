@@ -3,6 +3,7 @@
 mod cut;
 mod lanes;
 mod master;
+mod memory;
 mod rows;
 mod words;
 
