@@ -12,7 +12,7 @@ use super::{Bench, Zeros};
 use crate::*;
 use bm_lines::Letter;
 use bm_value::Bytes;
-use bm_work::{Finish, Sent, WorkAct};
+use bm_work::{Finish, Sent, WorkAct, WorkRefusal};
 use std::alloc::{AllocError, Global};
 use std::process::Abort;
 use std::test::Fail;
@@ -21,8 +21,10 @@ use std::test::Fail;
 #[derive(Clone, Copy)]
 enum Act {
     Turn,
-    /// It says a text of command 0.
-    Says(&'static str),
+    /// It says the first line of command 0.
+    SaysFirst,
+    /// It says the second line of command 0.
+    SaysSecond,
     /// It tells that command 0 ended with the exit code 0.
     Ends,
     /// It sends a request that its core didn't make.
@@ -33,8 +35,8 @@ enum Act {
 /// call may tell of a stream that fails: where it has heard an order, or a close.
 static ACTS: [(Act, Answer, usize, bool); 9] = [
     (Act::Turn, Answer::Started(0), ORDER.len(), true),
-    (Act::Says("a\n"), Answer::Done, 0, false),
-    (Act::Says("b\n"), Answer::Done, 0, false),
+    (Act::SaysFirst, Answer::Done, 0, false),
+    (Act::SaysSecond, Answer::Done, 0, false),
     (Act::Turn, NOTED, ANSWER.len(), false),
     (Act::Ends, Answer::Done, 0, false),
     (Act::Turn, NOTED, ANSWER_ONE.len(), false),
@@ -85,6 +87,14 @@ impl Bench {
         self.sends(&Sent { seq: 0, bytes })
     }
 
+    /// It sends what its core said, or a stray request where it said nothing.
+    fn sends_said(&mut self, said: Result<Sent, WorkRefusal>) -> Answer {
+        match said {
+            Ok(sent) => self.sends(&sent),
+            Err(_) => self.strays(),
+        }
+    }
+
     /// It sends all of these, until one isn't sent.
     fn sends_all(&mut self, requests: &[Sent]) -> Answer {
         for sent in requests {
@@ -101,10 +111,14 @@ impl Bench {
     fn does(&mut self, act: Act) -> Answer {
         match act {
             Act::Turn => self.turns(),
-            Act::Says(text) => match self.core.say(0, Letter::O, text) {
-                Ok(sent) => self.sends(&sent),
-                Err(_) => self.strays(),
-            },
+            Act::SaysFirst => {
+                let said = self.core.say(0, Letter::O, "a\n");
+                self.sends_said(said)
+            }
+            Act::SaysSecond => {
+                let said = self.core.say(0, Letter::O, "b\n");
+                self.sends_said(said)
+            }
             Act::Ends => match self.core.finish(0, Finish::Rc(0)) {
                 Ok(sent) => self.sends_all(sent.as_slice()),
                 Err(_) => self.strays(),
@@ -180,8 +194,8 @@ impl Bench {
     fn says_again(&mut self, has_heard: bool) -> bool {
         if !has_heard {
             return self.turns() == Answer::Started(0)
-                && self.does(Act::Says("a\n")) == Answer::Done
-                && self.does(Act::Says("b\n")) == Answer::Done
+                && self.does(Act::SaysFirst) == Answer::Done
+                && self.does(Act::SaysSecond) == Answer::Done
                 && self.does(Act::Ends) == Answer::Done;
         }
         let is_repeat = self.turns() == HEARD;
