@@ -21,6 +21,3 @@ pub use plan::{Build, LockUse, LockUses, Mode, StepPlan, StepPlans, Words};
 pub use refusal::BoardRefusal;
 pub use steps::{Next, next_step};
 pub use worker::Worker;
-
-#[cfg(test)]
-mod tests;

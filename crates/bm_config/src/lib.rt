@@ -17,6 +17,3 @@ pub use config::{Config, LockConfig, WorkerConfig};
 pub use fault::ConfigFault;
 pub use keys::Key;
 pub use reading::read_config;
-
-#[cfg(test)]
-mod tests;

@@ -19,8 +19,6 @@ mod reader_end;
 mod refusals;
 mod relay;
 mod settling;
-#[cfg(test)]
-mod tests;
 mod viewer;
 mod window;
 mod writer_end;

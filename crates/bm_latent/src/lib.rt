@@ -8,6 +8,3 @@ mod machine;
 
 pub use event::{Act, LatentEvent, LatentState};
 pub use machine::Latent;
-
-#[cfg(test)]
-mod tests;

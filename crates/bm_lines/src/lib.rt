@@ -11,8 +11,6 @@ mod name_table;
 mod one_or_many;
 mod parcel;
 mod parcel_builder;
-#[cfg(test)]
-mod tests;
 mod text;
 
 pub use block::{Block, append_content, content, cut};

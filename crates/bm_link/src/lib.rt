@@ -25,8 +25,6 @@ mod orders;
 mod parts;
 mod reading;
 mod telling;
-#[cfg(test)]
-mod tests;
 mod user;
 mod worker;
 

@@ -17,8 +17,6 @@ mod limits;
 mod message;
 mod reading;
 mod request;
-#[cfg(test)]
-mod tests;
 mod text_update;
 mod writing;
 

@@ -10,8 +10,6 @@ mod pipe_texts;
 mod pipes;
 mod said;
 mod session;
-#[cfg(test)]
-mod tests;
 mod tries;
 mod words;
 

@@ -14,6 +14,3 @@ mod roster;
 pub use bench::Bench;
 pub use commission::Commission;
 pub use roster::{Cancelled, Roster};
-
-#[cfg(test)]
-mod tests;

@@ -26,6 +26,3 @@ pub use remark::Remark;
 pub use report::Report;
 pub use tenure::Tenure;
 pub use worker_event::{Duty, ProcessDuty, WorkerEvent};
-
-#[cfg(test)]
-mod tests;

@@ -8,6 +8,3 @@ mod run;
 pub use entries::Entries;
 pub use port::{Polled, Port, Told};
 pub use run::{Report, run_build};
-
-#[cfg(test)]
-mod tests;

@@ -29,6 +29,3 @@ pub use run::Ran;
 pub use seen::Seen;
 pub use session::Session;
 pub use table::{MOST_EVENTS, MOST_OPEN};
-
-#[cfg(test)]
-mod tests;

@@ -598,6 +598,3 @@ impl Table {
         self.opened.retain(|other| entry.command != other.command);
     }
 }
-
-#[cfg(test)]
-mod tests;

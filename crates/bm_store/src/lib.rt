@@ -13,6 +13,3 @@ mod placed;
 pub use book::Book;
 pub use chunk::{Chunk, LogState, ViewRefusal};
 pub use placed::Placed;
-
-#[cfg(test)]
-mod tests;

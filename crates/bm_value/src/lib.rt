@@ -17,8 +17,6 @@ mod lookup;
 mod num;
 mod reader;
 mod row;
-#[cfg(test)]
-mod tests;
 mod text;
 mod value;
 mod writing;

@@ -9,5 +9,5 @@ mod Cores
 mod Examples
 mod Sizes
 mod TextUpdates
-mod Crossing
+pub mod Crossing
 mod Walks

@@ -141,6 +141,3 @@ fn decoded(alloc: Global, bytes: &[u8]) -> Result<Text, AllocError>
 {
     Ok(Text::from_string(String::from_utf8_lossy(alloc, bytes)?))
 }
-
-#[cfg(test)]
-mod tests;

@@ -316,6 +316,3 @@ fn places_of(finish: &Finish) -> usize
         Finish::Fault(_) => 1,
     }
 }
-
-#[cfg(test)]
-mod tests;

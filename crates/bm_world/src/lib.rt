@@ -10,6 +10,3 @@ mod world;
 pub use answer::Answer;
 pub use step::Step;
 pub use world::World;
-
-#[cfg(test)]
-mod tests;

@@ -1,0 +1,5 @@
+//! Tests of `bm_board`: what no clause says.
+#![tactic(auto)]
+
+#[cfg(test)]
+mod tests;

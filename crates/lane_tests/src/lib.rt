@@ -1,0 +1,5 @@
+//! Tests of `bm_lane`: what no clause says.
+#![tactic(auto)]
+
+#[cfg(test)]
+mod tests;

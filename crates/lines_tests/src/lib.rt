@@ -1,0 +1,5 @@
+//! Tests of `bm_lines`: what no clause says.
+#![tactic(auto)]
+
+#[cfg(test)]
+mod tests;

@@ -1,0 +1,89 @@
+//! Handshakes: those that are taken, and those that are refused.
+
+use super::AUTH;
+use super::desk::{Answer, BAD, Call, PLAIN, Row, plays};
+use bm_link::*;
+use std::process::Abort;
+use std::test::Fail;
+
+/// A handshake that comes in pieces is heard; one that trickles in is taken for an attack.
+#[test]
+fn a_handshake_comes_in_pieces(rt: HostRuntime) -> Result<(), Fail> {
+    static ROWS: [Row; 4] = [
+        Row::Calls(Call::AcceptInPieces(16, &[AUTH]), Answer::Done),
+        Row::Calls(Call::Login, Answer::Place(1)),
+        Row::Calls(Call::Attach, PLAIN),
+        Row::Calls(Call::AcceptInPieces(1, &[AUTH]), BAD),
+    ];
+    assert!(rt; plays(&rt, rt.alloc(), 1, false, &ROWS));
+    Ok(())
+}
+
+const GET: &[u8] = b"GET / HTTP/1.1\r\nHost: x\r\n";
+
+const UPGRADE: &[u8] = b"Upgrade: websocket\r\nConnection: Upgrade\r\n";
+
+const KEY: &[u8] = b"Sec-WebSocket-Key: MDEyMzQ1Njc4OWFiY2RlZg==\r\n";
+
+const VERSION: &[u8] = b"Sec-WebSocket-Version: 13\r\n";
+
+const END: &[u8] = b"\r\n";
+
+/// A handshake, and those that ask for no WebSocket of version 13, are cut short, or bring more.
+static HANDSHAKES: [Row; 16] = [
+    Row::Calls(
+        Call::AcceptHead(&[GET, UPGRADE, KEY, VERSION, END]),
+        Answer::Done,
+    ),
+    Row::Calls(Call::AcceptHead(&[]), BAD),
+    Row::Calls(Call::AcceptHead(&[GET, UPGRADE, KEY, VERSION]), BAD),
+    Row::Calls(Call::AcceptSome(0), Answer::Fault(LinkFault::Stream)),
+    Row::Calls(Call::AcceptSome(40), Answer::Fault(LinkFault::Stream)),
+    Row::Calls(Call::AcceptHead(&[b"\x82\x80\0\0\0\0", END, END]), BAD),
+    Row::Calls(Call::AcceptHead(&[GET, END]), BAD),
+    Row::Calls(Call::AcceptHead(&[GET, KEY, VERSION, END]), BAD),
+    Row::Calls(Call::AcceptHead(&[GET, UPGRADE, VERSION, END]), BAD),
+    Row::Calls(Call::AcceptHead(&[GET, UPGRADE, KEY, END]), BAD),
+    Row::Calls(
+        Call::AcceptHead(&[
+            b"POST / HTTP/1.1\r\nHost: x\r\n",
+            UPGRADE,
+            KEY,
+            VERSION,
+            END,
+        ]),
+        BAD,
+    ),
+    Row::Calls(
+        Call::AcceptHead(&[b"GET / HTTP/1.0\r\nHost: x\r\n", UPGRADE, KEY, VERSION, END]),
+        BAD,
+    ),
+    Row::Calls(
+        Call::AcceptHead(&[
+            GET,
+            b"Upgrade: h2c\r\nConnection: Upgrade\r\n",
+            KEY,
+            VERSION,
+            END,
+        ]),
+        BAD,
+    ),
+    Row::Calls(
+        Call::AcceptHead(&[GET, UPGRADE, KEY, b"Sec-WebSocket-Version: 8\r\n", END]),
+        BAD,
+    ),
+    Row::Calls(
+        Call::AcceptHead(&[GET, UPGRADE, b"Sec-WebSocket-Key: short\r\n", VERSION, END]),
+        BAD,
+    ),
+    Row::Calls(
+        Call::AcceptHead(&[GET, UPGRADE, KEY, VERSION, END, b"\x89\x80\0\0\0\0"]),
+        BAD,
+    ),
+];
+
+#[test]
+fn handshakes_are_taken_or_refused(rt: HostRuntime) -> Result<(), Fail> {
+    assert!(rt; plays(&rt, rt.alloc(), 1, false, &HANDSHAKES));
+    Ok(())
+}

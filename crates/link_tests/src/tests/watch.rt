@@ -1,0 +1,93 @@
+//! What is seen of the calls of a link whose stream comes to an end.
+
+use super::desk::{Answer, BAD, CLOSED};
+use bm_link::LinkFault;
+
+/// Where a stream comes to its end.
+#[derive(Clone, Copy)]
+pub(crate) enum End {
+    /// It fails once, behind so many of its calls.
+    Fails(u32),
+    /// It ends after so many bytes.
+    Cut(usize),
+    /// It gives all that it has. A request for memory is refused, or none.
+    Refused,
+    /// It gives all that it has.
+    Whole,
+}
+
+/// A call of a link, as a script has it.
+#[derive(Clone, Copy)]
+pub(crate) struct Step {
+    /// The answer while the stream is good.
+    pub right: Answer,
+    /// How many bytes the call reads.
+    pub bytes: usize,
+    /// The answer may be the same where the stream fails: the next call tells of it.
+    pub is_late: bool,
+}
+
+/// What was answered so far: as it should be until the stream came to its end, then that, and then
+/// that the link is closed.
+#[derive(Clone, Copy)]
+pub(crate) struct Watch {
+    end: End,
+    place: usize,
+    pub has_link: bool,
+    pub has_ended: bool,
+    pub is_right: bool,
+}
+
+impl Watch {
+    /// Nothing was seen yet, and there is no link.
+    pub fn of(end: End) -> Watch {
+        Watch {
+            end,
+            place: 0,
+            has_link: false,
+            has_ended: false,
+            is_right: true,
+        }
+    }
+
+    /// Sees the answer to a call, after which a call of the stream has failed or not.
+    pub fn see(&mut self, step: Step, answer: Answer, has_failed: bool) {
+        self.place = self.place.saturating_add(step.bytes);
+        let ends = self.ends(answer, has_failed);
+        self.is_right &= if self.has_ended {
+            answer == CLOSED
+        } else if ends {
+            self.is_told_by(step, answer)
+        } else {
+            answer == step.right
+        };
+        self.has_ended |= ends;
+    }
+
+    /// Whether the stream came to its end by now.
+    fn ends(&self, answer: Answer, has_failed: bool) -> bool {
+        match self.end {
+            End::Fails(_) => has_failed,
+            End::Cut(bytes) => self.place > bytes,
+            End::Refused => matches!(
+                answer,
+                Answer::Fault(
+                    LinkFault::Mem | LinkFault::Stream | LinkFault::Closed | LinkFault::BadMessage
+                )
+            ),
+            End::Whole => false,
+        }
+    }
+
+    /// Whether this tells of the end. A handshake that ends is a bad message.
+    fn is_told_by(&self, step: Step, answer: Answer) -> bool {
+        match self.end {
+            End::Fails(_) => {
+                answer == Answer::Fault(LinkFault::Stream) || (step.is_late && answer == step.right)
+            }
+            End::Cut(_) => answer == CLOSED || (answer == BAD && !self.has_link),
+            End::Refused => true,
+            End::Whole => false,
+        }
+    }
+}

@@ -1,0 +1,240 @@
+//! A worker's link over memory.
+
+mod failing;
+
+use super::{
+    AGREED, AUTH, AUTH_S, BAD_LOGIN, CLOSE, DONE, NEW, ORDER, RESUMED, Script, TEXT, TRUE,
+    script_of,
+};
+use bm_lines::Letter;
+use bm_link::*;
+use bm_work::{WorkAct, Worker};
+use bumpalo::Bump;
+use std::alloc::{AllocError, Global};
+use std::io;
+use std::random::RandomSource;
+use std::test::Fail;
+use tungstenite::RandomKeys;
+
+/// A source of zeros.
+#[derive(Drop)]
+pub(crate) struct Zeros {}
+
+impl RandomSource for Zeros {
+    fn fill_bytes(&self, buf: &mut [u8]) -> io::Result<()> {
+        buf.fill(0);
+        Ok(())
+    }
+}
+
+type Link = WorkerLink<Script, RandomKeys<Zeros>>;
+
+/// A worker, its link, and the arena of its messages.
+#[derive(Drop)]
+pub(crate) struct Bench {
+    alloc: Global,
+    link: Link,
+    attached: Attached,
+    arena: Bump,
+    core: Worker,
+}
+
+impl Bench {
+    /// A worker that names no session, whose link reads these messages after the handshake.
+    pub fn new(alloc: Global, messages: &[&[u8]]) -> Result<Bench, LinkFault> {
+        Bench::named(alloc, None, messages)
+    }
+
+    /// The same of a worker that names this session.
+    fn named(alloc: Global, session: Option<&str>, messages: &[&[u8]]) -> Result<Bench, LinkFault> {
+        match script_of(alloc, AGREED, messages) {
+            Ok(stream) => Bench::over(alloc, session, stream),
+            Err(_) => Err(LinkFault::Mem),
+        }
+    }
+
+    /// The same over this stream.
+    fn over(alloc: Global, session: Option<&str>, stream: Script) -> Result<Bench, LinkFault> {
+        match WorkerLink::connect(alloc, Zeros {}, stream, "w0", "p", session) {
+            Ok((link, attached)) => Ok(Bench {
+                alloc,
+                link,
+                attached,
+                arena: Bump::new(alloc),
+                core: Worker::new(alloc),
+            }),
+            Err(fault) => Err(fault),
+        }
+    }
+
+    /// The worker logged in plainly, and this is the last that it wrote.
+    fn is_plain(&self) -> bool {
+        self.attached == Attached::Plain && self.wrote(AUTH)
+    }
+
+    fn wrote(&self, bytes: &[u8]) -> bool {
+        self.link.get_ref().output.ends_with(bytes)
+    }
+
+    /// A turn whose order runs command 0.
+    pub fn runs(&mut self) -> bool {
+        match self.link.turn(self.alloc, &mut self.arena, &mut self.core) {
+            Ok((Turn::Heard, WorkAct::Run { command: 0, .. })) => true,
+            _ => false,
+        }
+    }
+
+    /// A turn that says that the link is closed.
+    fn ends(&mut self) -> bool {
+        match self.link.turn(self.alloc, &mut self.arena, &mut self.core) {
+            Err(LinkFault::Closed) => true,
+            _ => false,
+        }
+    }
+
+    /// The worker says a line of command 0.
+    pub fn says(&mut self) -> bool {
+        match self.core.say(0, Letter::O, "a\n") {
+            Ok(sent) => self.link.send(self.alloc, &sent).is_ok(),
+            Err(_) => false,
+        }
+    }
+
+    /// All that it wrote.
+    pub fn output(&self) -> Result<Vec<u8>, AllocError> {
+        Vec::from_slice(self.alloc, &self.link.get_ref().output)
+    }
+}
+
+/// How a worker is refused that is answered so.
+fn refusal(alloc: Global, messages: &[&[u8]]) -> Option<LinkFault> {
+    match Bench::new(alloc, messages) {
+        Ok(_) => None,
+        Err(fault) => Some(fault),
+    }
+}
+
+#[test]
+fn answers_to_a_login(rt: HostRuntime) -> Result<(), Fail> {
+    static ANSWERS: [(&[&[u8]], LinkFault); 5] = [
+        (&[BAD_LOGIN], LinkFault::BadLogin),
+        (&[TEXT], LinkFault::BadMessage),
+        (&[ORDER], LinkFault::BadMessage),
+        (&[CLOSE], LinkFault::Closed),
+        (&[], LinkFault::Closed),
+    ];
+    for (messages, fault) in &ANSWERS {
+        assert!(rt; refusal(rt.alloc(), messages) == Some(*fault), "{fault}");
+    }
+    Ok(())
+}
+
+/// Whether a worker that runs an order ends where these messages come last, and was told a close
+/// frame or not.
+fn is_closed_by(alloc: Global, last: &[u8], closed: bool) -> bool {
+    match Bench::new(alloc, &[TRUE, ORDER, last]) {
+        Ok(mut bench) => bench.ends_as(closed),
+        Err(_) => false,
+    }
+}
+
+impl Bench {
+    fn ends_as(&mut self, closed: bool) -> bool {
+        self.is_plain()
+            && self.runs()
+            && self.wrote(DONE)
+            && !self.link.closed()
+            && self.ends()
+            && self.ends()
+            && self.link.closed() == closed
+            && self.wrote(CLOSING) == closed
+    }
+}
+
+/// The worker's answer to a close frame.
+const CLOSING: &[u8] = b"\x88\x80\0\0\0\0";
+
+#[test]
+fn a_close_frame_is_told(rt: HostRuntime) -> Result<(), Fail> {
+    assert!(rt; is_closed_by(rt.alloc(), CLOSE, true));
+    assert!(rt; is_closed_by(rt.alloc(), b"".as_slice(), false));
+    Ok(())
+}
+
+/// What a turn gives.
+#[derive(Clone, Copy, PartialEq)]
+enum Gives {
+    Turned(Turn),
+    Fault(LinkFault),
+}
+
+const DROPPED: Gives = Gives::Turned(Turn::Dropped);
+
+const BAD: Gives = Gives::Fault(LinkFault::BadMessage);
+
+impl Bench {
+    fn gives(&mut self) -> Gives {
+        match self.link.turn(self.alloc, &mut self.arena, &mut self.core) {
+            Ok((turn, _)) => Gives::Turned(turn),
+            Err(fault) => Gives::Fault(fault),
+        }
+    }
+}
+
+/// What the turn gives that reads these frames.
+fn given(alloc: Global, frames: &[u8]) -> Option<Gives> {
+    match Bench::new(alloc, &[TRUE, frames]) {
+        Ok(mut bench) => Some(bench.gives()),
+        Err(_) => None,
+    }
+}
+
+/// Frames of a master, and what the turn gives that reads them.
+static FRAMES: [(&str, &[u8], Gives); 13] = [
+    ("an order", ORDER, Gives::Turned(Turn::Heard)),
+    ("a response", TRUE, Gives::Turned(Turn::Noted)),
+    ("a text", b"\x81\x01a", DROPPED),
+    ("a ping", b"\x89\x01a", DROPPED),
+    ("a pong", b"\x8a\x00", DROPPED),
+    ("a text in pieces", b"\x01\x01a\x80\x01b", DROPPED),
+    ("a value that is no message", b"\x82\x01\xc0", BAD),
+    ("bytes behind a value", b"\x82\x02\xc0\xc0", BAD),
+    ("a frame under a mask", b"\x82\x80\0\0\0\0", BAD),
+    ("a reserved bit", b"\xc2\x00", BAD),
+    ("a reserved opcode", b"\x83\x00", BAD),
+    ("a text that is no UTF-8", b"\x81\x01\xff", BAD),
+    (
+        "a frame of a byte more than may be",
+        b"\x82\x7f\0\0\0\0\0\x10\0\x01",
+        BAD,
+    ),
+];
+
+#[test]
+fn frames_give_a_worker_their_turns(rt: HostRuntime) -> Result<(), Fail> {
+    for (name, frames, gives) in &FRAMES {
+        assert!(rt; given(rt.alloc(), frames) == Some(*gives), "{name}");
+    }
+    Ok(())
+}
+
+/// How a worker that named the session `s` is answered so.
+fn attached_by(alloc: Global, answer: &[u8]) -> Option<Attached> {
+    match Bench::named(alloc, Some("s"), &[answer]) {
+        Ok(bench) if bench.wrote(AUTH_S) => Some(bench.attached),
+        _ => None,
+    }
+}
+
+#[test]
+fn a_session_is_named(rt: HostRuntime) -> Result<(), Fail> {
+    static ANSWERS: [(&[u8], Attached); 3] = [
+        (NEW, Attached::New),
+        (RESUMED, Attached::Resumed),
+        (TRUE, Attached::Plain),
+    ];
+    for (answer, attached) in &ANSWERS {
+        assert!(rt; attached_by(rt.alloc(), answer) == Some(*attached));
+    }
+    Ok(())
+}

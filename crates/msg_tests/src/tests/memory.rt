@@ -1,0 +1,90 @@
+//! Made for `tests/refused_memory`, which refuses each request for memory in turn: a call that
+//! meets want of memory changes nothing, and answers when it's made again. In the gate no request
+//! is refused, and no call is made twice.
+
+use super::{
+    AUTH_OF_A_SESSION, COMPLETE_ONE, EXCEPTION_ONE, NAMED_UPDATE, START_ZERO, UPDATE_OF_A_BAD_ITEM,
+    UPDATE_ZERO, message, written,
+};
+use bm_msg::{Message, MsgError, read};
+use bm_value::{DecodeError, EncodeError, Value, decode_whole};
+use std::alloc::{AllocError, Global};
+use std::test::Fail;
+
+fn message_again(alloc: Global, bytes: &[u8]) -> Result<Message, MsgError> {
+    match message(alloc, bytes) {
+        Ok(read) => Ok(read),
+        Err(_) => message(alloc, bytes),
+    }
+}
+
+fn copied_again(alloc: Global, message: &Message) -> Result<Message, AllocError> {
+    match message.copy(alloc) {
+        Ok(copied) => Ok(copied),
+        Err(_) => message.copy(alloc),
+    }
+}
+
+fn written_again(alloc: Global, message: &Message) -> Result<Vec<u8>, EncodeError> {
+    match written(alloc, message) {
+        Ok(bytes) => Ok(bytes),
+        Err(_) => written(alloc, message),
+    }
+}
+
+/// Whether the message is written as these bytes.
+fn is_written_again(alloc: Global, message: &Message, want: &[u8]) -> bool {
+    match written_again(alloc, message) {
+        Ok(bytes) => bytes.as_slice() == want,
+        Err(_) => false,
+    }
+}
+
+/// Whether a copy of the message is written as these bytes.
+fn is_copied_again(alloc: Global, message: &Message, want: &[u8]) -> bool {
+    match copied_again(alloc, message) {
+        Ok(copied) => is_written_again(alloc, &copied, want),
+        Err(_) => false,
+    }
+}
+
+/// Whether the message and its copy are written as these bytes, with one refused request at the
+/// most.
+fn stands_refusal(alloc: Global, bytes: &[u8]) -> bool {
+    match message_again(alloc, bytes) {
+        Ok(message) => {
+            is_written_again(alloc, &message, bytes) && is_copied_again(alloc, &message, bytes)
+        }
+        Err(_) => false,
+    }
+}
+
+#[test]
+fn refused_updates_are_read_and_written_again(rt: HostRuntime) {
+    for bytes in &[UPDATE_ZERO, NAMED_UPDATE, COMPLETE_ONE] {
+        assert!(&rt; stands_refusal(rt.alloc(), bytes), "{bytes:?}");
+    }
+}
+
+#[test]
+fn refused_orders_and_answers_are_read_and_written_again(rt: HostRuntime) {
+    for bytes in &[START_ZERO, EXCEPTION_ONE, AUTH_OF_A_SESSION] {
+        assert!(&rt; stands_refusal(rt.alloc(), bytes), "{bytes:?}");
+    }
+}
+
+fn decoded_again(alloc: Global, bytes: &[u8]) -> Result<Value<Global>, DecodeError> {
+    match decode_whole(alloc, bytes) {
+        Ok(value) => Ok(value),
+        Err(_) => decode_whole(alloc, bytes),
+    }
+}
+
+/// The reader isn't called again: bad arguments are told whatever memory there is, though an item
+/// that could be copied stands before the bad one.
+#[test]
+fn bad_arguments_are_told_without_memory(rt: HostRuntime) -> Result<(), Fail> {
+    let value = decoded_again(rt.alloc(), UPDATE_OF_A_BAD_ITEM)?;
+    assert!(rt; read(rt.alloc(), &value).err() == Some(MsgError::BadArgs(5)));
+    Ok(())
+}

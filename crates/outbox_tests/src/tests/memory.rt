@@ -1,0 +1,217 @@
+//! What waits and is told where a request for memory is refused.
+//!
+//! These are made for `tests/refused_memory`, which refuses each request in turn: nothing is lost
+//! then and nothing told twice, and where an end can't be told its fault is. In the gate no request
+//! is refused, and no call is made twice.
+
+use super::{push_line, worker_of};
+use bm_lines::{Letter, Text};
+use bm_outbox::{Ending, Outbox, PipeTexts, Told, begin};
+use bm_work::{Sent, Worker};
+use std::alloc::{AllocError, Global};
+use std::test::Fail;
+
+/// How often a call is made where one request for memory is refused.
+const CALLS: u32 = 2;
+
+/// The line of the words of command 0.
+const OPENED: &[u8] =
+    b"\x84\xaaseq_number\x00\xa2op\xa6update\xaacommand_id\xa10\xa4args\x91\x92\xa6header\xa5true\n";
+
+/// Standard output `a\n`.
+const LINE: &[u8] =
+    b"\x84\xaaseq_number\x01\xa2op\xa6update\xaacommand_id\xa10\xa4args\x91\x92\xa6stdout\xa2a\n";
+
+/// The line of its exit code 3.
+const CLOSED: &[u8] =
+    b"\x84\xaaseq_number\x02\xa2op\xa6update\xaacommand_id\xa10\xa4args\x91\x92\xa6header\xd9\x22program finished with exit code 3\n";
+
+const EXIT_CODE: &[u8] =
+    b"\x84\xaaseq_number\x03\xa2op\xa6update\xaacommand_id\xa10\xa4args\x91\x92\xa2rc\x03";
+
+const ENDED: &[u8] = b"\x84\xaaseq_number\x04\xa2op\xa8complete\xaacommand_id\xa10\xa4args\xc0";
+
+const NO_MEMORY: &[u8] =
+    b"\x84\xaaseq_number\x02\xa2op\xa8complete\xaacommand_id\xa10\xa4args\xadout of memory";
+
+const INTERRUPTED: &[u8] =
+    b"\x84\xaaseq_number\x00\xa2op\xa8complete\xaacommand_id\xa10\xa4args\xabinterrupted";
+
+/// All requests of a command whose end was told.
+static WHOLE: [&[u8]; 5] = [OPENED, LINE, CLOSED, EXIT_CODE, ENDED];
+
+/// All requests of a command for whose end memory was wanting.
+static CUT_SHORT: [&[u8]; 3] = [OPENED, LINE, NO_MEMORY];
+
+fn worker_again(alloc: Global) -> Option<Worker> {
+    match worker_of(alloc) {
+        Some(worker) => Some(worker),
+        None => worker_of(alloc),
+    }
+}
+
+/// Whether these are the bytes of the requests.
+fn are(requests: &[Sent], want: &[&[u8]]) -> bool {
+    for (request, bytes) in requests.iter().zip(want) {
+        if request.bytes.as_slice() != *bytes {
+            return false;
+        }
+    }
+    requests.len() == want.len()
+}
+
+/// Whether these requests are told next, by a second call where memory was wanting.
+fn tells_again(alloc: Global, worker: &mut Worker, outbox: &mut Outbox, want: &[&[u8]]) -> bool {
+    let told = match outbox.tell(alloc, worker) {
+        Err(_) => outbox.tell(alloc, worker),
+        told => told,
+    };
+    match told {
+        Ok(Told::Text(sent)) => {
+            let sent = [sent];
+            are(&sent, want)
+        }
+        Ok(Told::End(requests)) => are(requests.as_slice(), want),
+        _ => false,
+    }
+}
+
+/// Whether nothing waits any more, and these requests are sent again.
+fn resends_again(alloc: Global, worker: &mut Worker, outbox: &mut Outbox, want: &[&[u8]]) -> bool {
+    let requests = match begin(alloc, true, worker, outbox) {
+        Err(_) => begin(alloc, true, worker, outbox),
+        requests => requests,
+    };
+    match requests {
+        Ok(requests) => outbox.is_empty() && are(requests.as_slice(), want),
+        Err(_) => false,
+    }
+}
+
+fn opens(alloc: Global, outbox: &mut Outbox) -> Result<(), AllocError> {
+    let words = [Text::from_str(alloc, "true")?];
+    outbox.open(alloc, 0, &words)
+}
+
+/// Whether the line of the words waits, by a second call where memory was wanting. No part of this
+/// line, which is one text, waits before.
+fn opens_again(alloc: Global, outbox: &mut Outbox) -> bool {
+    match opens(alloc, outbox) {
+        Ok(()) => true,
+        Err(_) => outbox.is_empty() && opens(alloc, outbox).is_ok(),
+    }
+}
+
+fn pushes_again(alloc: Global, outbox: &mut Outbox) -> bool {
+    match push_line(alloc, outbox) {
+        Ok(()) => true,
+        Err(_) => push_line(alloc, outbox).is_ok(),
+    }
+}
+
+/// How a command was told to its end.
+#[derive(Clone, Copy, PartialEq)]
+enum Outcome {
+    Ended,
+    /// Memory was wanting for its end, and that is what was told.
+    NoMemory,
+    Wrongly,
+}
+
+/// How the end of a command is told whose texts were.
+fn outcome_at_close(alloc: Global, worker: &mut Worker, outbox: &mut Outbox) -> Outcome {
+    let (outcome, is_told) = if outbox.close(alloc, 0, 3).is_ok() {
+        let is_told = tells_again(alloc, worker, outbox, &[CLOSED])
+            && tells_again(alloc, worker, outbox, &[EXIT_CODE, ENDED])
+            && resends_again(alloc, worker, outbox, &WHOLE);
+        (Outcome::Ended, is_told)
+    } else {
+        let is_told = outbox.cut_short(0, Ending::NoMemory).is_ok()
+            && tells_again(alloc, worker, outbox, &[NO_MEMORY])
+            && resends_again(alloc, worker, outbox, &CUT_SHORT);
+        (Outcome::NoMemory, is_told)
+    };
+    if is_told { outcome } else { Outcome::Wrongly }
+}
+
+/// How a command of one line is told from its words to its end.
+fn outcome_of_a_line(alloc: Global) -> Outcome {
+    let Some(mut worker) = worker_again(alloc) else {
+        return Outcome::Wrongly;
+    };
+    let mut outbox = Outbox::new(alloc);
+    if opens_again(alloc, &mut outbox)
+        && pushes_again(alloc, &mut outbox)
+        && tells_again(alloc, &mut worker, &mut outbox, &[OPENED])
+        && tells_again(alloc, &mut worker, &mut outbox, &[LINE])
+    {
+        outcome_at_close(alloc, &mut worker, &mut outbox)
+    } else {
+        Outcome::Wrongly
+    }
+}
+
+#[test]
+fn refused_end_is_a_fault_and_nothing_else_is_lost(rt: HostRuntime) {
+    let mut outcome = Outcome::NoMemory;
+    for _ in 0..CALLS {
+        if outcome == Outcome::NoMemory {
+            outcome = outcome_of_a_line(rt.alloc());
+        }
+    }
+    assert!(rt; outcome == Outcome::Ended);
+}
+
+/// Whether the end waits alone, by a second call where memory was wanting. Nothing waits before.
+fn cuts_short_again(outbox: &mut Outbox) -> bool {
+    match outbox.cut_short(0, Ending::Interrupted) {
+        Ok(()) => true,
+        Err(_) => outbox.is_empty() && outbox.cut_short(0, Ending::Interrupted).is_ok(),
+    }
+}
+
+#[test]
+fn refused_interrupt_is_told_again(rt: HostRuntime) -> Result<(), Fail> {
+    let alloc = rt.alloc();
+    let mut worker = worker_again(alloc).ok_or("no command")?;
+    let mut outbox = Outbox::new(alloc);
+    assert!(rt;
+        pushes_again(alloc, &mut outbox)
+            && cuts_short_again(&mut outbox)
+            && tells_again(alloc, &mut worker, &mut outbox, &[INTERRUPTED])
+            && outbox.is_empty()
+    );
+    Ok(())
+}
+
+/// What a pipe keeps of a line that doesn't end. None where memory was wanting for that.
+fn kept(alloc: Global) -> Option<PipeTexts> {
+    let mut texts = PipeTexts::new(alloc, Letter::O);
+    match texts.take(alloc, b"d") {
+        Ok(said) if said.is_empty() => Some(texts),
+        _ => None,
+    }
+}
+
+/// Whether it is said at the end of the pipe, by a second call where memory was wanting.
+fn is_said_again(texts: &mut PipeTexts) -> bool {
+    let said = match texts.last() {
+        Err(_) => texts.last(),
+        said => said,
+    };
+    match said {
+        Ok(Some(said)) => said.text.as_str() == "d" && matches!(texts.last(), Ok(None)),
+        _ => false,
+    }
+}
+
+#[test]
+fn refused_rest_of_a_pipe_is_said_again(rt: HostRuntime) -> Result<(), Fail> {
+    let texts = match kept(rt.alloc()) {
+        Some(texts) => Some(texts),
+        None => kept(rt.alloc()),
+    };
+    let mut texts = texts.ok_or("nothing is kept")?;
+    assert!(rt; is_said_again(&mut texts));
+    Ok(())
+}

@@ -1,0 +1,129 @@
+//! A roster where a request for memory is refused.
+//!
+//! This is made for `tests/refused_memory`, which refuses each request in turn: the call says that
+//! memory is wanting and has changed nothing, and the same call again does as ever. In the gate no
+//! request is refused, and no call is made twice.
+ghost use Rattle.std.specs.Prelude.{◌≡◌};
+
+use super::{build_of, roster_of};
+use bm_board::{BoardRefusal, Build, Mode};
+use bm_lane::{Blank, Viewer, Yard, open};
+use bm_roster::{Commission, Roster};
+use bm_session::Results;
+use std::alloc::{AllocGlobal, Global};
+use std::marker::Brand;
+use std::sync::Wait;
+
+/// How often a call is made where one request for memory is refused.
+const CALLS: u32 = 2;
+
+/// What is seen of a roster with one worker.
+#[derive(Clone, Copy, PartialEq)]
+struct Look {
+    builds: u64,
+    is_wanted: bool,
+    has_build: bool,
+    is_over: bool,
+}
+
+fn look_at<Y: Yard>(roster: &Roster<Y>) -> Look {
+    Look {
+        builds: roster.builds(),
+        is_wanted: roster.is_wanted(0),
+        has_build: roster.has_build(0),
+        is_over: roster.is_over(),
+    }
+}
+
+fn build_again(alloc: Global) -> Option<Build> {
+    match build_of(alloc, Mode::Counting) {
+        Ok(build) => Some(build),
+        Err(_) => build_of(alloc, Mode::Counting).ok(),
+    }
+}
+
+/// Whether a build is added under that number, by a second call where memory was wanting.
+fn is_added_again<Y: Yard>(alloc: Global, roster: &mut Roster<Y>, number: u64) -> bool {
+    let Some(build) = build_again(alloc) else {
+        return false;
+    };
+    let before = look_at(roster);
+    match roster.add(alloc, &build) {
+        Err(BoardRefusal::Mem) => {
+            look_at(roster) == before && roster.add(alloc, &build) == Ok(number)
+        }
+        answer => answer == Ok(number),
+    }
+}
+
+/// The next build, by a second call where memory was wanting for the start of each.
+fn next_again<Y: Yard>(roster: &mut Roster<Y>) -> Option<Commission<Y>> {
+    let before = look_at(roster);
+    match roster.next() {
+        None if roster.is_short() && look_at(roster) == before => roster.next(),
+        answer => answer,
+    }
+}
+
+/// Whether these builds end, with their results.
+fn are_ended<Y: Yard>(roster: &mut Roster<Y>, first: Commission<Y>, second: Commission<Y>) -> bool {
+    let (one, other) = (first.number, second.number);
+    roster.end(one, Results::Success, first.viewer)
+        && roster.end(other, Results::Failure, second.viewer)
+        && roster.is_over()
+        && roster.result(one) == Some(Results::Success)
+        && roster.result(other) == Some(Results::Failure)
+}
+
+/// Whether two builds that wait are both started. Where memory is wanting for the first, the second
+/// goes on, and the first is started by the next call.
+fn are_started_again<Y: Yard>(roster: &mut Roster<Y>) -> bool {
+    let Some(first) = next_again(roster) else {
+        return false;
+    };
+    let (one, other) = if roster.is_short() { (1, 0) } else { (0, 1) };
+    let Some(second) = next_again(roster) else {
+        return false;
+    };
+    first.number == one
+        && second.number == other
+        && roster.next().is_none()
+        && are_ended(roster, first, second)
+}
+
+/// Whether two builds are added, started and ended. None where there is no roster.
+fn is_kept_again<Y: Yard>(alloc: Global, viewers: Vec<Viewer<Y>>) -> Option<bool> {
+    let mut roster = roster_of(alloc, viewers, 0)?;
+    roster.set_ready(0, true);
+    let is_right = is_added_again(alloc, &mut roster, 0)
+        && is_added_again(alloc, &mut roster, 1)
+        && are_started_again(&mut roster);
+    Some(is_right)
+}
+
+fn on_lane_again<Y: Yard, W: Wait + Drop>(alloc: Global, blank: Blank<W>) -> Option<bool>
+    requires { (blank.queue ≡ Y.queue 0) × (blank.copy ≡ Y.copy 0) }
+{
+    match blank.ends::<Y>(alloc, 0) {
+        Ok(ends) => is_kept_again(alloc, ends.viewers),
+        Err(_) => None,
+    }
+}
+
+/// The same over a new lane. None where there is none.
+fn kept_once<R: Wait + AllocGlobal + Copy + Drop>(rt: R) -> Option<bool> {
+    let blank = open(rt, rt.alloc(), 4, 2).ok()?;
+    on_lane_again::<Brand, R>(rt.alloc(), blank)
+}
+
+/// A roster that isn't made lets its viewers go, and so all begins anew then.
+#[test]
+fn refused_builds_are_added_and_started_again(rt: HostRuntime) {
+    let mut is_kept = None;
+    for _ in 0..CALLS {
+        if is_kept.is_none() {
+            is_kept = kept_once(rt);
+        }
+    }
+    assert!(rt; is_kept == Some(true));
+}

@@ -1,0 +1,158 @@
+//! What a worker goes through as data, and what it gives back.
+
+ghost use Rattle.std.specs.Prelude.{◌≤◌, length, IfOk};
+ghost use Rattle.bm_work.specs.Reports.{fault_of};
+
+use bm_lines::{Letter, Text};
+use bm_msg::{Message, Numbered, Request, Response, read};
+use bm_value::{Value, decode_whole};
+use bm_work::{Finish, Sent, WorkAct, WorkRefusal, *};
+use std::alloc::{AllocError, Global};
+
+/// A turn that can be made twice.
+#[derive(Clone, Copy)]
+pub enum Turn {
+    /// Hears the message that the bytes spell.
+    Hear(&'static [u8]),
+    /// Hears the order of that number to start the command, with the value that the bytes spell as
+    /// its arguments.
+    Start(u32, u64, &'static [u8]),
+    /// Hears the answer to the request with that number.
+    Answer(u32),
+    /// Hears a request with that number whose keys are missing.
+    BadArgs(u32),
+    /// Says a text of the command.
+    Say(u64, Letter, &'static str),
+    /// The command ended with the exit code.
+    End(u64, i64),
+    /// The command ended with the fault.
+    Fail(u64, &'static str),
+    Resend,
+    Lose,
+}
+
+/// What a turn gave.
+#[derive(Debug, Drop)]
+pub enum Given {
+    Heard(WorkAct, Option<Vec<u8>>),
+    Said(Sent),
+    Sent(Vec<Sent>),
+    Nothing,
+}
+
+/// The message of the bytes, or None where memory was refused. Each row's bytes spell one.
+fn message(alloc: Global, bytes: &[u8]) -> Option<Message> {
+    let value = decode_whole(alloc, bytes).ok()?;
+    read(alloc, &value).ok()
+}
+
+/// The order to start the command, with the value that the bytes spell as its arguments.
+fn order(alloc: Global, seq: u32, command: u64, args: &[u8]) -> Option<Message> {
+    let name = Text::from_str(alloc, "shell").ok()?;
+    let args = decode_whole(alloc, args).ok()?;
+    Some(Message::Request(Numbered {
+        seq: u64::from(seq),
+        request: Request::StartCommand {
+            command,
+            name,
+            args,
+        },
+    }))
+}
+
+fn response(seq: u32) -> Message {
+    Message::Response(Response {
+        seq: u64::from(seq),
+        result: Value::Nil,
+        exception: false,
+    })
+}
+
+/// Hears the message, a second time where memory was refused, since that changed nothing and gave
+/// it back.
+fn hear(worker: &mut Worker, message: Option<Message>) -> Result<Given, WorkRefusal> {
+    let message = message.ok_or(WorkRefusal::Mem)?;
+    let message = match worker.hear(message) {
+        Ok((act, bytes)) => return Ok(Given::Heard(act, bytes)),
+        Err((message, _)) => message,
+    };
+    match worker.hear(message) {
+        Ok((act, bytes)) => Ok(Given::Heard(act, bytes)),
+        Err((_, refusal)) => Err(refusal),
+    }
+}
+
+/// The text, if a worker takes one of its length. No row has a longer one.
+fn short(text: &'static str) -> &'static str
+    ensures { length result.now ≤ 65536 }
+{
+    if text.len() <= 65_536 { text } else { "" }
+}
+
+fn fault(alloc: Global, text: &'static str) -> Result<Finish, AllocError>
+    ensures { IfOk result (λ finish. length (fault_of finish) ≤ 65536) }
+{
+    Ok(Finish::Fault(Text::from_str(alloc, short(text))?))
+}
+
+/// Ends the command by a copy of the end.
+fn end(worker: &mut Worker, command: u64, finish: &Finish) -> Result<Given, WorkRefusal>
+    requires { length (fault_of finish.now) ≤ 65536 }
+{
+    let finish = finish.copy()?;
+    Ok(Given::Sent(worker.finish(command, finish)?))
+}
+
+fn bad_args(worker: &mut Worker, seq: u32) -> Result<Given, WorkRefusal> {
+    let (act, bytes) = worker.bad_args(u64::from(seq))?;
+    Ok(Given::Heard(act, bytes))
+}
+
+fn try_say(
+    worker: &mut Worker,
+    command: u64,
+    letter: Letter,
+    text: &'static str,
+) -> Result<Sent, WorkRefusal> {
+    worker.say(command, letter, short(text))
+}
+
+/// Says a text, a second time where memory was refused.
+pub fn say(
+    worker: &mut Worker,
+    command: u64,
+    letter: Letter,
+    text: &'static str,
+) -> Result<Sent, WorkRefusal> {
+    match try_say(worker, command, letter, text) {
+        Err(WorkRefusal::Mem) => try_say(worker, command, letter, text),
+        said => said,
+    }
+}
+
+fn lose(worker: &mut Worker) -> Given {
+    worker.lost();
+    Given::Nothing
+}
+
+fn try_turn(alloc: Global, worker: &mut Worker, turn: Turn) -> Result<Given, WorkRefusal> {
+    match turn {
+        Turn::Hear(bytes) => hear(worker, message(alloc, bytes)),
+        Turn::Start(seq, command, args) => hear(worker, order(alloc, seq, command, args)),
+        Turn::Answer(seq) => hear(worker, Some(response(seq))),
+        Turn::BadArgs(seq) => bad_args(worker, seq),
+        Turn::Say(command, letter, text) => Ok(Given::Said(say(worker, command, letter, text)?)),
+        Turn::End(command, code) => end(worker, command, &Finish::Rc(code)),
+        Turn::Fail(command, text) => end(worker, command, &fault(alloc, text)?),
+        Turn::Resend => Ok(Given::Sent(worker.resend()?)),
+        Turn::Lose => Ok(lose(worker)),
+    }
+}
+
+/// What the turn gives. After want of memory the worker is as before, and the turn is tried again.
+pub fn taken(alloc: Global, worker: &mut Worker, turn: Turn) -> Result<Given, WorkRefusal> {
+    match try_turn(alloc, worker, turn) {
+        Err(WorkRefusal::Mem) => try_turn(alloc, worker, turn),
+        given => given,
+    }
+}
