@@ -7,62 +7,76 @@ use bm_lines::{
     Block, Letter, Line, LogName, Parcel, ParcelBuilder, STDIO, Text, append_content, content, cut,
 };
 use std::alloc::{AllocError, Global};
-use std::process::Abort;
 use std::test::Fail;
 
-/// The content of a block.
-fn told(alloc: Global, block: &Block) -> Result<String, AllocError> {
-    content(alloc, block.lines())
-}
-
-/// The log's name, which must be one.
-fn named(rt: &impl Abort, alloc: Global, name: &str) -> Result<LogName, AllocError> {
-    Ok(LogName::new(alloc, name)?.expect(rt, "a name of a log"))
-}
-
-/// Whether the block was made and has the content.
-fn holds(alloc: Global, block: Result<Block, AllocError>, want: &str) -> bool {
-    match block {
-        Ok(block) => is_told(alloc, &block, want),
-        Err(_) => false,
-    }
-}
+/// A log's name, and a text under it.
+type Item = (&'static str, Letter, &'static str);
 
 /// Whether the block has the content.
 fn is_told(alloc: Global, block: &Block, want: &str) -> bool {
-    match told(alloc, block) {
+    match content(alloc, block.lines()) {
         Ok(content) => content.as_str() == want,
         Err(_) => false,
     }
 }
 
-fn added(alloc: Global, letter: Letter, text: &str) -> Result<Block, AllocError> {
+/// Whether the parcel has one part, with the content.
+fn has_one(alloc: Global, parcel: &Parcel, want: &str) -> bool {
+    match parcel.parts() {
+        [part] => is_told(alloc, &part.block, want),
+        _ => false,
+    }
+}
+
+/// Whether a builder takes the text under the name.
+fn takes(
+    alloc: Global,
+    builder: &mut ParcelBuilder,
+    name: &LogName,
+    letter: Letter,
+    text: &str,
+) -> bool {
+    match Text::from_str(alloc, text) {
+        Ok(text) => builder.add_text(name, letter, text).is_ok(),
+        Err(_) => false,
+    }
+}
+
+fn is_cut_alone(alloc: Global, letter: Letter, text: &str, want: &str) -> bool {
+    match cut(alloc, letter, text) {
+        Ok(block) => is_told(alloc, &block, want),
+        Err(_) => false,
+    }
+}
+
+fn is_added(alloc: Global, letter: Letter, text: &str, want: &str) -> bool {
     let mut block = Block::new(alloc);
-    block.add(letter, text)?;
-    Ok(block)
+    block.add(letter, text).is_ok() && is_told(alloc, &block, want)
 }
 
-fn built(alloc: Global, letter: Letter, text: &str) -> Result<Block, AllocError> {
+fn is_built(alloc: Global, letter: Letter, text: &str, want: &str) -> bool {
     let mut builder = ParcelBuilder::new(alloc);
-    builder.add_text(&LogName::stdio(), letter, Text::from_str(alloc, text)?)?;
-    builder.into_parcel().parts()[0].block.copy()
+    let is_taken = takes(alloc, &mut builder, &LogName::stdio(), letter, text);
+    is_taken && has_one(alloc, &builder.into_parcel(), want)
 }
 
-fn in_a_parcel(alloc: Global, letter: Letter, text: &str) -> Result<Block, AllocError> {
-    let parcel = Parcel::of_str(alloc, LogName::stdio(), letter, text)?;
-    parcel.parts()[0].block.copy()
+fn is_in_a_parcel(alloc: Global, letter: Letter, text: &str, want: &str) -> bool {
+    match Parcel::of_str(alloc, LogName::stdio(), letter, text) {
+        Ok(parcel) => has_one(alloc, &parcel, want),
+        Err(_) => false,
+    }
 }
 
 /// Whether each way to cut the text gives the content.
 fn is_cut(alloc: Global, letter: Letter, text: &str, want: &str) -> bool {
-    holds(alloc, cut(alloc, letter, text), want)
-        && holds(alloc, added(alloc, letter, text), want)
-        && holds(alloc, built(alloc, letter, text), want)
-        && holds(alloc, in_a_parcel(alloc, letter, text), want)
+    is_cut_alone(alloc, letter, text, want)
+        && is_added(alloc, letter, text, want)
+        && is_built(alloc, letter, text, want)
+        && is_in_a_parcel(alloc, letter, text, want)
 }
 
 #[test]
-fn texts_are_cut_at_line_ends_alone(rt: HostRuntime) -> Result<(), Fail> {
+fn texts_are_cut_at_line_ends_alone(rt: HostRuntime) {
     static ROWS: [(Letter, &str, &str); 7] = [
         (Letter::E, "x\n\ny", "ex\ne\ney\n"),
         (Letter::O, "", ""),
@@ -75,52 +89,99 @@ fn texts_are_cut_at_line_ends_alone(rt: HostRuntime) -> Result<(), Fail> {
     for (letter, text, want) in &ROWS {
         assert!(rt; is_cut(rt.alloc(), *letter, text, want), "{text}");
     }
-    Ok(())
+}
+
+/// Whether the copy of a block of one line stays as it is while the block grows.
+fn grows_apart(alloc: Global, block: &mut Block, copy: &Block) -> bool {
+    block.add(Letter::E, "b").is_ok()
+        && is_told(alloc, copy, "oa\n")
+        && is_told(alloc, block, "oa\neb\n")
+        && block.add(Letter::H, "c").is_ok()
+        && is_told(alloc, block, "oa\neb\nhc\n")
+}
+
+fn has_a_copy_apart(alloc: Global, block: &mut Block) -> bool {
+    match block.copy() {
+        Ok(copy) => grows_apart(alloc, block, &copy),
+        Err(_) => false,
+    }
 }
 
 #[test]
 fn a_copy_keeps_its_lines_when_the_block_grows(rt: HostRuntime) -> Result<(), Fail> {
-    let alloc = rt.alloc();
-    let mut block = cut(alloc, Letter::O, "a\n")?;
-    let copy = block.copy()?;
-    block.add(Letter::E, "b")?;
-    assert!(rt; is_told(alloc, &copy, "oa\n") && is_told(alloc, &block, "oa\neb\n"));
-    block.add(Letter::H, "c")?;
-    assert!(rt; is_told(alloc, &block, "oa\neb\nhc\n"));
+    let mut block = cut(rt.alloc(), Letter::O, "a\n")?;
+    assert!(rt; has_a_copy_apart(rt.alloc(), &mut block));
     Ok(())
+}
+
+fn is_its_copy(text: &Text) -> bool {
+    match text.copy() {
+        Ok(copy) => text.is(&copy),
+        Err(_) => false,
+    }
+}
+
+/// The line, behind a copy of it.
+fn twice(alloc: Global, line: Line) -> Result<Vec<Line>, AllocError> {
+    let mut lines = Vec::new(alloc);
+    lines.push(line.copy()?)?;
+    lines.push(line)?;
+    Ok(lines)
+}
+
+/// Whether the text has the lines' content behind it, once that is appended.
+fn is_appended(alloc: Global, lines: &[Line], text: &str, want: &str) -> bool {
+    let Ok(mut out) = String::from_str(alloc, text) else {
+        return false;
+    };
+    append_content(&mut out, lines).is_ok() && out.as_str() == want
+}
+
+fn is_a_block(alloc: Global, lines: Vec<Line>, text: &str, want: &str) -> bool {
+    match Block::from_lines(alloc, lines) {
+        Ok(block) => is_appended(alloc, block.lines(), text, want),
+        Err(_) => false,
+    }
 }
 
 #[test]
 fn lines_make_a_block_and_contents_join(rt: HostRuntime) -> Result<(), Fail> {
     let alloc = rt.alloc();
-    let text = Text::from_str(alloc, "a")?;
     let line = Line {
         letter: Letter::O,
-        text,
+        text: Text::from_str(alloc, "a")?,
     };
-    let mut lines = Vec::new(alloc);
-    lines.push(line.copy()?)?;
-    assert!(rt; line.text.is(&line.text.copy()?));
-    lines.push(line)?;
-    let block = Block::from_lines(alloc, lines)?;
-    let mut out = String::from_str(alloc, ">")?;
-    append_content(&mut out, block.lines())?;
-    assert!(rt; out.as_str() == ">oa\noa\n");
+    assert!(rt; is_its_copy(&line.text));
+    assert!(rt; is_a_block(alloc, twice(alloc, line)?, ">", ">oa\noa\n"));
     Ok(())
+}
+
+/// A text of 254 bytes, and this behind it.
+fn long(alloc: Global, end: &str) -> Result<String, AllocError> {
+    let mut long = String::new(alloc);
+    for _ in 0..127 {
+        long.push('ä')?;
+    }
+    long.push_str(end)?;
+    Ok(long)
+}
+
+fn is_name(alloc: Global, text: &str) -> bool {
+    match LogName::new(alloc, text) {
+        Ok(Some(name)) => name.is(text),
+        _ => false,
+    }
+}
+
+fn is_no_name(alloc: Global, text: &str) -> bool {
+    matches!(LogName::new(alloc, text), Ok(None))
 }
 
 #[test]
 fn names_have_1_to_255_bytes(rt: HostRuntime) -> Result<(), Fail> {
     let alloc = rt.alloc();
-    let mut long = String::new(alloc);
-    for _ in 0..127 {
-        long.push('ä')?;
-    }
-    long.push('x')?;
-    assert!(rt; named(&rt, alloc, long.as_str())?.is(long.as_str()));
-    long.push('y')?;
-    assert!(rt; LogName::new(alloc, long.as_str())?.is_none());
-    assert!(rt; LogName::new(alloc, "")?.is_none());
+    assert!(rt; is_name(alloc, long(alloc, "x")?.as_str()));
+    assert!(rt; is_no_name(alloc, long(alloc, "xy")?.as_str()) && is_no_name(alloc, ""));
     Ok(())
 }
 
@@ -132,26 +193,27 @@ fn is_copied(name: &LogName, text: &str) -> bool {
     }
 }
 
-#[test]
-fn copies_of_names_are_equal(rt: HostRuntime) -> Result<(), Fail> {
-    let alloc = rt.alloc();
-    for text in ["stdio", "other"] {
-        let name = named(&rt, alloc, text)?;
-        assert!(rt; is_copied(&name, text));
+fn is_named_and_copied(alloc: Global, text: &str) -> bool {
+    match LogName::new(alloc, text) {
+        Ok(Some(name)) => is_copied(&name, text),
+        _ => false,
     }
-    assert!(rt; LogName::stdio().as_str() == STDIO && STDIO == "stdio");
-    Ok(())
 }
 
-/// Adds the text to the parcel.
-fn add(
-    rt: &impl Abort,
-    alloc: Global,
-    parcel: &mut Parcel,
-    (name, letter, text): (&str, Letter, &str),
-) -> Result<(), AllocError> {
-    let name = named(rt, alloc, name)?;
-    parcel.add(&name, letter, text)
+#[test]
+fn copies_of_names_are_equal(rt: HostRuntime) {
+    for text in &["stdio", "other"] {
+        assert!(rt; is_named_and_copied(rt.alloc(), text));
+    }
+    assert!(rt; LogName::stdio().as_str() == STDIO && STDIO == "stdio");
+}
+
+/// Whether the parcel takes the item.
+fn adds(alloc: Global, parcel: &mut Parcel, (name, letter, text): &Item) -> bool {
+    match LogName::new(alloc, name) {
+        Ok(Some(name)) => parcel.add(&name, *letter, text).is_ok(),
+        _ => false,
+    }
 }
 
 /// Whether the parcel has the content under the name.
@@ -173,52 +235,71 @@ fn has(alloc: Global, parcel: &Parcel, wants: &[(&str, &str)]) -> bool {
 }
 
 /// The parcel of the items.
-fn parcel_of(
-    rt: &impl Abort,
-    alloc: Global,
-    items: &[(&str, Letter, &str)],
-) -> Result<Parcel, AllocError> {
+fn parcel_of(alloc: Global, items: &[Item]) -> Option<Parcel> {
     let mut parcel = Parcel::new(alloc);
     for item in items {
-        add(rt, alloc, &mut parcel, *item)?;
+        if !adds(alloc, &mut parcel, item) {
+            return None;
+        }
     }
-    Ok(parcel)
+    Some(parcel)
+}
+
+/// Whether an item joins those of its name, and the copy that was made before stays as it is.
+fn joins_apart(alloc: Global, parcel: &mut Parcel, copy: &Parcel) -> bool {
+    adds(alloc, parcel, &("stdio", Letter::E, "b\n"))
+        && has(alloc, parcel, &[("stdio", "oa\nos\neb\n"), ("l", "")])
+        && parcel.of("m").is_none()
+        && has(alloc, copy, &[("stdio", "oa\nos\n"), ("l", "")])
+}
+
+fn joins(alloc: Global, parcel: &mut Parcel) -> bool {
+    match parcel.copy() {
+        Ok(copy) => joins_apart(alloc, parcel, &copy),
+        Err(_) => false,
+    }
 }
 
 #[test]
 fn items_join_under_their_names(rt: HostRuntime) -> Result<(), Fail> {
-    static ITEMS: [(&str, Letter, &str); 3] = [
+    static ITEMS: [Item; 3] = [
         ("stdio", Letter::O, "a\n"),
         ("l", Letter::O, ""),
         ("stdio", Letter::O, "s\n"),
     ];
-    let alloc = rt.alloc();
-    let mut parcel = parcel_of(&rt, alloc, &ITEMS)?;
-    let copy = parcel.copy()?;
-    add(&rt, alloc, &mut parcel, ("stdio", Letter::E, "b\n"))?;
-    assert!(rt; has(alloc, &parcel, &[("stdio", "oa\nos\neb\n"), ("l", "")]));
-    assert!(rt; parcel.of("m").is_none());
-    assert!(rt; has(alloc, &copy, &[("stdio", "oa\nos\n"), ("l", "")]));
+    let mut parcel = parcel_of(rt.alloc(), &ITEMS).ok_or("no parcel")?;
+    assert!(rt; joins(rt.alloc(), &mut parcel));
     Ok(())
 }
 
-/// The parcel of the items, whose texts a builder is given.
-fn built_of(
-    rt: &impl Abort,
-    alloc: Global,
-    items: &[(&str, Letter, &str)],
-) -> Result<Parcel, AllocError> {
-    let mut builder = ParcelBuilder::new(alloc);
-    for (name, letter, text) in items {
-        let name = named(rt, alloc, name)?;
-        builder.add_text(&name, *letter, Text::from_str(alloc, text)?)?;
+fn builds(alloc: Global, builder: &mut ParcelBuilder, (name, letter, text): &Item) -> bool {
+    match LogName::new(alloc, name) {
+        Ok(Some(name)) => takes(alloc, builder, &name, *letter, text),
+        _ => false,
     }
-    Ok(builder.into_parcel())
+}
+
+/// The parcel of the items, whose texts a builder is given.
+fn built_of(alloc: Global, items: &[Item]) -> Option<Parcel> {
+    let mut builder = ParcelBuilder::new(alloc);
+    for item in items {
+        if !builds(alloc, &mut builder, item) {
+            return None;
+        }
+    }
+    Some(builder.into_parcel())
+}
+
+fn is_made(alloc: Global, parcel: Option<Parcel>, wants: &[(&str, &str)]) -> bool {
+    match parcel {
+        Some(parcel) => has(alloc, &parcel, wants),
+        None => false,
+    }
 }
 
 #[test]
-fn given_texts_join_under_their_names(rt: HostRuntime) -> Result<(), Fail> {
-    static ITEMS: [(&str, Letter, &str); 5] = [
+fn given_texts_join_under_their_names(rt: HostRuntime) {
+    static ITEMS: [Item; 5] = [
         ("stdio", Letter::E, "a\n"),
         ("l", Letter::O, "b\nc"),
         ("m", Letter::O, "b\nc"),
@@ -230,23 +311,31 @@ fn given_texts_join_under_their_names(rt: HostRuntime) -> Result<(), Fail> {
         ("l", "ob\noc\nob\noc\n"),
         ("m", "ob\noc\n"),
     ];
-    let alloc = rt.alloc();
-    let built = built_of(&rt, alloc, &ITEMS)?;
-    assert!(rt; has(alloc, &built, &WANTS));
-    let added = parcel_of(&rt, alloc, &ITEMS)?;
-    assert!(rt; has(alloc, &added, &WANTS));
-    Ok(())
+    assert!(rt; is_made(rt.alloc(), built_of(rt.alloc(), &ITEMS), &WANTS));
+    assert!(rt; is_made(rt.alloc(), parcel_of(rt.alloc(), &ITEMS), &WANTS));
+}
+
+fn is_copied_empty(parcel: &Parcel) -> bool {
+    match parcel.copy() {
+        Ok(copy) => copy.parts().is_empty(),
+        Err(_) => false,
+    }
+}
+
+/// Whether the copy of a parcel of one part keeps it alone when the parcel gets another.
+fn is_kept_by_a_copy(alloc: Global, parcel: &mut Parcel) -> bool {
+    match parcel.copy() {
+        Ok(copy) => {
+            adds(alloc, parcel, &("l", Letter::O, "b")) && has(alloc, &copy, &[("stdio", "ea\n")])
+        }
+        Err(_) => false,
+    }
 }
 
 #[test]
-fn a_copied_parcel_keeps_its_parts(rt: HostRuntime) -> Result<(), Fail> {
-    let alloc = rt.alloc();
-    let mut parcel = Parcel::new(alloc);
-    assert!(rt; parcel.copy()?.parts().is_empty());
-    add(&rt, alloc, &mut parcel, ("stdio", Letter::E, "a\n"))?;
-    assert!(rt; parcel.of("l").is_none());
-    let copy = parcel.copy()?;
-    add(&rt, alloc, &mut parcel, ("l", Letter::O, "b"))?;
-    assert!(rt; has(alloc, &copy, &[("stdio", "ea\n")]));
-    Ok(())
+fn a_copied_parcel_keeps_its_parts(rt: HostRuntime) {
+    let mut parcel = Parcel::new(rt.alloc());
+    assert!(rt; is_copied_empty(&parcel));
+    assert!(rt; adds(rt.alloc(), &mut parcel, &("stdio", Letter::E, "a\n")));
+    assert!(rt; parcel.of("l").is_none() && is_kept_by_a_copy(rt.alloc(), &mut parcel));
 }

@@ -1,10 +1,8 @@
 //! A parcel of many names, put together with a table of them.
 
-use super::{has_part, is_told, named};
-use bm_lines::{Letter, LogName, Parcel, ParcelBuilder, Text};
-use std::alloc::{AllocError, Global};
-use std::process::Abort;
-use std::test::Fail;
+use super::{has_part, is_told, takes};
+use bm_lines::{Letter, LogName, Parcel, ParcelBuilder};
+use std::alloc::Global;
 
 const NAMES: u32 = 1000;
 
@@ -14,9 +12,9 @@ fn number_at(place: u32) -> u32 {
 }
 
 /// The name that is a number's digits.
-fn numbered(rt: &impl Abort, alloc: Global, number: u32) -> Result<LogName, AllocError> {
-    let digits = format!(in alloc; "{number}")?;
-    named(rt, alloc, digits.as_str())
+fn numbered(alloc: Global, number: u32) -> Option<LogName> {
+    let digits = format!(in alloc; "{number}").ok()?;
+    LogName::new(alloc, digits.as_str()).ok()?
 }
 
 /// Whether the part at the place has the name, and what was said under it.
@@ -31,59 +29,81 @@ fn is_at(alloc: Global, parcel: &Parcel, place: u32, name: &LogName, said: &str)
     }
 }
 
-/// Whether the parts are those of all names, in their order, each with what was said.
-fn is_whole(
-    rt: &impl Abort,
-    alloc: Global,
-    parcel: &Parcel,
-    said: &str,
-) -> Result<bool, AllocError> {
-    for place in 0..NAMES {
-        let name = numbered(rt, alloc, number_at(place))?;
-        if !is_at(alloc, parcel, place, &name, said) {
-            return Ok(false);
-        }
+/// Whether the part at the place has its name, and what was said under it.
+fn has_place(alloc: Global, parcel: &Parcel, place: u32, said: &str) -> bool {
+    match numbered(alloc, number_at(place)) {
+        Some(name) => is_at(alloc, parcel, place, &name, said),
+        None => false,
     }
-    Ok(parcel.parts().len() == NAMES as usize && parcel.of("a").is_none())
 }
 
-/// Gives the builder a line under the name at the place.
-fn give(
-    rt: &impl Abort,
-    alloc: Global,
-    builder: &mut ParcelBuilder,
-    place: u32,
-) -> Result<(), AllocError> {
-    let name = numbered(rt, alloc, number_at(place))?;
-    builder.add_text(&name, Letter::O, Text::from_str(alloc, "a")?)
+/// Whether the parts are those of all names, in their order, each with what was said.
+fn is_whole(alloc: Global, parcel: &Parcel, said: &str) -> bool {
+    for place in 0..NAMES {
+        if !has_place(alloc, parcel, place, said) {
+            return false;
+        }
+    }
+    parcel.parts().len() == NAMES as usize && parcel.of("a").is_none()
+}
+
+/// Whether the builder takes a line under the name at the place.
+fn takes_at(alloc: Global, builder: &mut ParcelBuilder, place: u32) -> bool {
+    match numbered(alloc, number_at(place)) {
+        Some(name) => takes(alloc, builder, &name, Letter::O, "a"),
+        None => false,
+    }
 }
 
 /// The parcel of all names, each with one line.
-fn of_all(rt: &impl Abort, alloc: Global) -> Result<Parcel, AllocError> {
+fn of_all(alloc: Global) -> Option<Parcel> {
     let mut builder = ParcelBuilder::new(alloc);
     for place in 0..NAMES {
-        give(rt, alloc, &mut builder, place)?;
+        if !takes_at(alloc, &mut builder, place) {
+            return None;
+        }
     }
-    Ok(builder.into_parcel())
+    Some(builder.into_parcel())
 }
 
-/// The parcel with a line more under each name.
-fn with_more(rt: &impl Abort, alloc: Global, parcel: &Parcel) -> Result<Parcel, AllocError> {
-    let mut copy = parcel.copy()?;
-    for number in 0..NAMES {
-        let name = numbered(rt, alloc, number)?;
-        copy.add(&name, Letter::E, "b")?;
+/// Whether the parcel takes a line more under the name.
+fn takes_more(alloc: Global, parcel: &mut Parcel, number: u32) -> bool {
+    match numbered(alloc, number) {
+        Some(name) => parcel.add(&name, Letter::E, "b").is_ok(),
+        None => false,
     }
-    Ok(copy)
+}
+
+/// Whether the parcel takes a line more under each name, and then has it.
+fn grows(alloc: Global, parcel: &mut Parcel) -> bool {
+    for number in 0..NAMES {
+        if !takes_more(alloc, parcel, number) {
+            return false;
+        }
+    }
+    is_whole(alloc, parcel, "oa\neb\n")
+}
+
+fn has_a_copy_that_grows(alloc: Global, parcel: &Parcel) -> bool {
+    match parcel.copy() {
+        Ok(mut copy) => grows(alloc, &mut copy),
+        Err(_) => false,
+    }
+}
+
+/// Whether the parcel of all names is whole, and stays so while a copy grows.
+fn keeps_places(alloc: Global) -> bool {
+    match of_all(alloc) {
+        Some(parcel) => {
+            is_whole(alloc, &parcel, "oa\n")
+                && has_a_copy_that_grows(alloc, &parcel)
+                && is_whole(alloc, &parcel, "oa\n")
+        }
+        None => false,
+    }
 }
 
 #[test]
-fn many_names_keep_their_places(rt: HostRuntime) -> Result<(), Fail> {
-    let alloc = rt.alloc();
-    let parcel = of_all(&rt, alloc)?;
-    assert!(rt; is_whole(&rt, alloc, &parcel, "oa\n")?);
-    let more = with_more(&rt, alloc, &parcel)?;
-    assert!(rt; is_whole(&rt, alloc, &more, "oa\neb\n")?);
-    assert!(rt; is_whole(&rt, alloc, &parcel, "oa\n")?);
-    Ok(())
+fn many_names_keep_their_places(rt: HostRuntime) {
+    assert!(rt; keeps_places(rt.alloc()));
 }

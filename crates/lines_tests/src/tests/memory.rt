@@ -8,7 +8,6 @@ use bm_lines::{
     Block, Letter, Line, LogName, Parcel, ParcelBuilder, Text, append_content, content, cut,
 };
 use std::alloc::{AllocError, Global};
-use std::process::Abort;
 use std::test::Fail;
 
 /// What the call makes, at the second time where memory was refused.
@@ -21,6 +20,11 @@ fn again<T: Drop, F: Fn() -> Result<T, AllocError>>(make: F) -> Result<T, AllocE
     }
 }
 
+/// The log's name.
+fn name_of(alloc: Global, name: &str) -> Option<LogName> {
+    again(|| LogName::new(alloc, name)).ok()?
+}
+
 /// Whether the lines have the content.
 fn is_told(alloc: Global, lines: &[Line], want: &str) -> bool {
     match again(|| content(alloc, lines)) {
@@ -29,68 +33,61 @@ fn is_told(alloc: Global, lines: &[Line], want: &str) -> bool {
     }
 }
 
+/// Whether the block takes the text, at the second time where memory was refused and its content is
+/// as before.
+fn takes(alloc: Global, block: &mut Block, text: &str, before: &str) -> bool {
+    block.add(Letter::O, text).is_ok()
+        || is_told(alloc, block.lines(), before) && block.add(Letter::O, text).is_ok()
+}
+
+/// Whether the block grows, and what shares its lines doesn't.
+fn grows(alloc: Global, block: &mut Block, shared: &Block) -> bool {
+    takes(alloc, block, "z\n", "ex\ne\ney\n")
+        && is_told(alloc, block.lines(), "ex\ne\ney\noz\n")
+        && is_told(alloc, shared.lines(), "ex\ne\ney\n")
+}
+
+fn grows_apart(alloc: Global, block: &mut Block) -> bool {
+    match again(|| block.copy()) {
+        Ok(shared) => grows(alloc, block, &shared),
+        Err(_) => false,
+    }
+}
+
 #[test]
 fn refused_block_keeps_its_lines(rt: HostRuntime) -> Result<(), Fail> {
     let alloc = rt.alloc();
     let mut block = again(|| cut(alloc, Letter::E, "x\n\ny"))?;
-    let shared = again(|| block.copy())?;
-    if block.add(Letter::O, "z\n").is_err() {
-        assert!(rt; is_told(alloc, block.lines(), "ex\ne\ney\n"));
-        block.add(Letter::O, "z\n")?;
-    }
-    assert!(rt; is_told(alloc, block.lines(), "ex\ne\ney\noz\n"));
-    assert!(rt; is_told(alloc, shared.lines(), "ex\ne\ney\n"));
+    assert!(rt; grows_apart(alloc, &mut block));
     Ok(())
+}
+
+/// Whether the text `> ` gets the block's content, at the second time where memory was refused and
+/// the text still begins so.
+fn gets(text: &mut String, block: &Block) -> bool {
+    if append_content(text, block.lines()).is_ok() {
+        return true;
+    }
+    if !text.as_str().starts_with("> ") {
+        return false;
+    }
+    text.truncate(2);
+    append_content(text, block.lines()).is_ok()
+}
+
+fn is_appended(alloc: Global, block: &Block) -> bool {
+    match again(|| String::from_str(alloc, "> ")) {
+        Ok(mut text) => gets(&mut text, block) && text.as_str() == "> oa\nob\n",
+        Err(_) => false,
+    }
 }
 
 #[test]
 fn refused_content_can_be_appended_again(rt: HostRuntime) -> Result<(), Fail> {
     let alloc = rt.alloc();
     let block = again(|| cut(alloc, Letter::O, "a\nb"))?;
-    let mut text = again(|| String::from_str(alloc, "> "))?;
-    if append_content(&mut text, block.lines()).is_err() {
-        assert!(rt; text.as_str().starts_with("> "));
-        text.truncate(2);
-        append_content(&mut text, block.lines())?;
-    }
-    assert!(rt; text.as_str() == "> oa\nob\n");
+    assert!(rt; is_appended(alloc, &block));
     Ok(())
-}
-
-#[test]
-fn refused_parcel_keeps_its_parts(rt: HostRuntime) -> Result<(), Fail> {
-    let alloc = rt.alloc();
-    let name = again(|| LogName::new(alloc, "l"))?.expect(&rt, "a name of a log");
-    let copied = again(|| name.copy())?;
-    let mut parcel = Parcel::new(alloc);
-    if parcel.add(&name, Letter::O, "a\n").is_err() {
-        assert!(rt; parcel.parts().is_empty());
-        parcel.add(&name, Letter::O, "a\n")?;
-    }
-    if parcel.add(&copied, Letter::E, "b\n").is_err() {
-        assert!(rt; has(alloc, &parcel, "l", "oa\n"));
-        parcel.add(&copied, Letter::E, "b\n")?;
-    }
-    let parcel = again(|| parcel.copy())?;
-    assert!(rt; parcel.parts().len() == 1 && has(alloc, &parcel, "l", "oa\neb\n"));
-    Ok(())
-}
-
-/// Adds the text to the parcel, again where memory was refused and the parcel must be as before.
-fn give(
-    rt: &impl Abort,
-    alloc: Global,
-    parcel: &mut Parcel,
-    name: &str,
-    said: &str,
-) -> Result<(), AllocError> {
-    let name = again(|| LogName::new(alloc, name))?.expect(rt, "a name of a log");
-    let before = parcel.parts().len();
-    if parcel.add(&name, Letter::O, said).is_ok() {
-        return Ok(());
-    }
-    assert!(rt; parcel.parts().len() == before);
-    parcel.add(&name, Letter::O, said)
 }
 
 /// Whether the parcel has the content under the name.
@@ -101,51 +98,118 @@ fn has(alloc: Global, parcel: &Parcel, name: &str, want: &str) -> bool {
     }
 }
 
-#[test]
-fn refused_text_leaves_the_parts(rt: HostRuntime) -> Result<(), Fail> {
-    let alloc = rt.alloc();
-    let mut parcel = Parcel::new(alloc);
-    for (name, said) in [("l", "a\n"), ("stdio", "b\nc"), ("l", "d\n")] {
-        give(&rt, alloc, &mut parcel, name, said)?;
+/// Whether the parcel has the content under `l`, and no part where there is none.
+fn holds(alloc: Global, parcel: &Parcel, want: &str) -> bool {
+    if want.is_empty() {
+        parcel.parts().is_empty()
+    } else {
+        has(alloc, parcel, "l", want)
     }
-    assert!(rt; has(alloc, &parcel, "l", "oa\nod\n") && has(alloc, &parcel, "stdio", "ob\noc\n"));
+}
+
+/// Whether the parcel takes the text, at the second time where memory was refused and it has the
+/// content as before.
+fn takes_under(
+    alloc: Global,
+    parcel: &mut Parcel,
+    name: &LogName,
+    (letter, text): (Letter, &str),
+    before: &str,
+) -> bool {
+    parcel.add(name, letter, text).is_ok()
+        || holds(alloc, parcel, before) && parcel.add(name, letter, text).is_ok()
+}
+
+/// Whether the parcel takes a text under the name and another one under a copy of it.
+fn takes_both(alloc: Global, parcel: &mut Parcel, name: &LogName) -> bool {
+    match again(|| name.copy()) {
+        Ok(copied) => {
+            takes_under(alloc, parcel, name, (Letter::O, "a\n"), "")
+                && takes_under(alloc, parcel, &copied, (Letter::E, "b\n"), "oa\n")
+        }
+        Err(_) => false,
+    }
+}
+
+fn is_copied(alloc: Global, parcel: &Parcel, want: &str) -> bool {
+    match again(|| parcel.copy()) {
+        Ok(copy) => copy.parts().len() == 1 && holds(alloc, &copy, want),
+        Err(_) => false,
+    }
+}
+
+#[test]
+fn refused_parcel_keeps_its_parts(rt: HostRuntime) -> Result<(), Fail> {
+    let alloc = rt.alloc();
+    let name = name_of(alloc, "l").ok_or("no name")?;
+    let mut parcel = Parcel::new(alloc);
+    assert!(rt; takes_both(alloc, &mut parcel, &name));
+    assert!(rt; is_copied(alloc, &parcel, "oa\neb\n"));
     Ok(())
 }
 
-/// Gives the text to the builder, once more where memory was refused.
-fn build(
-    rt: &impl Abort,
-    alloc: Global,
-    builder: &mut ParcelBuilder,
-    name: &str,
-    said: &str,
-) -> Result<(), AllocError> {
-    let name = again(|| LogName::new(alloc, name))?.expect(rt, "a name of a log");
-    let text = again(|| Text::from_str(alloc, said))?;
-    if builder.add_text(&name, Letter::O, text).is_ok() {
-        return Ok(());
+/// Whether the parcel takes the text, at the second time where memory was refused and it has the
+/// parts as before.
+fn gives(alloc: Global, parcel: &mut Parcel, name: &str, text: &str) -> bool {
+    let Some(name) = name_of(alloc, name) else {
+        return false;
+    };
+    let before = parcel.parts().len();
+    parcel.add(&name, Letter::O, text).is_ok()
+        || parcel.parts().len() == before && parcel.add(&name, Letter::O, text).is_ok()
+}
+
+#[test]
+fn refused_text_leaves_the_parts(rt: HostRuntime) {
+    static SAID: [(&str, &str); 3] = [("l", "a\n"), ("stdio", "b\nc"), ("l", "d\n")];
+    let alloc = rt.alloc();
+    let mut parcel = Parcel::new(alloc);
+    for (name, text) in &SAID {
+        assert!(rt; gives(alloc, &mut parcel, name, text));
     }
-    builder.add_text(&name, Letter::O, Text::from_str(alloc, said)?)
+    assert!(rt; has(alloc, &parcel, "l", "oa\nod\n") && has(alloc, &parcel, "stdio", "ob\noc\n"));
+}
+
+fn is_built(alloc: Global, builder: &mut ParcelBuilder, name: &LogName, text: &str) -> bool {
+    match again(|| Text::from_str(alloc, text)) {
+        Ok(text) => builder.add_text(name, Letter::O, text).is_ok(),
+        Err(_) => false,
+    }
+}
+
+/// Whether the builder takes the text, at the second time where memory was refused.
+fn builds(alloc: Global, builder: &mut ParcelBuilder, name: &str, text: &str) -> bool {
+    match name_of(alloc, name) {
+        Some(name) => {
+            is_built(alloc, builder, &name, text) || is_built(alloc, builder, &name, text)
+        }
+        None => false,
+    }
 }
 
 /// More names than a builder has without a table.
 static NAMES: [&str; 10] = ["k", "a", "stdio", "c", "b", "e", "d", "g", "f", "h"];
 
-#[test]
-fn refused_table_leaves_the_parts(rt: HostRuntime) -> Result<(), Fail> {
-    let alloc = rt.alloc();
-    let mut builder = ParcelBuilder::new(alloc);
-    for said in ["a", "b"] {
-        for name in NAMES {
-            build(&rt, alloc, &mut builder, name, said)?;
+/// Whether the builder takes the text under each name.
+fn builds_all(alloc: Global, builder: &mut ParcelBuilder, text: &str) -> bool {
+    for name in &NAMES {
+        if !builds(alloc, builder, name, text) {
+            return false;
         }
     }
+    true
+}
+
+#[test]
+fn refused_table_leaves_the_parts(rt: HostRuntime) {
+    let alloc = rt.alloc();
+    let mut builder = ParcelBuilder::new(alloc);
+    assert!(rt; builds_all(alloc, &mut builder, "a") && builds_all(alloc, &mut builder, "b"));
     let parcel = builder.into_parcel();
     assert!(rt; parcel.parts().len() == NAMES.len());
     for name in &NAMES {
         assert!(rt; has(alloc, &parcel, name, "oa\nob\n"));
     }
-    Ok(())
 }
 
 #[test]
