@@ -2,28 +2,14 @@
 //! recorded events of a worker's lane.
 #![tactic(auto)]
 
-mod answers;
-mod arguments;
-mod incoming;
-pub mod laws;
-mod numbers;
-mod replay;
-mod script;
 mod serving;
-#[cfg(test)]
-mod tests;
 
-use arguments::{Job, USAGE, read_job};
-use replay::replay_run;
+use bm_replay::{Job, read_job, replay_run, tell_usage};
 use serving::serve_file;
 use std::alloc::{AllocError, AllocGlobal};
-use std::io::Write;
 use std::process::ExitCode;
 use std::rt::Env;
 use std::{env, io};
-
-/// The exit status for words that ask for nothing that the program does.
-const WRONG_WORDS: u8 = 2;
 
 fn main(rt: HostRuntime) -> ExitCode {
     let Ok(words) = words(&rt) else {
@@ -47,13 +33,4 @@ fn words<R: Env + AllocGlobal>(rt: &R) -> Result<Vec<String>, AllocError> {
         Err(error) if error.kind() == io::ErrorKind::OutOfMemory => Err(AllocError),
         Err(_) => Ok(Vec::new(rt.alloc())),
     }
-}
-
-/// Tells the usage, and answers the exit status of words that ask for nothing that the program
-/// does.
-fn tell_usage<F: Write + Drop>(faults: F) -> u8 {
-    let mut faults = faults;
-    // Where the usage can't be told, the status still says that the words are wrong.
-    let _ = writeln!(faults, "{USAGE}");
-    WRONG_WORDS
 }

@@ -1,8 +1,8 @@
 //! The master of a configuration file.
 
-use crate::script::read_up_to;
 use bm_config::{Config, ConfigFault, read_config};
 use bm_master::serve;
+use bm_replay::read_up_to;
 use bm_rules::REFUSED;
 use std::alloc::AllocGlobal;
 use std::fs::Files;

@@ -1,5 +1,0 @@
-use Rattle.buildmaster.proofs.Lines.{left_over}
-use Rattle.buildmaster.proofs.replay.Lane.answer_lines.Given as goal
-
-abbrev pub decreases-lines : goal.decreases-lines
-decreases-lines g l = left_over l.left

@@ -1,0 +1,5 @@
+//! Tests of `bm_replay`: what no clause says.
+#![tactic(auto)]
+
+#[cfg(test)]
+mod tests;
