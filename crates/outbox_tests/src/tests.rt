@@ -3,41 +3,101 @@
 mod memory;
 
 use bm_lines::{Letter, Text};
-use bm_msg::{Message, Numbered, Request, Response};
+use bm_msg::{Message, read};
 use bm_outbox::*;
-use bm_value::{Items, Pair, Pairs, Value};
+use bm_value::decode_whole;
 use bm_work::Worker;
 use std::alloc::{AllocError, Global};
+use std::process::Abort;
 use std::test::Fail;
+
+/// The order to run `true` as command 0.
+const ORDER: &[u8] =
+    b"\x85\xaaseq_number\x00\xa2op\xadstart_command\xaacommand_id\xa10\xaccommand_name\xa5shell\xa4args\x81\xa7command\x91\xa4true";
+
+/// The answer to request 0.
+const ANSWER: &[u8] = b"\x83\xaaseq_number\x00\xa2op\xa8response\xa6result\xc0";
+
+fn message_of(alloc: Global, bytes: &[u8]) -> Option<Message> {
+    match decode_whole(alloc, bytes) {
+        Ok(tree) => read(alloc, &tree).ok(),
+        Err(_) => None,
+    }
+}
+
+/// Whether the worker takes the message that has these bytes.
+fn hears(alloc: Global, worker: &mut Worker, bytes: &[u8]) -> bool {
+    match message_of(alloc, bytes) {
+        Some(message) => worker.hear(message).ok().is_some(),
+        None => false,
+    }
+}
 
 /// A worker in which command 0 runs.
 fn worker_of(alloc: Global) -> Option<Worker> {
-    let mut vec = Vec::new(alloc);
-    vec.push(Value::from_str(alloc, "true").ok()?).ok()?;
-    let mut pairs = Vec::new(alloc);
-    let pair = Pair {
-        key: Value::from_str(alloc, "command").ok()?,
-        value: Value::Array(Items { vec }),
-    };
-    pairs.push(pair).ok()?;
-    let request = Request::StartCommand {
-        command: 0,
-        name: Text::from_str(alloc, "shell").ok()?,
-        args: Value::Map(Pairs { vec: pairs }),
-    };
     let mut worker = Worker::new(alloc);
-    let order = Message::Request(Numbered { seq: 0, request });
-    worker.hear(order).ok()?;
-    Some(worker)
+    if hears(alloc, &mut worker, ORDER) {
+        Some(worker)
+    } else {
+        None
+    }
 }
 
-/// Puts a line of command 0 into the outbox.
-fn push_line(alloc: Global, outbox: &mut Outbox) -> Result<(), AllocError> {
+/// Whether the outbox takes a line of command 0.
+fn pushes(alloc: Global, outbox: &mut Outbox) -> bool {
+    let Ok(text) = Text::from_str(alloc, "a\n") else {
+        return false;
+    };
     let said = Said {
         letter: Letter::O,
-        text: Text::from_str(alloc, "a\n")?,
+        text,
     };
-    outbox.push(Item::Text { command: 0, said })
+    outbox.push(Item::Text { command: 0, said }).is_ok()
+}
+
+/// What comes of telling what waits first.
+#[derive(Clone, Copy, PartialEq)]
+enum Step {
+    Nothing,
+    Full,
+    Passed,
+    /// A text, by the request with this number.
+    Text(u64),
+    /// An end, by so many requests.
+    End(usize),
+    NoMemory,
+}
+
+fn next(alloc: Global, worker: &mut Worker, outbox: &mut Outbox) -> Step {
+    match outbox.tell(alloc, worker) {
+        Ok(Told::Nothing) => Step::Nothing,
+        Ok(Told::Full) => Step::Full,
+        Ok(Told::Passed) => Step::Passed,
+        Ok(Told::Text(sent)) => Step::Text(sent.seq),
+        Ok(Told::End(requests)) => Step::End(requests.len()),
+        Err(_) => Step::NoMemory,
+    }
+}
+
+/// Tells a line for each place of the window, and one that waits on.
+fn fill(rt: &impl Abort, alloc: Global, worker: &mut Worker, outbox: &mut Outbox) {
+    for number in 0..65u64 {
+        let want = if number < 64 {
+            Step::Text(number)
+        } else {
+            Step::Full
+        };
+        let is_right = pushes(alloc, outbox) && next(alloc, worker, outbox) == want;
+        assert!(rt; is_right, "request {number}");
+    }
+}
+
+/// Whether the line that waits is told, and nothing else, once there is a place.
+fn goes_on(alloc: Global, worker: &mut Worker, outbox: &mut Outbox) -> bool {
+    hears(alloc, worker, ANSWER)
+        && next(alloc, worker, outbox) == Step::Text(64)
+        && outbox.is_empty()
+        && next(alloc, worker, outbox) == Step::Nothing
 }
 
 #[test]
@@ -45,30 +105,39 @@ fn a_full_window_keeps_the_next_text(rt: HostRuntime) -> Result<(), Fail> {
     let alloc = rt.alloc();
     let mut worker = worker_of(alloc).ok_or("no command")?;
     let mut outbox = Outbox::new(alloc);
-    for number in 0..65u64 {
-        push_line(alloc, &mut outbox)?;
-        let is_right = match outbox.tell(alloc, &mut worker)? {
-            Told::Text(sent) => sent.seq == number && number < 64,
-            Told::Full => number == 64,
-            _ => false,
-        };
-        assert!(rt; is_right, "request {number}");
-    }
-    let result = Value::Nil;
-    let exception = false;
-    let answer = Response {
-        seq: 0,
-        result,
-        exception,
-    };
-    worker
-        .hear(Message::Response(answer))
-        .ok()
-        .ok_or("no answer")?;
-    assert!(rt; matches!(outbox.tell(alloc, &mut worker)?, Told::Text(_)));
-    assert!(rt; outbox.is_empty());
-    assert!(rt; matches!(outbox.tell(alloc, &mut worker)?, Told::Nothing));
+    fill(&rt, alloc, &mut worker, &mut outbox);
+    assert!(rt; goes_on(alloc, &mut worker, &mut outbox));
     Ok(())
+}
+
+/// Whether a login that was answered so begins with so many requests.
+fn begins(
+    alloc: Global,
+    resumed: bool,
+    worker: &mut Worker,
+    outbox: &mut Outbox,
+    count: usize,
+) -> bool {
+    match begin(alloc, resumed, worker, outbox) {
+        Ok(requests) => requests.len() == count,
+        Err(_) => false,
+    }
+}
+
+/// Whether the end of a command is told in place of its text.
+fn ends_at_once(alloc: Global, worker: &mut Worker, outbox: &mut Outbox) -> bool {
+    pushes(alloc, outbox)
+        && outbox.cut_short(0, Ending::Interrupted).is_ok()
+        && next(alloc, worker, outbox) == Step::End(1)
+}
+
+/// Whether a text of a command that has ended is passed over; and its end is sent again where the
+/// session goes on, and nothing where another one begins.
+fn has_ended(alloc: Global, worker: &mut Worker, outbox: &mut Outbox) -> bool {
+    pushes(alloc, outbox)
+        && next(alloc, worker, outbox) == Step::Passed
+        && begins(alloc, true, worker, outbox, 1)
+        && begins(alloc, false, worker, outbox, 0)
 }
 
 #[test]
@@ -76,60 +145,105 @@ fn an_end_is_told_at_once_or_behind_the_texts(rt: HostRuntime) -> Result<(), Fai
     let alloc = rt.alloc();
     let mut worker = worker_of(alloc).ok_or("no command")?;
     let mut outbox = Outbox::new(alloc);
-    push_line(alloc, &mut outbox)?;
-    outbox.cut_short(0, Ending::Interrupted)?;
-    let is_told = match outbox.tell(alloc, &mut worker)? {
-        Told::End(requests) => requests.len() == 1,
-        _ => false,
-    };
-    assert!(rt; is_told);
-    push_line(alloc, &mut outbox)?;
-    assert!(rt; matches!(outbox.tell(alloc, &mut worker)?, Told::Passed));
-    let requests = begin(alloc, true, &mut worker, &mut outbox)?;
-    assert!(rt; requests.len() == 1);
-    let requests = begin(alloc, false, &mut worker, &mut outbox)?;
-    assert!(rt; requests.is_empty());
+    assert!(rt;
+        ends_at_once(alloc, &mut worker, &mut outbox) && has_ended(alloc, &mut worker, &mut outbox)
+    );
     Ok(())
 }
 
-/// How many texts are said of these bytes.
-fn count_of(alloc: Global, bytes: &[u8]) -> Result<usize, AllocError> {
+/// Whether so many texts are said of the next bytes of a pipe.
+fn says(alloc: Global, texts: &mut PipeTexts, bytes: &[u8], count: usize) -> bool {
+    match texts.take(alloc, bytes) {
+        Ok(said) => said.len() == count,
+        Err(_) => false,
+    }
+}
+
+/// Whether so many texts are said of the first bytes of a pipe.
+fn says_first(alloc: Global, bytes: &[u8], count: usize) -> bool {
     let mut texts = PipeTexts::new(alloc, Letter::E);
-    Ok(texts.take(alloc, bytes)?.len())
+    says(alloc, &mut texts, bytes, count)
+}
+
+/// Whether so many texts are said of a byte that a pipe gives so many times.
+fn says_of_many(alloc: Global, byte: u8, times: usize, count: usize) -> bool {
+    match vec![in alloc; byte; times] {
+        Ok(bytes) => says_first(alloc, bytes.as_slice(), count),
+        Err(_) => false,
+    }
+}
+
+/// Whether this is said at the end of a pipe. None where memory was wanting for that.
+fn says_last(texts: &mut PipeTexts, want: &str) -> Option<bool> {
+    match texts.last() {
+        Ok(Some(said)) => Some(said.text.as_str() == want),
+        Ok(None) => Some(false),
+        Err(_) => None,
+    }
+}
+
+/// Whether a byte that ends no line is said at the end of a pipe alone.
+fn keeps_a_rest(alloc: Global) -> bool {
+    let mut texts = PipeTexts::new(alloc, Letter::O);
+    says(alloc, &mut texts, b"d", 0) && says_last(&mut texts, "d") == Some(true)
 }
 
 #[test]
-fn whole_lines_are_joined(rt: HostRuntime) -> Result<(), Fail> {
+fn whole_lines_are_joined(rt: HostRuntime) {
     let alloc = rt.alloc();
-    assert!(rt; count_of(alloc, b"a\nb\n\nc")? == 1);
-    assert!(rt; count_of(alloc, b"a")? == 0);
-    let long = vec![in alloc; b'x'; 16_384]?;
-    assert!(rt; count_of(alloc, long.as_slice())? == 1);
-    let longer = vec![in alloc; b'x'; 40_000]?;
-    assert!(rt; count_of(alloc, longer.as_slice())? == 2);
-    let lines = vec![in alloc; b'\n'; 70_000]?;
-    assert!(rt; count_of(alloc, lines.as_slice())? == 2);
-    let mut texts = PipeTexts::new(alloc, Letter::O);
-    let none = texts.take(alloc, b"d")?;
-    let is_kept = match texts.last()? {
-        Some(said) => said.text.as_str() == "d",
-        None => false,
-    };
-    assert!(rt; none.is_empty() && is_kept);
-    Ok(())
+    assert!(rt; says_first(alloc, b"a\nb\n\nc", 1) && says_first(alloc, b"a", 0));
+    assert!(rt;
+        says_of_many(alloc, b'x', 16_384, 1)
+            && says_of_many(alloc, b'x', 40_000, 2)
+            && says_of_many(alloc, b'\n', 70_000, 2)
+    );
+    assert!(rt; keeps_a_rest(alloc));
+}
+
+fn texts_of(alloc: Global, words: &[&str]) -> Result<Vec<Text>, AllocError> {
+    let mut texts = Vec::new(alloc);
+    for word in words {
+        texts.push(Text::from_str(alloc, word)?)?;
+    }
+    Ok(texts)
+}
+
+/// Whether the line of these words of command 0 waits.
+fn opens(alloc: Global, outbox: &mut Outbox, words: &[&str]) -> bool {
+    match texts_of(alloc, words) {
+        Ok(words) => outbox.open(alloc, 0, words.as_slice()).is_ok(),
+        Err(_) => false,
+    }
 }
 
 /// Whether the next request is an update that ends with these bytes.
-fn ends_with(
-    alloc: Global,
-    outbox: &mut Outbox,
-    worker: &mut Worker,
-    last: &[u8],
-) -> Result<bool, AllocError> {
-    Ok(match outbox.tell(alloc, worker)? {
-        Told::Text(sent) => sent.bytes.as_slice().ends_with(last),
+fn ends_with(alloc: Global, worker: &mut Worker, outbox: &mut Outbox, last: &[u8]) -> bool {
+    match outbox.tell(alloc, worker) {
+        Ok(Told::Text(sent)) => sent.bytes.as_slice().ends_with(last),
         _ => false,
-    })
+    }
+}
+
+/// How the updates of a command of one line end, in their order.
+static LASTS: [&[u8]; 3] = [
+    b"\xa6header\xa7echo z\n",
+    b"\xa6stdout\xa2a\n",
+    b"\xa6header\xd9\x23program finished with exit code -1\n",
+];
+
+fn speaks(alloc: Global, outbox: &mut Outbox) -> bool {
+    opens(alloc, outbox, &["echo", "z"])
+        && pushes(alloc, outbox)
+        && outbox.close(alloc, 0, -1).is_ok()
+}
+
+fn ends_with_each(alloc: Global, worker: &mut Worker, outbox: &mut Outbox) -> bool {
+    for last in &LASTS {
+        if !ends_with(alloc, worker, outbox, last) {
+            return false;
+        }
+    }
+    true
 }
 
 #[test]
@@ -137,17 +251,7 @@ fn header_lines_stand_first_and_last(rt: HostRuntime) -> Result<(), Fail> {
     let alloc = rt.alloc();
     let mut worker = worker_of(alloc).ok_or("no command")?;
     let mut outbox = Outbox::new(alloc);
-    let words = [Text::from_str(alloc, "echo")?, Text::from_str(alloc, "z")?];
-    outbox.open(alloc, 0, &words)?;
-    push_line(alloc, &mut outbox)?;
-    outbox.close(alloc, 0, -1)?;
-    for last in [
-        b"\xa6header\xa7echo z\n".as_slice(),
-        b"\xa6stdout\xa2a\n",
-        b"\xa6header\xd9\x23program finished with exit code -1\n",
-    ] {
-        assert!(rt; ends_with(alloc, &mut outbox, &mut worker, last)?);
-    }
+    assert!(rt; speaks(alloc, &mut outbox) && ends_with_each(alloc, &mut worker, &mut outbox));
     Ok(())
 }
 

@@ -4,11 +4,11 @@
 //! then and nothing told twice, and where an end can't be told its fault is. In the gate no request
 //! is refused, and no call is made twice.
 
-use super::{push_line, worker_of};
-use bm_lines::{Letter, Text};
+use super::{opens, pushes, says, says_last, worker_of};
+use bm_lines::Letter;
 use bm_outbox::{Ending, Outbox, PipeTexts, Told, begin};
 use bm_work::{Sent, Worker};
-use std::alloc::{AllocError, Global};
+use std::alloc::Global;
 use std::test::Fail;
 
 /// How often a call is made where one request for memory is refused.
@@ -60,53 +60,55 @@ fn are(requests: &[Sent], want: &[&[u8]]) -> bool {
     requests.len() == want.len()
 }
 
+/// Whether these requests are told next. None where memory was wanting for that.
+fn tells(alloc: Global, worker: &mut Worker, outbox: &mut Outbox, want: &[&[u8]]) -> Option<bool> {
+    match outbox.tell(alloc, worker) {
+        Ok(Told::Text(sent)) => Some(are(&[sent], want)),
+        Ok(Told::End(requests)) => Some(are(requests.as_slice(), want)),
+        Ok(_) => Some(false),
+        Err(_) => None,
+    }
+}
+
 /// Whether these requests are told next, by a second call where memory was wanting.
 fn tells_again(alloc: Global, worker: &mut Worker, outbox: &mut Outbox, want: &[&[u8]]) -> bool {
-    let told = match outbox.tell(alloc, worker) {
-        Err(_) => outbox.tell(alloc, worker),
-        told => told,
-    };
-    match told {
-        Ok(Told::Text(sent)) => {
-            let sent = [sent];
-            are(&sent, want)
-        }
-        Ok(Told::End(requests)) => are(requests.as_slice(), want),
-        _ => false,
+    match tells(alloc, worker, outbox, want) {
+        Some(is_told) => is_told,
+        None => tells(alloc, worker, outbox, want) == Some(true),
     }
 }
 
-/// Whether nothing waits any more, and these requests are sent again.
+/// Whether these requests are sent again. None where memory was wanting for that.
+fn resends(
+    alloc: Global,
+    worker: &mut Worker,
+    outbox: &mut Outbox,
+    want: &[&[u8]],
+) -> Option<bool> {
+    match begin(alloc, true, worker, outbox) {
+        Ok(requests) => Some(are(requests.as_slice(), want)),
+        Err(_) => None,
+    }
+}
+
+/// Whether nothing waits any more, and these requests are sent again, by a second call where memory
+/// was wanting.
 fn resends_again(alloc: Global, worker: &mut Worker, outbox: &mut Outbox, want: &[&[u8]]) -> bool {
-    let requests = match begin(alloc, true, worker, outbox) {
-        Err(_) => begin(alloc, true, worker, outbox),
-        requests => requests,
+    let is_sent = match resends(alloc, worker, outbox, want) {
+        Some(is_sent) => is_sent,
+        None => resends(alloc, worker, outbox, want) == Some(true),
     };
-    match requests {
-        Ok(requests) => outbox.is_empty() && are(requests.as_slice(), want),
-        Err(_) => false,
-    }
-}
-
-fn opens(alloc: Global, outbox: &mut Outbox) -> Result<(), AllocError> {
-    let words = [Text::from_str(alloc, "true")?];
-    outbox.open(alloc, 0, &words)
+    is_sent && outbox.is_empty()
 }
 
 /// Whether the line of the words waits, by a second call where memory was wanting. No part of this
 /// line, which is one text, waits before.
 fn opens_again(alloc: Global, outbox: &mut Outbox) -> bool {
-    match opens(alloc, outbox) {
-        Ok(()) => true,
-        Err(_) => outbox.is_empty() && opens(alloc, outbox).is_ok(),
-    }
+    opens(alloc, outbox, &["true"]) || outbox.is_empty() && opens(alloc, outbox, &["true"])
 }
 
 fn pushes_again(alloc: Global, outbox: &mut Outbox) -> bool {
-    match push_line(alloc, outbox) {
-        Ok(()) => true,
-        Err(_) => push_line(alloc, outbox).is_ok(),
-    }
+    pushes(alloc, outbox) || pushes(alloc, outbox)
 }
 
 /// How a command was told to its end.
@@ -170,48 +172,49 @@ fn cuts_short_again(outbox: &mut Outbox) -> bool {
     }
 }
 
+/// Whether the end of a command is told in place of its text, and nothing else is.
+fn is_interrupted(alloc: Global, worker: &mut Worker, outbox: &mut Outbox) -> bool {
+    pushes_again(alloc, outbox)
+        && cuts_short_again(outbox)
+        && tells_again(alloc, worker, outbox, &[INTERRUPTED])
+        && outbox.is_empty()
+}
+
 #[test]
 fn refused_interrupt_is_told_again(rt: HostRuntime) -> Result<(), Fail> {
     let alloc = rt.alloc();
     let mut worker = worker_again(alloc).ok_or("no command")?;
     let mut outbox = Outbox::new(alloc);
-    assert!(rt;
-        pushes_again(alloc, &mut outbox)
-            && cuts_short_again(&mut outbox)
-            && tells_again(alloc, &mut worker, &mut outbox, &[INTERRUPTED])
-            && outbox.is_empty()
-    );
+    assert!(rt; is_interrupted(alloc, &mut worker, &mut outbox));
     Ok(())
 }
 
-/// What a pipe keeps of a line that doesn't end. None where memory was wanting for that.
-fn kept(alloc: Global) -> Option<PipeTexts> {
-    let mut texts = PipeTexts::new(alloc, Letter::O);
-    match texts.take(alloc, b"d") {
-        Ok(said) if said.is_empty() => Some(texts),
-        _ => None,
-    }
+/// Whether what a pipe keeps is said at its end, by a second call where memory was wanting, and
+/// nothing is said behind it.
+fn is_said_again(texts: &mut PipeTexts) -> bool {
+    let is_said = match says_last(texts, "d") {
+        Some(is_said) => is_said,
+        None => says_last(texts, "d") == Some(true),
+    };
+    is_said && matches!(texts.last(), Ok(None))
 }
 
-/// Whether it is said at the end of the pipe, by a second call where memory was wanting.
-fn is_said_again(texts: &mut PipeTexts) -> bool {
-    let said = match texts.last() {
-        Err(_) => texts.last(),
-        said => said,
-    };
-    match said {
-        Ok(Some(said)) => said.text.as_str() == "d" && matches!(texts.last(), Ok(None)),
-        _ => false,
+/// Whether a pipe says at its end the line that doesn't end. None where it doesn't keep that, as
+/// where memory was wanting for it.
+fn keeps_a_rest(alloc: Global) -> Option<bool> {
+    let mut texts = PipeTexts::new(alloc, Letter::O);
+    if says(alloc, &mut texts, b"d", 0) {
+        Some(is_said_again(&mut texts))
+    } else {
+        None
     }
 }
 
 #[test]
-fn refused_rest_of_a_pipe_is_said_again(rt: HostRuntime) -> Result<(), Fail> {
-    let texts = match kept(rt.alloc()) {
-        Some(texts) => Some(texts),
-        None => kept(rt.alloc()),
+fn refused_rest_of_a_pipe_is_said_again(rt: HostRuntime) {
+    let is_said = match keeps_a_rest(rt.alloc()) {
+        Some(is_said) => is_said,
+        None => keeps_a_rest(rt.alloc()) == Some(true),
     };
-    let mut texts = texts.ok_or("nothing is kept")?;
-    assert!(rt; is_said_again(&mut texts));
-    Ok(())
+    assert!(rt; is_said);
 }
