@@ -16,7 +16,6 @@ use std::process::{Processes, SystemProcess};
 use std::random::RandomSource;
 use std::sync::atomic::AtomicBool;
 use std::sync::{Arc, Wait};
-use std::test::Fail;
 use std::thread;
 use std::thread::Threads;
 use std::time::{Clock, Duration};
@@ -41,8 +40,24 @@ fn waiting(alloc: Global, stream: TcpStream) -> Option<Patient<TcpStream>> {
     Some(Patient::new(stream, is_patient))
 }
 
+/// What became of the script, played to the worker that connects next.
+fn played<F>(alloc: Global, listener: &TcpListener, script: F) -> Option<()>
+where
+    F: FnOnce(&mut Master) -> Option<()>,
+    requires { F.IsAlwaysCallable script }
+{
+    match listener.accept() {
+        Ok((stream, _)) => match Master::accept(alloc, stream) {
+            Some(mut master) => script(&mut master),
+            None => None,
+        },
+        Err(_) => None,
+    }
+}
+
 /// Lets a worker work for the master that the script is, and answers what the worker's status was.
-pub fn status_under<R, F>(rt: R, script: F) -> Result<u8, Fail>
+/// None where the script met its end.
+pub fn status_under<R, F>(rt: R, script: F) -> Option<u8>
 where
     R: Wait
         + Threads
@@ -59,8 +74,8 @@ where
     F: FnOnce(&mut Master) -> Option<()>,
     requires { F.IsAlwaysCallable script }
 {
-    let listener = TcpListener::bind(&rt, "127.0.0.1:0")?;
-    let address = listener.local_addr()?;
+    let listener = TcpListener::bind(&rt, "127.0.0.1:0").ok()?;
+    let address = listener.local_addr().ok()?;
     let worker = thread::spawn(&rt, move || {
         let mut is_first = true;
         let dial = || {
@@ -69,12 +84,12 @@ where
             stream
         };
         work_run(&rt, dial, "w0", "p", None)
-    })?;
-    let (stream, _) = listener.accept()?;
-    let mut master = Master::accept(rt.alloc(), stream).ok_or("no login")?;
-    let done = script(&mut master);
-    drop(master);
+    })
+    .ok()?;
+    let done = played(rt.alloc(), &listener, script);
     let status = worker.join(&rt);
-    done.ok_or("the script met its end")?;
-    Ok(status)
+    match done {
+        Some(()) => Some(status),
+        None => None,
+    }
 }

@@ -3,6 +3,7 @@ ghost use Rattle.std.specs.Prelude.{◌≡◌};
 
 use super::cut::Cut;
 use super::{dial, waiting};
+use crate::patient::Patient;
 use crate::run::work_run;
 use bm_lane::{Blank, Drained, Ends, Yard, open};
 use bm_lines::{STDIO, Text};
@@ -15,7 +16,6 @@ use std::net::{Net, SocketAddr, TcpListener, TcpStream};
 use std::process::{Processes, SystemProcess};
 use std::random::RandomSource;
 use std::sync::Wait;
-use std::test::Fail;
 use std::thread;
 use std::thread::{JoinHandle, Threads};
 use std::time::Clock;
@@ -88,6 +88,16 @@ struct Log {
     ended: Option<Results>,
 }
 
+/// A master's end of a worker's connection.
+type Link = MasterLink<Patient<TcpStream>>;
+
+fn link_over(alloc: Global, stream: TcpStream) -> Option<Link> {
+    match waiting(alloc, stream) {
+        Some(stream) => MasterLink::accept(alloc, stream).ok(),
+        None => None,
+    }
+}
+
 /// A lane whose worker is given one command.
 #[derive(Drop)]
 struct Desk<Y: Yard, W: Wait + Drop> {
@@ -135,45 +145,73 @@ impl<Y: Yard, W: Wait + Drop> Desk<Y, W> {
 }
 
 impl<Y: Yard, W: Wait + Drop> Desk<Y, W> {
-    /// Serves connections in turn, until the command has ended.
-    fn serve_all<R: Wait + Net<Listener = TcpListener, Stream = TcpStream>>(
+    /// Whether the command has ended over one of the next connections, which are served in turn.
+    fn serves_all<R: Wait + Net<Listener = TcpListener, Stream = TcpStream>>(
         &mut self,
         rt: &R,
         listener: &TcpListener,
-    ) -> Option<()> {
+    ) -> bool {
         for _ in 0..MOST_CONNECTIONS {
-            let (stream, _) = listener.accept().ok()?;
-            if self.serve(rt, stream).is_some() {
-                return Some(());
+            let Ok((stream, _)) = listener.accept() else {
+                return false;
+            };
+            if self.serves(rt, stream) {
+                return true;
             }
         }
-        None
+        false
     }
 
-    /// Serves a connection until the command has ended and the worker has left.
-    fn serve<R: Wait>(&mut self, rt: &R, stream: TcpStream) -> Option<()> {
-        let alloc = self.alloc;
-        let mut arena = Bump::new(alloc);
-        let mut link = MasterLink::accept(alloc, waiting(alloc, stream)?).ok()?;
-        link.login(alloc, &mut arena, self.users.as_slice()).ok()?;
-        let (reader, carry) = (&mut self.ends.reader, &mut self.carry);
-        link.attach(rt, alloc, reader, carry).ok()?;
-        if reader.next_command() == 0 {
-            link.start(rt, alloc, reader, carry, self.argv.as_slice())
-                .ok()?;
+    /// Whether the command has ended, and its worker left, by the end of a connection.
+    fn serves<R: Wait>(&mut self, rt: &R, stream: TcpStream) -> bool {
+        match link_over(self.alloc, stream) {
+            Some(mut link) => self.serves_over(rt, &mut link),
+            None => false,
         }
+    }
+
+    fn serves_over<R: Wait>(&mut self, rt: &R, link: &mut Link) -> bool {
+        let mut arena = Bump::new(self.alloc);
+        self.is_joined(rt, &mut arena, link) && self.is_left(rt, &mut arena, link)
+    }
+
+    /// Whether the worker has logged in, and the command was started over this connection or an
+    /// earlier one.
+    fn is_joined<R: Wait>(&mut self, rt: &R, arena: &mut Bump, link: &mut Link) -> bool {
+        let (alloc, users) = (self.alloc, self.users.as_slice());
+        let (reader, carry) = (&mut self.ends.reader, &mut self.carry);
+        link.login(alloc, arena, users).is_ok()
+            && link.attach(rt, alloc, reader, carry).is_ok()
+            && (reader.next_command() != 0
+                || link
+                    .start(rt, alloc, reader, carry, self.argv.as_slice())
+                    .is_ok())
+    }
+
+    /// Whether the worker was told to leave once the command had ended, by the end of the
+    /// connection.
+    fn is_left<R: Wait>(&mut self, rt: &R, arena: &mut Bump, link: &mut Link) -> bool {
         let mut is_told = false;
         for _ in 0..MOST_TURNS {
-            let (reader, carry) = (&mut self.ends.reader, &mut self.carry);
-            if link.turn(rt, alloc, &mut arena, reader, carry).is_err() {
+            if !self.turns(rt, arena, link) {
                 break;
             }
             if !is_told && self.is_ended() {
-                link.ask(alloc, &mut self.carry, Ask::Shutdown).ok()?;
+                if link
+                    .ask(self.alloc, &mut self.carry, Ask::Shutdown)
+                    .is_err()
+                {
+                    return false;
+                }
                 is_told = true;
             }
         }
-        if is_told { Some(()) } else { None }
+        is_told
+    }
+
+    fn turns<R: Wait>(&mut self, rt: &R, arena: &mut Bump, link: &mut Link) -> bool {
+        let (reader, carry) = (&mut self.ends.reader, &mut self.carry);
+        link.turn(rt, self.alloc, arena, reader, carry).is_ok()
     }
 
     /// Whether the command has ended, once all that was heard is shown.
@@ -194,8 +232,8 @@ impl<Y: Yard, W: Wait + Drop> Desk<Y, W> {
 
     fn log(&mut self) -> Option<Log> {
         let viewer = self.ends.viewers.first_mut()?;
-        let chunk = viewer.chunk(0, STDIO, 0, u64::MAX).ok()?;
         let ended = viewer.state(0, STDIO).ok()?.ended;
+        let chunk = viewer.chunk(0, STDIO, 0, u64::MAX).ok()?;
         Some(Log {
             content: chunk.content,
             ended,
@@ -253,9 +291,37 @@ where
     let listener = TcpListener::bind(&rt, "127.0.0.1:0").ok()?;
     let address = listener.local_addr().ok()?;
     let worker = cut_worker(rt, address, cuts)?;
-    let is_served = desk.serve_all(&rt, &listener).is_some();
+    let is_served = desk.serves_all(&rt, &listener);
     drop(listener);
     Some(worker.join(&rt) == 0 && is_served)
+}
+
+/// What the lane of a new desk has of a command of a worker whose first connections are cut so.
+fn log_at<Y: Yard, W: Wait + Drop, R>(
+    rt: R,
+    desk: &mut Desk<Y, W>,
+    task: Task,
+    cuts: Cuts,
+) -> Option<Log>
+where
+    R: Wait
+        + Threads
+        + Clock
+        + RandomSource
+        + AllocGlobal
+        + Net<Listener = TcpListener, Stream = TcpStream>
+        + Processes<Started = SystemProcess>
+        + Copy
+        + Drop
+        + Send
+        + Sync
+        + 'static,
+{
+    if desk.is_ready(task.line()) && has_served(rt, desk, cuts) == Some(true) {
+        desk.log()
+    } else {
+        None
+    }
 }
 
 /// What a lane has of a command of a worker whose first connections are cut so.
@@ -280,12 +346,9 @@ where
         + 'static,
     requires { (blank.queue ≡ Y.queue 0) × (blank.copy ≡ Y.copy 0) }
 {
-    let ends = blank.ends::<Y>(rt.alloc(), 0).ok()?;
-    let mut desk = Desk::new(rt.alloc(), ends);
-    if desk.is_ready(task.line()) && has_served(rt, &mut desk, cuts) == Some(true) {
-        desk.log()
-    } else {
-        None
+    match blank.ends::<Y>(rt.alloc(), 0) {
+        Ok(ends) => log_at(rt, &mut Desk::new(rt.alloc(), ends), task, cuts),
+        Err(_) => None,
     }
 }
 
@@ -309,55 +372,45 @@ where
     log_over::<Brand, R, R>(rt, blank, task, cuts)
 }
 
-#[test]
-fn a_lane_has_the_log(rt: HostRuntime) -> Result<(), Fail> {
-    let log = log_of(rt, Task::Fail, NO_CUTS).ok_or("no log")?;
+/// Whether this is what a command leaves that says a line over each of its pipes, and fails.
+fn is_failed(log: Option<Log>) -> bool {
+    let Some(log) = log else {
+        return false;
+    };
     let content = log.content.as_str();
-    assert!(rt;
-        content.starts_with("hsh -c echo a; echo b >&2; exit 3\n")
-            && content.contains("\noa\n")
-            && content.contains("\neb\n")
-            && content.ends_with("\nhprogram finished with exit code 3\n")
-            && content.matches('\n').count() == 4
-            && log.ended == Some(Results::Failure)
-    );
-    Ok(())
+    content.starts_with("hsh -c echo a; echo b >&2; exit 3\n")
+        && content.contains("\noa\n")
+        && content.contains("\neb\n")
+        && content.ends_with("\nhprogram finished with exit code 3\n")
+        && content.matches('\n').count() == 4
+        && log.ended == Some(Results::Failure)
+}
+
+#[test]
+fn a_lane_has_the_log(rt: HostRuntime) {
+    assert!(rt; is_failed(log_of(rt, Task::Fail, NO_CUTS)));
 }
 
 /// What a lane has where each line came once, in order.
 const ONCE: &str =
     "hsh -c seq 1 9\no1\no2\no3\no4\no5\no6\no7\no8\no9\nhprogram finished with exit code 0\n";
 
-/// Whether each line comes once where these connections are cut.
-fn is_once<R>(rt: R, cuts: Cuts) -> bool
-where
-    R: Wait
-        + Threads
-        + Clock
-        + RandomSource
-        + AllocGlobal
-        + Net<Listener = TcpListener, Stream = TcpStream>
-        + Processes<Started = SystemProcess>
-        + Copy
-        + Drop
-        + Send
-        + Sync
-        + 'static,
-{
-    match log_of(rt, Task::Count, cuts) {
+/// Whether each line of a command that counts to 9 came once.
+fn is_once(log: Option<Log>) -> bool {
+    match log {
         Some(log) => log.content.as_str() == ONCE && log.ended == Some(Results::Success),
         None => false,
     }
 }
 
 #[test]
-fn each_line_comes_once_through_cuts(rt: HostRuntime) -> Result<(), Fail> {
+fn each_line_comes_once_through_cuts(rt: HostRuntime) {
     // At each of a connection's first 200 bytes, which are its handshake, and at as many about its
     // login and behind it.
     for run in 0..50usize {
         let early = IN_A_ROW * run;
         let late = 400 + early;
-        assert!(rt; is_once(rt, Cuts { early, late }), "at byte {early}");
+        let log = log_of(rt, Task::Count, Cuts { early, late });
+        assert!(rt; is_once(log), "at byte {early}");
     }
-    Ok(())
 }

@@ -108,21 +108,20 @@ impl Master {
 
     /// Starts a command that is one word.
     pub fn start_program(&mut self, command: u64, word: &str) -> Option<()> {
-        let mut vec = Vec::new(self.alloc);
-        vec.push(Value::from_str(self.alloc, word).ok()?).ok()?;
-        self.start_as(command, Value::Array(Items { vec }))
+        let words = words_of(self.alloc, word)?;
+        self.start_as(command, words)
     }
 
     fn start_as(&mut self, command: u64, value: Value<Global>) -> Option<()> {
-        let alloc = self.alloc;
-        let key = Value::from_str(alloc, "command").ok()?;
-        let mut vec = Vec::new(alloc);
-        vec.push(Pair { key, value }).ok()?;
-        self.order(Request::StartCommand {
-            command,
-            name: Text::from_str(alloc, "shell").ok()?,
-            args: Value::Map(Pairs { vec }),
-        })
+        let args = args_of(self.alloc, value)?;
+        match Text::from_str(self.alloc, "shell") {
+            Ok(name) => self.order(Request::StartCommand {
+                command,
+                name,
+                args,
+            }),
+            Err(_) => None,
+        }
     }
 
     /// Interrupts a command.
@@ -151,30 +150,45 @@ impl Master {
 
     /// Hears a message, and tells the number of a request, which isn't answered yet.
     pub fn hear_only(&mut self) -> Option<Option<u64>> {
-        let Numbered { seq, request, .. } = match self.read()? {
-            Message::Request(numbered) => numbered,
+        match self.read() {
+            Some(message) => self.note(&message),
+            None => None,
+        }
+    }
+
+    /// Keeps what a message tells, and tells the number of a request.
+    fn note(&mut self, message: &Message) -> Option<Option<u64>> {
+        match message {
+            Message::Request(numbered) => match self.note_request(&numbered.request) {
+                Some(()) => Some(Some(numbered.seq)),
+                None => None,
+            },
             Message::Response(response) => {
                 if response.exception {
                     self.refused = self.refused.saturating_add(1);
                 }
-                return Some(None);
+                Some(None)
             }
-        };
+        }
+    }
+
+    fn note_request(&mut self, request: &Request) -> Option<()> {
         match request {
             Request::Update { fields, .. } => {
                 for field in fields.as_slice() {
                     self.take(field)?;
                 }
+                Some(())
             }
             Request::Complete { fault, .. } => {
                 self.ended = self.ended.saturating_add(1);
-                if let Some(fault) = fault {
-                    self.faults.push(fault).ok()?;
+                match fault {
+                    Some(fault) => self.faults.push(fault.copy().ok()?).ok(),
+                    None => Some(()),
                 }
             }
-            _ => return None,
+            _ => None,
         }
-        Some(Some(seq))
     }
 
     /// Answers a request.
@@ -232,6 +246,26 @@ impl Master {
     /// Whether this was said.
     pub fn has_said(&self, text: &str) -> bool {
         self.said.as_str().contains(text)
+    }
+}
+
+/// The words of a command that is one word.
+fn words_of(alloc: Global, word: &str) -> Option<Value<Global>> {
+    let word = Value::from_str(alloc, word).ok()?;
+    let mut vec = Vec::new(alloc);
+    match vec.push(word) {
+        Ok(()) => Some(Value::Array(Items { vec })),
+        Err(_) => None,
+    }
+}
+
+/// The arguments of a command that is this value.
+fn args_of(alloc: Global, value: Value<Global>) -> Option<Value<Global>> {
+    let key = Value::from_str(alloc, "command").ok()?;
+    let mut vec = Vec::new(alloc);
+    match vec.push(Pair { key, value }) {
+        Ok(()) => Some(Value::Map(Pairs { vec })),
+        Err(_) => None,
     }
 }
 

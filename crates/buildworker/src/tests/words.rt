@@ -2,7 +2,6 @@
 
 use crate::arguments::read_job;
 use std::alloc::{AllocError, Global};
-use std::test::Fail;
 
 /// Whether the words ask for work.
 fn asks(alloc: Global, words: &[&str]) -> Result<bool, AllocError> {
@@ -26,28 +25,26 @@ const REFUSED: [&str; 7] = [
 ];
 
 #[test]
-fn addresses_are_read(rt: HostRuntime) -> Result<(), Fail> {
+fn addresses_are_read(rt: HostRuntime) {
     let alloc = rt.alloc();
     for address in &TAKEN {
         assert!(rt;
-            asks(alloc, &["buildworker", *address, "w0", "p"])?,
+            asks(alloc, &["buildworker", *address, "w0", "p"]) == Ok(true),
             "{address}"
         );
     }
     for address in &REFUSED {
         assert!(rt;
-            !asks(alloc, &["buildworker", *address, "w0", "p"])?,
+            asks(alloc, &["buildworker", *address, "w0", "p"]) == Ok(false),
             "{address}"
         );
     }
-    Ok(())
 }
 
 #[test]
-fn three_words_are_wanted(rt: HostRuntime) -> Result<(), Fail> {
+fn three_words_are_wanted(rt: HostRuntime) {
     let alloc = rt.alloc();
-    assert!(rt; !asks(alloc, &["buildworker"])?);
-    assert!(rt; !asks(alloc, &["buildworker", "host:1", "w0"])?);
-    assert!(rt; !asks(alloc, &["buildworker", "host:1", "w0", "p", "x"])?);
-    Ok(())
+    assert!(rt; asks(alloc, &["buildworker"]) == Ok(false));
+    assert!(rt; asks(alloc, &["buildworker", "host:1", "w0"]) == Ok(false));
+    assert!(rt; asks(alloc, &["buildworker", "host:1", "w0", "p", "x"]) == Ok(false));
 }
