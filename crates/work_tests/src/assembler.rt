@@ -2,6 +2,7 @@
 
 ghost use Rattle.std.specs.Prelude.{◌<◌, ◌≤◌, length};
 
+use crate::worker::then_drop;
 use bm_lines::{Letter, Text};
 use bm_work::Assembler;
 use rand_core::utils::NextWord;
@@ -42,7 +43,12 @@ fn rest(assembler: &mut Assembler) -> Result<Option<Text>, AllocError> {
 }
 
 fn are_texts(texts: &[Text], wanted: &[&str]) -> bool {
-    texts.len() == wanted.len() && texts.iter().zip(wanted).all(|(a, b)| a.as_str() == *b)
+    for (text, want) in texts.iter().zip(wanted) {
+        if text.as_str() != *want {
+            return false;
+        }
+    }
+    texts.len() == wanted.len()
 }
 
 /// Whether the texts are one of the longest length and these.
@@ -60,46 +66,78 @@ fn is_text(text: &Option<Text>, wanted: &[&str]) -> bool {
     }
 }
 
+/// Whether the piece gives these texts.
+fn is_fed(assembler: &mut Assembler, piece: &[u8], wanted: &[&str]) -> bool {
+    match feed(assembler, piece) {
+        Ok(texts) => then_drop(are_texts(texts.as_slice(), wanted), texts),
+        Err(_) => false,
+    }
+}
+
+fn is_rest(assembler: &mut Assembler, wanted: &[&str]) -> bool {
+    match rest(assembler) {
+        Ok(text) => then_drop(is_text(&text, wanted), text),
+        Err(_) => false,
+    }
+}
+
 /// Whether the assembler gives these texts.
-fn gives(assembler: &mut Assembler, row: &Row) -> Result<bool, AllocError> {
-    match row.0 {
-        Feed(piece) => Ok(are_texts(feed(assembler, piece)?.as_slice(), row.1)),
-        Rest => Ok(is_text(&rest(assembler)?, row.1)),
+fn gives(assembler: &mut Assembler, (ask, wanted): &Row) -> bool {
+    match ask {
+        Feed(piece) => is_fed(assembler, piece, wanted),
+        Rest => is_rest(assembler, wanted),
     }
 }
 
 /// The assembler gives what the rows say; they count from 0.
-fn goes_on(rt: &impl Abort, assembler: &mut Assembler, rows: &[Row]) -> Result<(), Fail> {
+fn goes_on(rt: &impl Abort, assembler: &mut Assembler, rows: &[Row]) {
     for (n, row) in rows.iter().enumerate() {
-        assert!(rt; gives(assembler, row)?, "row {n}");
+        assert!(rt; gives(assembler, row), "row {n}");
     }
-    Ok(())
 }
 
-/// Adds the texts that the piece gives.
-fn add(assembler: &mut Assembler, piece: &[u8], all: &mut Vec<Text>) -> Result<(), AllocError> {
-    let mut texts = feed(assembler, piece)?;
-    all.append(&mut texts)?;
-    Ok(())
+/// Whether the texts that the piece gives are added.
+fn adds(assembler: &mut Assembler, piece: &[u8], all: &mut Vec<Text>) -> bool {
+    match feed(assembler, piece) {
+        Ok(mut texts) => then_drop(all.append(&mut texts).is_ok(), texts),
+        Err(_) => false,
+    }
 }
 
-fn try_texts_of(alloc: Global, pieces: &[&[u8]]) -> Result<Vec<Text>, AllocError> {
-    let mut assembler = Assembler::new(alloc, Letter::O);
-    let mut all = Vec::new(alloc);
+fn adds_rest(assembler: &mut Assembler, all: &mut Vec<Text>) -> bool {
+    match rest(assembler) {
+        Ok(Some(text)) => all.push(text).is_ok(),
+        Ok(None) => true,
+        Err(_) => false,
+    }
+}
+
+/// Whether the texts of the pieces are added, with the last one.
+fn adds_all(assembler: &mut Assembler, pieces: &[&[u8]], all: &mut Vec<Text>) -> bool {
     for piece in pieces {
-        add(&mut assembler, piece, &mut all)?;
+        if !adds(assembler, piece, all) {
+            return false;
+        }
     }
-    if let Some(text) = rest(&mut assembler)? {
-        all.push(text)?;
+    adds_rest(assembler, all)
+}
+
+fn try_texts_of(alloc: Global, pieces: &[&[u8]]) -> Option<Vec<Text>> {
+    let mut all = Vec::new(alloc);
+    let mut assembler = Assembler::new(alloc, Letter::O);
+    let is_whole = adds_all(&mut assembler, pieces, &mut all);
+    if then_drop(is_whole, assembler) {
+        Some(all)
+    } else {
+        None
     }
-    Ok(all)
 }
 
 /// The texts of the pieces, with the last one, once more where memory was refused.
-fn texts_of(alloc: Global, pieces: &[&[u8]]) -> Result<Vec<Text>, AllocError> {
+fn texts_of(alloc: Global, pieces: &[&[u8]]) -> Option<Vec<Text>> {
     match try_texts_of(alloc, pieces) {
-        Ok(texts) => Ok(texts),
-        Err(_) => try_texts_of(alloc, pieces),
+        Some(texts) => Some(texts),
+        None => try_texts_of(alloc, pieces),
     }
 }
 
@@ -112,7 +150,12 @@ fn long_line(alloc: Global, len: usize) -> Result<Vec<u8>, AllocError> {
 }
 
 fn are_same(some: &[Text], others: &[Text]) -> bool {
-    some.len() == others.len() && some.iter().zip(others).all(|(a, b)| a.is(b))
+    for (one, other) in some.iter().zip(others) {
+        if !one.is(other) {
+            return false;
+        }
+    }
+    some.len() == others.len()
 }
 
 fn push_letters(bytes: &mut Vec<u8>, len: usize) -> Result<(), AllocError> {
@@ -137,7 +180,16 @@ fn push_part(random: &mut Pcg32, bytes: &mut Vec<u8>, longest: usize) -> Result<
         }
         _ => b"a",
     };
-    bytes.extend_from_slice(part)?;
+    bytes.extend_from_slice(part)
+}
+
+fn push_parts(bytes: &mut Vec<u8>, seed: u64, parts: u32, longest: usize) -> Result<(), AllocError>
+    requires { 0 < longest }
+{
+    let mut random = Pcg32::new(seed, 54);
+    for _ in 0..parts {
+        push_part(&mut random, bytes, longest)?;
+    }
     Ok(())
 }
 
@@ -149,11 +201,8 @@ fn try_random_bytes(
 ) -> Result<Vec<u8>, AllocError>
     requires { 0 < longest }
 {
-    let mut random = Pcg32::new(seed, 54);
     let mut bytes = Vec::new(alloc);
-    for _ in 0..parts {
-        push_part(&mut random, &mut bytes, longest)?;
-    }
+    push_parts(&mut bytes, seed, parts, longest)?;
     Ok(bytes)
 }
 
@@ -168,7 +217,7 @@ fn random_bytes(alloc: Global, seed: u64, parts: u32, longest: usize) -> Result<
 }
 
 #[test]
-fn pieces_come_together_to_lines(rt: HostRuntime) -> Result<(), Fail> {
+fn pieces_come_together_to_lines(rt: HostRuntime) {
     static ROWS: [Row; 4] = [
         (Feed(b"ab"), &[]),
         (Feed(b"c\nd"), &["abc\n"]),
@@ -176,82 +225,141 @@ fn pieces_come_together_to_lines(rt: HostRuntime) -> Result<(), Fail> {
         (Rest, &[]),
     ];
     let mut assembler = Assembler::new(rt.alloc(), Letter::O);
-    assert_eq!(rt; assembler.letter(), Letter::O);
-    goes_on(&rt, &mut assembler, &ROWS)
+    assert!(rt; assembler.letter() == Letter::O);
+    goes_on(&rt, &mut assembler, &ROWS);
+}
+
+/// Whether the piece gives one text, of the longest length.
+fn gives_a_long_text(assembler: &mut Assembler, piece: &[u8]) -> bool {
+    match feed(assembler, piece) {
+        Ok(texts) => then_drop(is_long_then(texts.as_slice(), &[]), texts),
+        Err(_) => false,
+    }
 }
 
 #[test]
 fn long_line_is_cut(rt: HostRuntime) -> Result<(), Fail> {
     static ROWS: [Row; 2] = [(Rest, &["x"]), (Rest, &[])];
-    let mut assembler = Assembler::new(rt.alloc(), Letter::O);
     let long = long_line(rt.alloc(), 16_385)?;
-    let texts = feed(&mut assembler, long.as_slice())?;
-    assert!(rt; is_long_then(texts.as_slice(), &[]));
-    goes_on(&rt, &mut assembler, &ROWS)
+    let mut assembler = Assembler::new(rt.alloc(), Letter::O);
+    assert!(rt; gives_a_long_text(&mut assembler, long.as_slice()));
+    goes_on(&rt, &mut assembler, &ROWS);
+    Ok(())
+}
+
+/// Whether the pieces have a text of the longest length, and these behind it.
+fn have_a_long_text(alloc: Global, pieces: &[&[u8]], wanted: &[&str]) -> bool {
+    match texts_of(alloc, pieces) {
+        Some(texts) => then_drop(is_long_then(texts.as_slice(), wanted), texts),
+        None => false,
+    }
 }
 
 #[test]
 fn line_of_the_longest_length_is_two_texts(rt: HostRuntime) -> Result<(), Fail> {
     let long = long_line(rt.alloc(), 16_384)?;
-    let texts = texts_of(rt.alloc(), &[long.as_slice(), b"\n"])?;
-    assert!(rt; is_long_then(texts.as_slice(), &["\n"]));
+    assert!(rt; have_a_long_text(rt.alloc(), &[long.as_slice(), b"\n"], &["\n"]));
     Ok(())
 }
 
 #[test]
-fn character_in_two_pieces_is_whole(rt: HostRuntime) -> Result<(), Fail> {
+fn character_in_two_pieces_is_whole(rt: HostRuntime) {
     static ROWS: [Row; 2] = [(Feed(b"\xc3"), &[]), (Feed(b"\xa9\n"), &["\u{e9}\n"])];
-    goes_on(&rt, &mut Assembler::new(rt.alloc(), Letter::O), &ROWS)
+    goes_on(&rt, &mut Assembler::new(rt.alloc(), Letter::O), &ROWS);
+}
+
+fn have_texts(alloc: Global, pieces: &[&[u8]], wanted: &[&str]) -> bool {
+    match texts_of(alloc, pieces) {
+        Some(texts) => then_drop(are_texts(texts.as_slice(), wanted), texts),
+        None => false,
+    }
 }
 
 /// The example of Rust's `String::from_utf8_lossy`.
 #[test]
-fn bytes_that_are_no_text_are_replaced(rt: HostRuntime) -> Result<(), Fail> {
-    let texts = texts_of(rt.alloc(), &[b"Hello \xF0\x90\x80World"])?;
-    assert!(rt; are_texts(texts.as_slice(), &["Hello \u{fffd}World"]));
-    Ok(())
+fn bytes_that_are_no_text_are_replaced(rt: HostRuntime) {
+    assert!(rt;
+        have_texts(
+            rt.alloc(),
+            &[b"Hello \xF0\x90\x80World"],
+            &["Hello \u{fffd}World"]
+        )
+    );
+}
+
+/// Whether the pieces have the texts of the whole.
+fn are_alike(alloc: Global, pieces: &[&[u8]], whole: &[Text]) -> bool {
+    match texts_of(alloc, pieces) {
+        Some(texts) => then_drop(are_same(texts.as_slice(), whole), texts),
+        None => false,
+    }
 }
 
 /// Whether the texts are the same where the bytes are cut at the place.
-fn is_same_cut(
-    alloc: Global,
-    bytes: &[u8],
-    place: usize,
-    whole: &[Text],
-) -> Result<bool, AllocError>
+fn is_same_cut(alloc: Global, bytes: &[u8], place: usize, whole: &[Text]) -> bool
     requires { place ≤ length bytes.now }
 {
     let (first, second) = bytes.split_at(place);
-    let cut = texts_of(alloc, &[first, second])?;
-    Ok(are_same(cut.as_slice(), whole))
+    are_alike(alloc, &[first, second], whole)
+}
+
+fn count_of_line_ends(bytes: &[u8]) -> usize {
+    let mut count = 0usize;
+    for byte in bytes {
+        if *byte == b'\n' {
+            count = count.saturating_add(1);
+        }
+    }
+    count
+}
+
+fn count_of_lines(texts: &[Text]) -> usize {
+    let mut count = 0usize;
+    for text in texts {
+        if text.as_str().ends_with('\n') {
+            count = count.saturating_add(1);
+        }
+    }
+    count
 }
 
 /// Whether a text ends with a line just for each line end in the bytes, of which there is one at
 /// least.
 fn has_lines_of(texts: &[Text], bytes: &[u8]) -> bool {
-    let wanted = bytes.iter().filter(|byte| **byte == b'\n').count();
-    let lines = texts.iter().filter(|text| text.as_str().ends_with('\n'));
-    0 < wanted && lines.count() == wanted
+    let wanted = count_of_line_ends(bytes);
+    0 < wanted && count_of_lines(texts) == wanted
+}
+
+/// Whether the bytes have these texts of their lines, wherever they are cut.
+fn are_same_cuts(alloc: Global, bytes: &[u8], whole: &[Text]) -> bool {
+    for place in 0..bytes.len() + 1 {
+        if !is_same_cut(alloc, bytes, place, whole) {
+            return false;
+        }
+    }
+    has_lines_of(whole, bytes)
+}
+
+fn are_whole_at_every_cut(alloc: Global, bytes: &[u8]) -> bool {
+    match texts_of(alloc, &[bytes]) {
+        Some(whole) => then_drop(are_same_cuts(alloc, bytes, whole.as_slice()), whole),
+        None => false,
+    }
 }
 
 /// Whether random bytes have the texts of their lines, wherever they are cut.
-fn is_same_at_every_cut(alloc: Global, seed: u64) -> Result<bool, AllocError> {
-    let bytes = random_bytes(alloc, seed, 100, 9)?;
-    let whole = texts_of(alloc, &[bytes.as_slice()])?;
-    for place in 0..bytes.len() + 1 {
-        if !is_same_cut(alloc, bytes.as_slice(), place, whole.as_slice())? {
-            return Ok(false);
-        }
+fn is_same_at_every_cut(alloc: Global, seed: u64) -> bool {
+    match random_bytes(alloc, seed, 100, 9) {
+        Ok(bytes) => then_drop(are_whole_at_every_cut(alloc, bytes.as_slice()), bytes),
+        Err(_) => false,
     }
-    Ok(has_lines_of(whole.as_slice(), bytes.as_slice()))
 }
 
 #[test]
-fn pieces_play_no_part_at_every_cut(rt: HostRuntime) -> Result<(), Fail> {
+fn pieces_play_no_part_at_every_cut(rt: HostRuntime) {
     for seed in 0..4 {
-        assert!(rt; is_same_at_every_cut(rt.alloc(), seed)?, "seed {seed}");
+        assert!(rt; is_same_at_every_cut(rt.alloc(), seed), "seed {seed}");
     }
-    Ok(())
 }
 
 /// Room for the pieces of a long line.
@@ -262,10 +370,13 @@ fn room<'a>(alloc: Global) -> Result<Vec<&'a [u8]>, AllocError> {
     }
 }
 
-/// The bytes in pieces of random lengths.
-fn pieces_of<'a>(alloc: Global, seed: u64, bytes: &'a [u8]) -> Result<Vec<&'a [u8]>, AllocError> {
+/// Adds the bytes in pieces of random lengths.
+fn push_pieces<'a>(
+    pieces: &mut Vec<&'a [u8]>,
+    seed: u64,
+    bytes: &'a [u8],
+) -> Result<(), AllocError> {
     let mut random = Pcg32::new(seed, 1);
-    let mut pieces = room(alloc)?;
     let mut left = bytes;
     for _ in 0..PIECES {
         let len = (random.next_word() as usize % 8_192).min(left.len());
@@ -274,25 +385,45 @@ fn pieces_of<'a>(alloc: Global, seed: u64, bytes: &'a [u8]) -> Result<Vec<&'a [u
         left = more;
     }
     pieces.push(left)?;
+    Ok(())
+}
+
+fn pieces_of<'a>(alloc: Global, seed: u64, bytes: &'a [u8]) -> Result<Vec<&'a [u8]>, AllocError> {
+    let mut pieces = room(alloc)?;
+    push_pieces(&mut pieces, seed, bytes)?;
     Ok(pieces)
 }
 
+/// Whether the bytes in pieces have these texts.
+fn are_same_in_pieces(alloc: Global, seed: u64, bytes: &[u8], whole: &[Text]) -> bool {
+    match pieces_of(alloc, seed, bytes) {
+        Ok(pieces) => then_drop(are_alike(alloc, pieces.as_slice(), whole), pieces),
+        Err(_) => false,
+    }
+}
+
+fn are_whole_in_pieces(alloc: Global, seed: u64, bytes: &[u8]) -> bool {
+    match texts_of(alloc, &[bytes]) {
+        Some(whole) => {
+            let is_same = has_lines_of(whole.as_slice(), bytes)
+                && are_same_in_pieces(alloc, seed, bytes, whole.as_slice());
+            then_drop(is_same, whole)
+        }
+        None => false,
+    }
+}
+
 /// Whether long lines in pieces have the texts that they have as a whole.
-fn is_same_in_pieces(alloc: Global, seed: u64) -> Result<bool, AllocError> {
-    let bytes = random_bytes(alloc, seed, 64, 20_000)?;
-    let whole = texts_of(alloc, &[bytes.as_slice()])?;
-    let pieces = pieces_of(alloc, seed, bytes.as_slice())?;
-    let cut = texts_of(alloc, pieces.as_slice())?;
-    Ok(
-        has_lines_of(whole.as_slice(), bytes.as_slice())
-            && are_same(cut.as_slice(), whole.as_slice()),
-    )
+fn is_same_in_pieces(alloc: Global, seed: u64) -> bool {
+    match random_bytes(alloc, seed, 64, 20_000) {
+        Ok(bytes) => then_drop(are_whole_in_pieces(alloc, seed, bytes.as_slice()), bytes),
+        Err(_) => false,
+    }
 }
 
 #[test]
-fn pieces_play_no_part_over_long_lines(rt: HostRuntime) -> Result<(), Fail> {
+fn pieces_play_no_part_over_long_lines(rt: HostRuntime) {
     for seed in 0..8 {
-        assert!(rt; is_same_in_pieces(rt.alloc(), seed)?, "seed {seed}");
+        assert!(rt; is_same_in_pieces(rt.alloc(), seed), "seed {seed}");
     }
-    Ok(())
 }

