@@ -9,7 +9,6 @@ use bm_msg::{
 };
 use bm_value::{EncodeError, Value, decode_whole};
 use std::alloc::{AllocError, Global};
-use std::test::Fail;
 
 const UPDATE_ZERO: &[u8] =
     b"\x84\xaaseq_number\x00\xa2op\xa6update\xaacommand_id\xa10\xa4args\x91\x92\xa6stdout\xa2a\n";
@@ -40,20 +39,26 @@ const AUTH_OF_A_SESSION: &[u8] =
 const UPDATE_OF_A_BAD_ITEM: &[u8] =
     b"\x84\xaaseq_number\x05\xa2op\xa6update\xaacommand_id\xa10\xa4args\x92\x92\xa6stdout\xa1a\x92\xa6stdout\x90";
 
-/// Why the bytes are no message.
-fn fault(alloc: Global, bytes: &[u8]) -> Option<MsgError> {
-    match message(alloc, bytes) {
-        Ok(_) => None,
-        Err(fault) => Some(fault),
-    }
+/// The answer, once the value is dropped: here, where the proof doesn't ask of which type it is.
+fn then_drop<T: Drop>(answer: bool, _value: T) -> bool {
+    answer
 }
 
 /// The message that the bytes spell. Bytes that spell no value count as no map.
 fn message(alloc: Global, bytes: &[u8]) -> Result<Message, MsgError> {
     match decode_whole(alloc, bytes) {
-        Ok(value) => read(alloc, &value),
+        Ok(value) => {
+            let message = read(alloc, &value);
+            drop(value);
+            message
+        }
         Err(_) => Err(MsgError::NotMap),
     }
+}
+
+/// Why the bytes are no message.
+fn fault(alloc: Global, bytes: &[u8]) -> Option<MsgError> {
+    message(alloc, bytes).err()
 }
 
 fn written(alloc: Global, message: &Message) -> Result<Vec<u8>, EncodeError> {
@@ -66,7 +71,7 @@ fn written(alloc: Global, message: &Message) -> Result<Vec<u8>, EncodeError> {
 /// Whether the message is written as these bytes.
 fn is_written_as(alloc: Global, message: &Message, want: &[u8]) -> bool {
     match written(alloc, message) {
-        Ok(bytes) => bytes.as_slice() == want,
+        Ok(bytes) => then_drop(bytes.as_slice() == want, bytes),
         Err(_) => false,
     }
 }
@@ -74,7 +79,7 @@ fn is_written_as(alloc: Global, message: &Message, want: &[u8]) -> bool {
 /// Whether a copy of the message is written as these bytes.
 fn is_copied(alloc: Global, message: &Message, want: &[u8]) -> bool {
     match message.copy(alloc) {
-        Ok(copied) => is_written_as(alloc, &copied, want),
+        Ok(copied) => then_drop(is_written_as(alloc, &copied, want), copied),
         Err(_) => false,
     }
 }
@@ -82,7 +87,10 @@ fn is_copied(alloc: Global, message: &Message, want: &[u8]) -> bool {
 /// Whether the bytes are a message whose written form is `want`, as is that of a copy.
 fn is_written(alloc: Global, bytes: &[u8], want: &[u8]) -> bool {
     match message(alloc, bytes) {
-        Ok(message) => { is_written_as(alloc, &message, want) && is_copied(alloc, &message, want) }
+        Ok(message) => {
+            let is_right = is_written_as(alloc, &message, want) && is_copied(alloc, &message, want);
+            then_drop(is_right, message)
+        }
         Err(_) => false,
     }
 }
@@ -245,19 +253,24 @@ fn what_is_no_message_is_told_why(rt: HostRuntime) {
 /// A text of an update: its number, the command, the letter and the text.
 type OneText = (u64, u64, Letter, &'static str);
 
-/// Whether what is seen of the bytes' message is this text, or none.
-fn is_seen(alloc: Global, bytes: &[u8], want: Option<OneText>) -> bool {
-    let Ok(value) = decode_whole(alloc, bytes) else {
-        return false;
-    };
-    match (read_text(&value), want) {
+/// Whether what is seen of the value's message is this text, or none.
+fn is_seen_in(value: &Value<Global>, want: &Option<OneText>) -> bool {
+    match (read_text(value), want) {
         (Some(update), Some((seq, command, letter, text))) => {
-            update.seq == seq
-                && update.command == command
-                && update.letter == letter
-                && update.text == text
+            update.seq == *seq
+                && update.command == *command
+                && update.letter == *letter
+                && update.text == *text
         }
-        (seen, want) => seen.is_none() && want.is_none(),
+        (None, None) => true,
+        _ => false,
+    }
+}
+
+fn is_seen(alloc: Global, bytes: &[u8], want: &Option<OneText>) -> bool {
+    match decode_whole(alloc, bytes) {
+        Ok(value) => then_drop(is_seen_in(&value, want), value),
+        Err(_) => false,
     }
 }
 
@@ -293,7 +306,7 @@ const SEEN: [(&[u8], Option<OneText>); 9] = [
 #[test]
 fn updates_of_one_text_are_seen(rt: HostRuntime) {
     for (bytes, want) in &SEEN {
-        assert!(&rt; is_seen(rt.alloc(), bytes, *want), "{bytes:?}");
+        assert!(&rt; is_seen(rt.alloc(), bytes, want), "{bytes:?}");
     }
 }
 
@@ -311,35 +324,48 @@ fn is_update_zero(message: &Message, said: &str) -> bool {
     numbered.seq == 0 && *command == 0 && text.as_str() == said
 }
 
-#[test]
-fn update_is_read_as_its_field(rt: HostRuntime) -> Result<(), Fail> {
-    let update = message(rt.alloc(), UPDATE_ZERO)?;
-    assert!(rt; is_update_zero(&update, "a\n"));
-    Ok(())
+fn is_read_as_update_zero(alloc: Global, bytes: &[u8], said: &str) -> bool {
+    match message(alloc, bytes) {
+        Ok(message) => then_drop(is_update_zero(&message, said), message),
+        Err(_) => false,
+    }
 }
 
-/// Update 5 with a text of a log whose name has this many bytes.
-fn update_of_name(alloc: Global, length: u16) -> Result<Vec<u8>, Fail> {
-    let mut bytes = Vec::from_slice(
-        alloc,
+#[test]
+fn update_is_read_as_its_field(rt: HostRuntime) {
+    assert!(rt; is_read_as_update_zero(rt.alloc(), UPDATE_ZERO, "a\n"));
+}
+
+/// Adds update 5 with a text of a log whose name has this many bytes.
+fn push_update_of_name(bytes: &mut Vec<u8>, length: u16) -> Result<(), AllocError> {
+    bytes.extend_from_slice(
         b"\x84\xaaseq_number\x05\xa2op\xa6update\xaacommand_id\xa10\xa4args\x91\x92\xa3log\x92\xda",
     )?;
     bytes.extend_from_slice(&length.to_be_bytes())?;
     for _ in 0..length {
         bytes.push(b'l')?;
     }
-    bytes.extend_from_slice(b"\xa1x")?;
+    bytes.extend_from_slice(b"\xa1x")
+}
+
+fn update_of_name(alloc: Global, length: u16) -> Result<Vec<u8>, AllocError> {
+    let mut bytes = Vec::new(alloc);
+    push_update_of_name(&mut bytes, length)?;
     Ok(bytes)
 }
 
+/// Whether a name of a log with this many bytes is a fault, and which one.
+fn has_fault(alloc: Global, length: u16, want: Option<MsgError>) -> bool {
+    match update_of_name(alloc, length) {
+        Ok(bytes) => then_drop(fault(alloc, bytes.as_slice()) == want, bytes),
+        Err(_) => false,
+    }
+}
+
 #[test]
-fn names_of_logs_have_255_bytes_at_most(rt: HostRuntime) -> Result<(), Fail> {
-    let alloc = rt.alloc();
-    let longest = update_of_name(alloc, 255)?;
-    let too_long = update_of_name(alloc, 256)?;
-    assert!(rt; fault(alloc, longest.as_slice()).is_none());
-    assert!(rt; fault(alloc, too_long.as_slice()) == Some(MsgError::BadArgs(5)));
-    Ok(())
+fn names_of_logs_have_255_bytes_at_most(rt: HostRuntime) {
+    assert!(rt; has_fault(rt.alloc(), 255, None));
+    assert!(rt; has_fault(rt.alloc(), 256, Some(MsgError::BadArgs(5))));
 }
 
 /// What bytes say.
@@ -360,9 +386,20 @@ fn what_was_read(read: &Result<Incoming, MsgError>) -> Says {
     }
 }
 
+fn what_is_heard(alloc: Global, value: &Value<Global>) -> Says {
+    let read = Incoming::read(alloc, value);
+    let says = what_was_read(&read);
+    drop(read);
+    says
+}
+
 fn what_is_said(alloc: Global, bytes: &[u8]) -> Says {
     match decode_whole(alloc, bytes) {
-        Ok(value) => what_was_read(&Incoming::read(alloc, &value)),
+        Ok(value) => {
+            let says = what_is_heard(alloc, &value);
+            drop(value);
+            says
+        }
         Err(_) => Says::Other,
     }
 }
@@ -377,7 +414,7 @@ fn bad_arguments_are_no_fault_of_what_is_heard(rt: HostRuntime) {
 
 fn are_bytes(written: Result<Vec<u8>, AllocError>, want: &[u8]) -> bool {
     match written {
-        Ok(bytes) => bytes.as_slice() == want,
+        Ok(bytes) => then_drop(bytes.as_slice() == want, bytes),
         Err(_) => false,
     }
 }
@@ -385,50 +422,79 @@ fn are_bytes(written: Result<Vec<u8>, AllocError>, want: &[u8]) -> bool {
 #[test]
 fn answers_are_nil_or_an_exception(rt: HostRuntime) {
     let alloc = rt.alloc();
-    let nil = write_answer(alloc, 0, None);
+    assert!(rt; are_bytes(write_answer(alloc, 0, None), RESPONSE_ZERO));
     let exception = write_answer(alloc, 1, Some("no such command"));
-    assert!(rt; are_bytes(nil, RESPONSE_ZERO));
     assert!(rt; are_bytes(exception, EXCEPTION_ONE));
 }
 
-/// Empty arrays, one inside another.
-fn nested(alloc: Global, depth: usize) -> Result<Value<Global>, Fail> {
-    let mut bytes = Vec::new(alloc);
+/// Adds empty arrays, one inside another.
+fn push_nested(bytes: &mut Vec<u8>, depth: usize) -> Result<(), AllocError> {
     for _ in 1..depth {
         bytes.push(0x91)?;
     }
     bytes.push(0x90)?;
-    Ok(decode_whole(alloc, bytes.as_slice())?)
+    Ok(())
 }
 
-/// Why a start with args that nest this deep isn't written.
-fn start_fault(alloc: Global, depth: usize) -> Result<Option<EncodeError>, Fail> {
+/// Empty arrays, one inside another.
+fn nested(alloc: Global, depth: usize) -> Option<Value<Global>> {
+    let mut bytes = Vec::new(alloc);
+    push_nested(&mut bytes, depth).ok()?;
+    let value = decode_whole(alloc, bytes.as_slice()).ok();
+    drop(bytes);
+    value
+}
+
+/// Why a start with these args isn't written.
+fn start_fault(alloc: Global, name: Text, args: Value<Global>) -> Option<EncodeError> {
     let request = Request::StartCommand {
         command: 0,
-        name: Text::from_str(alloc, "shell")?,
-        args: nested(alloc, depth)?,
+        name,
+        args,
     };
-    Ok(write_request(alloc, &Numbered { seq: 0, request }).err())
+    let start = Numbered { seq: 0, request };
+    let fault = write_request(alloc, &start).err();
+    drop(start);
+    fault
 }
 
-/// Why a response whose result nests this deep isn't written.
-fn response_fault(alloc: Global, depth: usize) -> Result<Option<EncodeError>, Fail> {
+/// Whether a start with args that nest this deep has the fault, or none.
+fn start_has(alloc: Global, depth: usize, want: Option<EncodeError>) -> bool {
+    let Ok(name) = Text::from_str(alloc, "shell") else {
+        return false;
+    };
+    match nested(alloc, depth) {
+        Some(args) => start_fault(alloc, name, args) == want,
+        None => false,
+    }
+}
+
+/// Why a response whose result is the value isn't written.
+fn response_fault(alloc: Global, value: Value<Global>) -> Option<EncodeError> {
     let response = Response {
         seq: 0,
-        result: nested(alloc, depth)?,
+        result: value,
         exception: false,
     };
-    Ok(write_response(alloc, &response).err())
+    let fault = write_response(alloc, &response).err();
+    drop(response);
+    fault
+}
+
+/// Whether a response whose result nests this deep has the fault, or none.
+fn response_has(alloc: Global, depth: usize, want: Option<EncodeError>) -> bool {
+    match nested(alloc, depth) {
+        Some(value) => response_fault(alloc, value) == want,
+        None => false,
+    }
 }
 
 #[test]
-fn parts_nest_31_deep_and_no_deeper(rt: HostRuntime) -> Result<(), Fail> {
+fn parts_nest_31_deep_and_no_deeper(rt: HostRuntime) {
     let alloc = rt.alloc();
-    assert!(rt; start_fault(alloc, 31)?.is_none());
-    assert!(rt; start_fault(alloc, 32)? == Some(EncodeError::TooDeep));
-    assert!(rt; response_fault(alloc, 31)?.is_none());
-    assert!(rt; response_fault(alloc, 32)? == Some(EncodeError::TooDeep));
-    Ok(())
+    let too_deep = Some(EncodeError::TooDeep);
+    assert!(rt; start_has(alloc, 31, None) && start_has(alloc, 32, too_deep));
+    assert!(rt; response_has(alloc, 31, None) && response_has(alloc, 32, too_deep));
 }
 
 /// The text of each fault.
@@ -442,7 +508,7 @@ const TEXTS: [(MsgError, &str); 5] = [
 
 fn is_told(alloc: Global, fault: MsgError, want: &str) -> bool {
     match fault.to_string(alloc) {
-        Ok(told) => told.as_str() == want,
+        Ok(told) => then_drop(told.as_str() == want, told),
         Err(_) => false,
     }
 }

@@ -4,12 +4,11 @@
 
 use super::{
     AUTH_OF_A_SESSION, COMPLETE_ONE, EXCEPTION_ONE, NAMED_UPDATE, START_ZERO, UPDATE_OF_A_BAD_ITEM,
-    UPDATE_ZERO, message, written,
+    UPDATE_ZERO, message, then_drop, written,
 };
 use bm_msg::{Message, MsgError, read};
 use bm_value::{DecodeError, EncodeError, Value, decode_whole};
 use std::alloc::{AllocError, Global};
-use std::test::Fail;
 
 fn message_again(alloc: Global, bytes: &[u8]) -> Result<Message, MsgError> {
     match message(alloc, bytes) {
@@ -35,7 +34,7 @@ fn written_again(alloc: Global, message: &Message) -> Result<Vec<u8>, EncodeErro
 /// Whether the message is written as these bytes.
 fn is_written_again(alloc: Global, message: &Message, want: &[u8]) -> bool {
     match written_again(alloc, message) {
-        Ok(bytes) => bytes.as_slice() == want,
+        Ok(bytes) => then_drop(bytes.as_slice() == want, bytes),
         Err(_) => false,
     }
 }
@@ -43,7 +42,7 @@ fn is_written_again(alloc: Global, message: &Message, want: &[u8]) -> bool {
 /// Whether a copy of the message is written as these bytes.
 fn is_copied_again(alloc: Global, message: &Message, want: &[u8]) -> bool {
     match copied_again(alloc, message) {
-        Ok(copied) => is_written_again(alloc, &copied, want),
+        Ok(copied) => then_drop(is_written_again(alloc, &copied, want), copied),
         Err(_) => false,
     }
 }
@@ -53,7 +52,9 @@ fn is_copied_again(alloc: Global, message: &Message, want: &[u8]) -> bool {
 fn stands_refusal(alloc: Global, bytes: &[u8]) -> bool {
     match message_again(alloc, bytes) {
         Ok(message) => {
-            is_written_again(alloc, &message, bytes) && is_copied_again(alloc, &message, bytes)
+            let is_right = is_written_again(alloc, &message, bytes)
+                && is_copied_again(alloc, &message, bytes);
+            then_drop(is_right, message)
         }
         Err(_) => false,
     }
@@ -80,11 +81,17 @@ fn decoded_again(alloc: Global, bytes: &[u8]) -> Result<Value<Global>, DecodeErr
     }
 }
 
-/// The reader isn't called again: bad arguments are told whatever memory there is, though an item
-/// that could be copied stands before the bad one.
+/// Whether the reader, which isn't called again, has the fault with the value of the bytes.
+fn is_refused(alloc: Global, bytes: &[u8], fault: MsgError) -> bool {
+    match decoded_again(alloc, bytes) {
+        Ok(value) => then_drop(read(alloc, &value).err() == Some(fault), value),
+        Err(_) => false,
+    }
+}
+
+/// Bad arguments are told whatever memory there is, though an item that could be copied stands
+/// before the bad one.
 #[test]
-fn bad_arguments_are_told_without_memory(rt: HostRuntime) -> Result<(), Fail> {
-    let value = decoded_again(rt.alloc(), UPDATE_OF_A_BAD_ITEM)?;
-    assert!(rt; read(rt.alloc(), &value).err() == Some(MsgError::BadArgs(5)));
-    Ok(())
+fn bad_arguments_are_told_without_memory(rt: HostRuntime) {
+    assert!(rt; is_refused(rt.alloc(), UPDATE_OF_A_BAD_ITEM, MsgError::BadArgs(5)));
 }
