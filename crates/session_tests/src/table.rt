@@ -1,7 +1,7 @@
 //! The ranges of numbers that a table keeps, and a lane that is full.
 
 use self::Script::*;
-use crate::tests::{again, planned};
+use crate::tests::{heard, new_session};
 use bm_lines::Parcel;
 use bm_session::Verdict::{Done, NoCommand};
 use bm_session::*;
@@ -20,9 +20,7 @@ fn update(alloc: Global, command: u64) -> Body {
 
 /// What the session says to the event.
 fn reply_to(session: &mut Session, event: Event) -> Result<Reply, Refusal> {
-    let plan = planned(session, event)?;
-    let (reply, _) = session.commit(plan);
-    Ok(reply)
+    heard(session, event).0
 }
 
 /// An event that can be made twice.
@@ -52,18 +50,29 @@ type Range = (u64, u64, Verdict);
 /// An event, and the ranges that are there after it.
 type Row = (Script, &'static [Range]);
 
+fn is_range(seen: &Seen, (first, last, verdict): &Range) -> bool {
+    seen.first == *first && seen.last == *last && seen.verdict == *verdict
+}
+
 fn are_ranges(seen: &[Seen], wanted: &[Range]) -> bool {
-    for (range, (first, last, verdict)) in seen.iter().zip(wanted) {
-        if range.first != *first || range.last != *last || range.verdict != *verdict {
+    for (range, want) in seen.iter().zip(wanted) {
+        if !is_range(range, want) {
             return false;
         }
     }
     seen.len() == wanted.len()
 }
 
-/// Whether the session takes the event, and has these ranges then.
-fn leaves(session: &mut Session, event: Event, wanted: &[Range]) -> bool {
-    reply_to(session, event).is_ok() && are_ranges(session.seen(), wanted)
+/// Whether the session takes the row's event, and has its ranges then.
+fn leaves(alloc: Global, session: &mut Session, (script, wanted): &Row) -> bool {
+    reply_to(session, event(alloc, *script)).is_ok() && are_ranges(session.seen(), wanted)
+}
+
+/// The session goes through the rows, which count from 0.
+fn go_through(rt: &(impl AllocGlobal + Abort), session: &mut Session, rows: &[Row]) {
+    for (n, row) in rows.iter().enumerate() {
+        assert!(rt; leaves(rt.alloc(), session, row), "row {n}");
+    }
 }
 
 #[test]
@@ -80,12 +89,9 @@ fn numbers_out_of_order_are_one_range(rt: HostRuntime) -> Result<(), AllocError>
         (Cut, &[(0, 2, Done), (3, 3, NoCommand), (4, 4, Done)]),
         (Down, &[]),
     ];
-    let alloc = rt.alloc();
-    let mut session = again(|| Session::new(alloc))?;
-    for (n, (script, wanted)) in ROWS.iter().enumerate() {
-        let is_right = leaves(&mut session, event(alloc, *script), wanted);
-        assert!(rt; is_right, "row {n}");
-    }
+    let mut session = new_session(rt.alloc())?;
+    go_through(&rt, &mut session, &ROWS);
+    drop(session);
     Ok(())
 }
 
@@ -118,10 +124,10 @@ fn is_full(session: &mut Session) -> bool {
 #[test]
 fn lane_of_a_million_events_is_full(rt: HostRuntime) -> Result<(), AllocError> {
     static ALL: [Range; 1] = [(0, 999_997, Verdict::NoSuchOp)];
-    let alloc = rt.alloc();
-    let mut session = again(|| Session::new(alloc))?;
+    let mut session = new_session(rt.alloc())?;
     assert!(rt; says(&mut session, Event::Up, Ok(Reply::Silent)));
     ask(&rt, &mut session, 999_998);
     assert!(rt; are_ranges(session.seen(), &ALL) && is_full(&mut session));
+    drop(session);
     Ok(())
 }

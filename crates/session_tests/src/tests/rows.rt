@@ -4,11 +4,14 @@ use super::script::Ask::*;
 use super::script::Gives::{End, Gone, Lines, Nothing, Open};
 use super::script::Script;
 use super::script::Script::*;
-use super::{Log, Row, again, assert_logs, heard, made, play, played, plays, ran, up};
+use super::{
+    Log, Row, assert_logs, heard, made, new_session, play, played, plays, ran, then_drop, up,
+};
 use bm_session::Reply::{Answer, Interrupt, Silent, Start};
 use bm_session::Verdict::{AuthAgain, BadArgs as WrongKeys, Done, NoCommand, NoSuchOp};
 use bm_session::{Event, Refusal, Results, Session};
-use std::alloc::AllocError;
+use std::alloc::{AllocError, Global};
+use std::process::Abort;
 
 /// Update 0 of command 0: a text of standard output.
 const OUTPUT_ZERO: &[u8] =
@@ -25,9 +28,14 @@ const ERRORS_TWO: &[u8] =
 /// Request 3: a login without a password.
 const NO_PASSWORD_THREE: &[u8] = b"\x83\xaaseq_number\x03\xa2op\xa4auth\xa8username\xa2w0";
 
-/// Whether there are four events, the third a stop of command 0.
 fn is_third_a_stop(events: &[Event]) -> bool {
     events.len() == 4 && matches!(&events[2], Event::Stop(0))
+}
+
+/// Whether the session took four events, the third a stop of command 0.
+fn has_a_stop(session: Session) -> bool {
+    let trace = session.into_trace();
+    then_drop(is_third_a_stop(trace.as_slice()), trace)
 }
 
 #[test]
@@ -42,7 +50,7 @@ fn run_passes_over_refused_events(rt: HostRuntime) -> Result<(), AllocError> {
     ];
     let session = ran(&rt, &ROWS)?;
     assert!(rt; session.outcome(0) == Some(Results::Retry));
-    assert!(rt; is_third_a_stop(session.into_trace().as_slice()));
+    assert!(rt; has_a_stop(session));
     Ok(())
 }
 
@@ -62,10 +70,11 @@ fn resumed_session_doubles_no_line(rt: HostRuntime) -> Result<(), AllocError> {
     static LOGS: [Log; 1] = [("stdio", Some("oa\nob\nec\n"))];
     static LOSS: [Row; 1] = [(Down, Ok(Silent), Gone)];
     let mut session = played(&rt, &ROWS)?;
-    assert_logs(&rt, &session, &LOGS)?;
+    assert_logs(&rt, &session, &LOGS);
     assert!(rt; session.outcome(0).is_none());
-    play(&rt, &mut session, &LOSS)?;
+    play(&rt, &mut session, &LOSS);
     assert!(rt; session.outcome(0) == Some(Results::Retry));
+    drop(session);
     Ok(())
 }
 
@@ -78,9 +87,11 @@ fn named_log_is_there_from_its_first_block(rt: HostRuntime) -> Result<(), AllocE
     ];
     static LOGS: [Log; 3] = [("stdio", Some("")), ("l", Some("ox\n")), ("m", None)];
     let mut session = up(&rt)?;
-    assert_logs(&rt, &session, &NONE)?;
-    play(&rt, &mut session, &ROWS)?;
-    assert_logs(&rt, &session, &LOGS)
+    assert_logs(&rt, &session, &NONE);
+    play(&rt, &mut session, &ROWS);
+    assert_logs(&rt, &session, &LOGS);
+    drop(session);
+    Ok(())
 }
 
 #[test]
@@ -152,9 +163,30 @@ fn is_in(session: &Session, state: &State) -> bool {
         && session.next_command() == command
 }
 
+/// An event, and the state of the session after it.
+type Step = (Script, State);
+
+/// Whether the session is in the state once it heard the event, whatever it said to that.
+fn comes_to(alloc: Global, session: &mut Session, (script, state): &Step) -> bool {
+    match made(alloc, *script) {
+        Ok(event) => {
+            let _ = heard(session, event);
+            is_in(session, state)
+        }
+        Err(_) => false,
+    }
+}
+
+/// The session goes through the steps, which count from 0.
+fn go_through(rt: &(impl AllocGlobal + Abort), session: &mut Session, steps: &[Step]) {
+    for (n, step) in steps.iter().enumerate() {
+        assert!(rt; comes_to(rt.alloc(), session, step), "step {n}");
+    }
+}
+
 #[test]
 fn orders_and_commands_are_counted(rt: HostRuntime) -> Result<(), AllocError> {
-    static ROWS: [(Script, State); 9] = [
+    static STEPS: [Step; 9] = [
         // It is refused, and the session is as it began.
         (Go, (false, false, 0, 0)),
         (Up, (true, false, 0, 0)),
@@ -166,12 +198,8 @@ fn orders_and_commands_are_counted(rt: HostRuntime) -> Result<(), AllocError> {
         (Down, (false, false, 3, 2)),
         (Up, (true, false, 0, 2)),
     ];
-    let alloc = rt.alloc();
-    let mut session = again(|| Session::new(alloc))?;
-    for (n, (script, state)) in ROWS.iter().enumerate() {
-        let event = made(alloc, *script)?;
-        let _ = heard(&mut session, event);
-        assert!(rt; is_in(&session, state), "row {n}");
-    }
+    let mut session = new_session(rt.alloc())?;
+    go_through(&rt, &mut session, &STEPS);
+    drop(session);
     Ok(())
 }

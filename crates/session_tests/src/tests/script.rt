@@ -136,10 +136,9 @@ fn spelt(alloc: Global, bytes: &[u8]) -> Result<Event, AllocError> {
     let Ok(value) = decode_whole(alloc, bytes) else {
         return Err(AllocError);
     };
-    match Event::of_value(alloc, &value) {
-        Ok(event) => Ok(event),
-        Err(_) => Err(AllocError),
-    }
+    let event = Event::of_value(alloc, &value).or(Err(AllocError));
+    drop(value);
+    event
 }
 
 /// The event.

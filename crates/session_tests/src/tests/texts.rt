@@ -1,6 +1,6 @@
 //! What results, verdicts and refusals are called, and the bytes of answers.
 
-use super::again;
+use super::then_drop;
 use bm_session::*;
 use std::alloc::{AllocError, Global};
 
@@ -20,10 +20,18 @@ fn text(alloc: Global, word: Word) -> Result<String, AllocError> {
     }
 }
 
+/// The text of the word, made once more after want of memory.
+fn made(alloc: Global, word: Word) -> Result<String, AllocError> {
+    match text(alloc, word) {
+        Ok(text) => Ok(text),
+        Err(_) => text(alloc, word),
+    }
+}
+
 /// Whether what the word stands for is called so.
 fn is_called(alloc: Global, word: Word, name: &str) -> bool {
-    match again(|| text(alloc, word)) {
-        Ok(text) => text.as_str() == name,
+    match made(alloc, word) {
+        Ok(text) => then_drop(text.as_str() == name, text),
         Err(_) => false,
     }
 }
@@ -55,10 +63,18 @@ fn results_and_reasons_have_their_texts(rt: HostRuntime) {
     }
 }
 
+/// The response to request `seq`, made once more after want of memory.
+fn answer(alloc: Global, verdict: Verdict, seq: u8) -> Result<Vec<u8>, AllocError> {
+    match verdict.answer(alloc, u64::from(seq)) {
+        Ok(answer) => Ok(answer),
+        Err(_) => verdict.answer(alloc, u64::from(seq)),
+    }
+}
+
 /// Whether these are the bytes of the response to request `seq`.
 fn is_answered(alloc: Global, verdict: Verdict, seq: u8, bytes: &[u8]) -> bool {
-    match again(|| verdict.answer(alloc, u64::from(seq))) {
-        Ok(answer) => answer.as_slice() == bytes,
+    match answer(alloc, verdict, seq) {
+        Ok(answer) => then_drop(answer.as_slice() == bytes, answer),
         Err(_) => false,
     }
 }
