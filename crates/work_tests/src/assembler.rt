@@ -227,6 +227,7 @@ fn pieces_come_together_to_lines(rt: HostRuntime) {
     let mut assembler = Assembler::new(rt.alloc(), Letter::O);
     assert!(rt; assembler.letter() == Letter::O);
     goes_on(&rt, &mut assembler, &ROWS);
+    drop(assembler);
 }
 
 /// Whether the piece gives one text, of the longest length.
@@ -242,8 +243,10 @@ fn long_line_is_cut(rt: HostRuntime) -> Result<(), Fail> {
     static ROWS: [Row; 2] = [(Rest, &["x"]), (Rest, &[])];
     let long = long_line(rt.alloc(), 16_385)?;
     let mut assembler = Assembler::new(rt.alloc(), Letter::O);
-    assert!(rt; gives_a_long_text(&mut assembler, long.as_slice()));
+    let is_right = gives_a_long_text(&mut assembler, long.as_slice());
+    assert!(rt; then_drop(is_right, long));
     goes_on(&rt, &mut assembler, &ROWS);
+    drop(assembler);
     Ok(())
 }
 
@@ -258,7 +261,8 @@ fn have_a_long_text(alloc: Global, pieces: &[&[u8]], wanted: &[&str]) -> bool {
 #[test]
 fn line_of_the_longest_length_is_two_texts(rt: HostRuntime) -> Result<(), Fail> {
     let long = long_line(rt.alloc(), 16_384)?;
-    assert!(rt; have_a_long_text(rt.alloc(), &[long.as_slice(), b"\n"], &["\n"]));
+    let is_right = have_a_long_text(rt.alloc(), &[long.as_slice(), b"\n"], &["\n"]);
+    assert!(rt; then_drop(is_right, long));
     Ok(())
 }
 

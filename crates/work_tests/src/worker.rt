@@ -20,7 +20,7 @@ pub(crate) fn then_drop<T: Drop>(answer: bool, _value: T) -> bool {
     answer
 }
 
-/// Whether the worker makes of the turn what its row says, and copies of that are equal.
+/// Whether the worker makes of the turn what its row says.
 fn is_played(alloc: Global, worker: &mut Worker, (turn, gives): &Row) -> bool {
     let given = taken(alloc, worker, *turn);
     then_drop(gives.is(&given), given)

@@ -39,7 +39,7 @@ pub enum Reply {
 }
 
 impl Gives {
-    /// Whether this is what a turn gave, and so is a copy of the act or of the requests.
+    /// Whether this is what a turn gave, and copies of that are equal.
     pub fn is(&self, given: &Result<Given, WorkRefusal>) -> bool {
         match (self, given) {
             (Gives::Does(wanted, reply), Ok(Given::Heard(act, bytes))) => {

@@ -5,7 +5,7 @@ use super::rows::started;
 use super::turn::{Given, Turn, say, taken};
 use super::{Row, Worker, goes_on, is_played, then_drop};
 use bm_lines::Letter;
-use bm_work::Sent;
+use bm_work::{Sent, WorkRefusal};
 use rand_core::utils::NextWord;
 use rand_pcg::Pcg32;
 use std::alloc::{AllocError, Global};
@@ -87,13 +87,17 @@ fn moves(alloc: Global, worker: &mut Worker, random: &mut Pcg32, said: &mut Vec<
     }
 }
 
-fn sends_unanswered(alloc: Global, worker: &mut Worker, said: &[Said]) -> bool {
-    match taken(alloc, worker, Turn::Resend) {
-        Ok(Given::Sent(requests)) => {
-            then_drop(are_unanswered(requests.as_slice(), said), requests)
-        }
+/// Whether a turn gave exactly the requests without an answer.
+fn gave_unanswered(given: &Result<Given, WorkRefusal>, said: &[Said]) -> bool {
+    match given {
+        Ok(Given::Sent(requests)) => are_unanswered(requests.as_slice(), said),
         _ => false,
     }
+}
+
+fn sends_unanswered(alloc: Global, worker: &mut Worker, said: &[Said]) -> bool {
+    let given = taken(alloc, worker, Turn::Resend);
+    then_drop(gave_unanswered(&given, said), given)
 }
 
 /// Whether the worker makes a random move, and sends again then what has no answer.
