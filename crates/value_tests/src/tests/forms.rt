@@ -1,6 +1,6 @@
 //! The written forms of each kind, and the first faults, by the tables of the format.
 
-use super::{fault_in, is_rewritten, is_written, written};
+use super::{fault_in, is_rewritten, is_written, then_drop, written};
 use bm_value::{
     Bytes, DecodeError, EncodeError, Items, Num, Pair, Pairs, Text, Value, decode, decode_whole,
 };
@@ -11,13 +11,15 @@ use std::test::Fail;
 
 /// The value is written as these bytes, and they are read as that value.
 fn is_form(rt: &impl Abort, alloc: Global, value: Value, bytes: &[u8]) {
-    assert!(rt; is_written(alloc, &value, bytes));
-    assert!(rt; is_rewritten(alloc, bytes, bytes));
+    let is_right = then_drop(is_written(alloc, &value, bytes), value);
+    assert!(rt; is_right && is_rewritten(alloc, bytes, bytes), "{bytes:?}");
 }
 
 fn int_in(alloc: Global, bytes: &[u8]) -> Option<i128> {
     let value = decode_whole(alloc, bytes).ok()?;
-    int_of(&value)
+    let int = int_of(&value);
+    drop(value);
+    int
 }
 
 fn int_of(value: &Value) -> Option<i128> {
@@ -132,8 +134,10 @@ fn zeros(alloc: Global, length: usize) -> Result<Vec<u8>, AllocError> {
 
 /// Whether the written form begins with this head, has this length, and is read back.
 fn begins(alloc: Global, value: Value, head: &[u8], length: usize) -> bool {
-    match written(alloc, &value) {
-        Ok(bytes) => is_headed(alloc, &bytes, head, length),
+    let written = written(alloc, &value);
+    drop(value);
+    match written {
+        Ok(bytes) => then_drop(is_headed(alloc, &bytes, head, length), bytes),
         Err(_) => false,
     }
 }
@@ -143,7 +147,9 @@ fn is_headed(alloc: Global, bytes: &[u8], head: &[u8], length: usize) -> bool {
 }
 
 /// A value's kind and length, and its form's head and length.
-const HEADS: [(Kind, usize, &[u8], usize); 20] = [
+type Head = (Kind, usize, &'static [u8], usize);
+
+const HEADS: [Head; 20] = [
     (Kind::Str, 31, b"\xbf", 32),
     (Kind::Str, 32, b"\xd9\x20", 34),
     (Kind::Str, 256, b"\xda\x01\x00", 259),
@@ -166,16 +172,18 @@ const HEADS: [(Kind, usize, &[u8], usize); 20] = [
     (Kind::Ext, 65536, b"\xc9\x00\x01\x00\x00\x05", 65542),
 ];
 
-#[test]
-fn heads_take_the_fewest_bytes(rt: HostRuntime) -> Result<(), Fail> {
-    for (kind, length, head, whole) in &HEADS {
-        let value = value_of(rt.alloc(), *kind, *length)?;
-        assert!(rt;
-            begins(rt.alloc(), value, head, *whole),
-            "the head {head:?}"
-        );
+fn has_head(alloc: Global, (kind, length, head, whole): &Head) -> bool {
+    match value_of(alloc, *kind, *length) {
+        Ok(value) => begins(alloc, value, head, *whole),
+        Err(_) => false,
     }
-    Ok(())
+}
+
+#[test]
+fn heads_take_the_fewest_bytes(rt: HostRuntime) {
+    for head in &HEADS {
+        assert!(rt; has_head(rt.alloc(), head), "the head {:?}", head.2);
+    }
 }
 
 fn ext(alloc: Global, kind: i8, bytes: &[u8]) -> Result<Value, AllocError> {
@@ -210,7 +218,12 @@ fn scalars_and_exts_are_written_as_the_format_says(rt: HostRuntime) -> Result<()
 /// Whether the bytes are read whole, and what they spell is written as these fewer.
 fn is_read_short(alloc: Global, long: &[u8], short: &[u8]) -> bool {
     match decode(alloc, long) {
-        Ok((value, taken)) => taken == long.len() && is_written(alloc, &value, short),
+        Ok((value, taken)) => {
+            then_drop(
+                taken == long.len() && is_written(alloc, &value, short),
+                value,
+            )
+        }
         Err(_) => false,
     }
 }
@@ -259,7 +272,7 @@ fn has_the_last(value: &Value) -> bool {
 
 fn last_pair_is_found(alloc: Global) -> bool {
     match decode_whole(alloc, b"\x82\xa1a\x01\xa1a\x02") {
-        Ok(value) => has_the_last(&value),
+        Ok(value) => then_drop(has_the_last(&value), value),
         Err(_) => false,
     }
 }
@@ -267,7 +280,7 @@ fn last_pair_is_found(alloc: Global) -> bool {
 /// Whether an array has no fields.
 fn array_has_none(alloc: Global) -> bool {
     match decode_whole(alloc, b"\x91\xa1a") {
-        Ok(array) => array.get("a").is_none(),
+        Ok(array) => then_drop(array.get("a").is_none(), array),
         Err(_) => false,
     }
 }
@@ -278,8 +291,11 @@ fn the_last_pair_with_a_key_counts(rt: HostRuntime) {
     assert!(rt; array_has_none(rt.alloc()));
 }
 
-fn is_told<D: Display>(alloc: Global, fault: &D, text: &str) -> Result<bool, AllocError> {
-    Ok(format!(in alloc; "{fault}")?.as_str() == text)
+fn is_told<D: Display>(alloc: Global, fault: &D, text: &str) -> bool {
+    match format!(in alloc; "{fault}") {
+        Ok(told) => then_drop(told.as_str() == text, told),
+        Err(_) => false,
+    }
 }
 
 const READ: [(DecodeError, &str); 6] = [
@@ -298,12 +314,11 @@ const WRITE: [(EncodeError, &str); 3] = [
 ];
 
 #[test]
-fn refusals_have_their_texts(rt: HostRuntime) -> Result<(), Fail> {
+fn refusals_have_their_texts(rt: HostRuntime) {
     for (fault, text) in &READ {
-        assert!(rt; is_told(rt.alloc(), fault, text)?);
+        assert!(rt; is_told(rt.alloc(), fault, text));
     }
     for (fault, text) in &WRITE {
-        assert!(rt; is_told(rt.alloc(), fault, text)?);
+        assert!(rt; is_told(rt.alloc(), fault, text));
     }
-    Ok(())
 }

@@ -1,7 +1,7 @@
 //! Small heaps, claimed lengths, and each request for memory refused in turn.
 
 use super::vectors::{START_ZERO, UPDATE_ZERO, VECTORS};
-use super::{fault_in, is_rewritten, is_written};
+use super::{fault_in, is_copied, is_rewritten, then_drop};
 use bm_value::{Bytes, DecodeError, EncodeError, Text, Value, decode, decode_whole, encode};
 use linked_list_allocator::LocalHeap;
 use refusing::Refusing;
@@ -26,24 +26,31 @@ fn nested(alloc: Global, depth: usize) -> Result<Vec<u8>, AllocError> {
     Ok(bytes)
 }
 
-fn nested_fault(
-    alloc: Global,
-    heap: &LocalHeap,
-    depth: usize,
-) -> Result<Option<DecodeError>, AllocError> {
-    let bytes = nested(alloc, depth)?;
-    Ok(fault_in(heap, &bytes))
+/// Whether so many arrays have the fault.
+fn has_fault(alloc: Global, heap: &LocalHeap, depth: usize, fault: DecodeError) -> bool {
+    match nested(alloc, depth) {
+        Ok(bytes) => then_drop(fault_in(heap, &bytes) == Some(fault), bytes),
+        Err(_) => false,
+    }
+}
+
+/// Whether each claim is truncated.
+fn are_truncated(heap: &LocalHeap) -> bool {
+    for bytes in &CLAIMS {
+        if fault_in(heap, bytes) != Some(DecodeError::Truncated) {
+            return false;
+        }
+    }
+    true
 }
 
 #[test]
 fn no_memory_is_taken_by_a_claimed_length(rt: HostRuntime) -> Result<(), Fail> {
     let heap = LocalHeap::new(rt.alloc(), 4096)?;
-    for bytes in &CLAIMS {
-        assert!(rt; fault_in(&heap, bytes) == Some(DecodeError::Truncated));
-    }
-    assert!(rt; nested_fault(rt.alloc(), &heap, 32)? == Some(DecodeError::Truncated));
-    assert!(rt; nested_fault(rt.alloc(), &heap, 33)? == Some(DecodeError::TooDeep));
-    assert!(rt; heap.used() == 0);
+    assert!(rt; are_truncated(&heap));
+    assert!(rt; has_fault(rt.alloc(), &heap, 32, DecodeError::Truncated));
+    assert!(rt; has_fault(rt.alloc(), &heap, 33, DecodeError::TooDeep));
+    assert!(rt; then_drop(heap.used() == 0, heap));
     Ok(())
 }
 
@@ -51,7 +58,7 @@ fn no_memory_is_taken_by_a_claimed_length(rt: HostRuntime) -> Result<(), Fail> {
 fn a_small_heap_is_want_of_memory(rt: HostRuntime) -> Result<(), Fail> {
     let heap = LocalHeap::new(rt.alloc(), 64)?;
     assert!(rt; fault_in(&heap, UPDATE_ZERO) == Some(DecodeError::Mem));
-    assert!(rt; heap.used() == 0);
+    assert!(rt; then_drop(heap.used() == 0, heap));
     Ok(())
 }
 
@@ -65,6 +72,7 @@ fn decode_is_refused(rt: &impl Abort, alloc: Global, bytes: &[u8], at: u64) -> b
     } else {
         fault.is_none()
     };
+    drop(heap);
     assert!(rt; is_right, "request {at}");
     is_met
 }
@@ -89,7 +97,7 @@ fn a_fault_before_the_refused_request_is_told(rt: HostRuntime) {
     // Two requests come before the fault: the first item's text, and the places of the items.
     let heap = Refusing::new(rt.alloc(), 3);
     assert!(rt; fault_in(&heap, b"\x92\xb1seventeen letters\xc1") == Some(DecodeError::Reserved));
-    assert!(rt; !heap.is_spent());
+    assert!(rt; then_drop(!heap.is_spent(), heap));
 }
 
 /// Whether want of memory left the output at its one byte, and the value is then written behind it.
@@ -101,46 +109,49 @@ fn is_appended<A: Allocator>(value: &Value, out: &mut Vec<u8, A>) -> bool {
     encode(value, out).is_ok() && out.as_slice().strip_prefix(&[7]) == Some(START_ZERO)
 }
 
+/// Whether want of memory, where there was any, left the output, and the value is written then.
+fn is_left_or_written(value: &Value, heap: &Refusing<Global>) -> bool {
+    match Vec::from_slice(heap, &[7]) {
+        Ok(mut out) => {
+            let fault = encode(value, &mut out).err();
+            let is_right = if heap.is_spent() {
+                is_left(fault, value, &mut out)
+            } else {
+                fault.is_none()
+            };
+            then_drop(is_right, out)
+        }
+        Err(_) => false,
+    }
+}
+
 /// Whether there was such a request: refused, it leaves the output, and then the value is written.
-fn encode_is_refused(
-    rt: &impl Abort,
-    alloc: Global,
-    value: &Value,
-    at: u64,
-) -> Result<bool, AllocError> {
+fn encode_is_refused(rt: &impl Abort, alloc: Global, value: &Value, at: u64) -> bool {
     let heap = Refusing::new(alloc, at);
-    let mut out = Vec::from_slice(&heap, &[7])?;
-    let fault = encode(value, &mut out).err();
-    let is_met = heap.is_spent();
-    let is_right = if is_met {
-        is_left(fault, value, &mut out)
-    } else {
-        fault.is_none()
-    };
+    let is_right = is_left_or_written(value, &heap);
+    let is_met = then_drop(heap.is_spent(), heap);
     assert!(rt; is_right, "request {at}");
-    Ok(is_met)
+    is_met
+}
+
+/// How many requests of encode were refused.
+fn refused_by_encode(rt: &impl Abort, alloc: Global, value: &Value) -> u32 {
+    let mut met = 0u32;
+    for at in 2..1000 {
+        if !encode_is_refused(rt, alloc, value, at) {
+            break;
+        }
+        met = met.saturating_add(1);
+    }
+    met
 }
 
 #[test]
 fn each_refused_request_of_encode_leaves_the_output(rt: HostRuntime) -> Result<(), Fail> {
     let value = decode_whole(rt.alloc(), START_ZERO)?;
-    let mut met = 0u32;
-    for at in 2..1000 {
-        if !encode_is_refused(&rt, rt.alloc(), &value, at)? {
-            break;
-        }
-        met = met.saturating_add(1);
-    }
-    assert!(rt; met >= 1);
+    let met = refused_by_encode(&rt, rt.alloc(), &value);
+    assert!(rt; then_drop(met >= 1, value));
     Ok(())
-}
-
-/// Whether the value is copied, and the copy is written as these bytes.
-fn is_copied<A: Allocator + Copy>(alloc: Global, value: &Value, into: A, bytes: &[u8]) -> bool {
-    match value.copy_into(into) {
-        Ok(copy) => is_written(alloc, &copy, bytes),
-        Err(_) => false,
-    }
 }
 
 /// Whether there was such a request: refused, it is an error, and then the value is copied.
@@ -149,28 +160,35 @@ fn copy_is_refused(rt: &impl Abort, alloc: Global, value: &Value, at: u64) -> bo
     let is_err = value.copy_into(&heap).is_err();
     let is_met = heap.is_spent();
     let is_right = is_err == is_met && (!is_met || is_copied(alloc, value, &heap, START_ZERO));
+    drop(heap);
     assert!(rt; is_right, "request {at}");
     is_met
+}
+
+/// How many requests of a copy were refused.
+fn refused_by_copy(rt: &impl Abort, alloc: Global, value: &Value) -> u32 {
+    let mut met = 0u32;
+    for at in 1..1000 {
+        if !copy_is_refused(rt, alloc, value, at) {
+            break;
+        }
+        met = met.saturating_add(1);
+    }
+    met
 }
 
 #[test]
 fn each_refused_request_of_a_copy_is_want_of_memory(rt: HostRuntime) -> Result<(), Fail> {
     let value = decode_whole(rt.alloc(), START_ZERO)?;
-    let mut met = 0u32;
-    for at in 1..1000 {
-        if !copy_is_refused(&rt, rt.alloc(), &value, at) {
-            break;
-        }
-        met = met.saturating_add(1);
-    }
-    assert!(rt; met >= 2);
+    let met = refused_by_copy(&rt, rt.alloc(), &value);
+    assert!(rt; then_drop(met >= 2, value));
     Ok(())
 }
 
 /// Whether the text is copied.
 fn text_is_copied<A: Allocator + Copy>(text: &Text<A>, want: &str) -> bool {
     match text.copy() {
-        Ok(copy) => copy.as_str() == want,
+        Ok(copy) => then_drop(copy.as_str() == want, copy),
         Err(_) => false,
     }
 }
@@ -178,28 +196,39 @@ fn text_is_copied<A: Allocator + Copy>(text: &Text<A>, want: &str) -> bool {
 /// Whether the bytes are copied.
 fn bytes_are_copied<A: Allocator + Copy>(bytes: &Bytes<A>, want: &[u8]) -> bool {
     match bytes.copy() {
-        Ok(copy) => copy.as_slice() == want,
+        Ok(copy) => then_drop(copy.as_slice() == want, copy),
         Err(_) => false,
     }
 }
 
 /// Whether the text's first copy is refused, and the second is made.
-fn text_is_refused_once(alloc: Global, want: &str) -> Result<bool, AllocError> {
+fn text_is_refused_once(alloc: Global, want: &str) -> bool {
     let heap = Refusing::new(alloc, 2);
-    let text = Text::from_str(&heap, want)?;
-    Ok(text.copy().is_err() && text_is_copied(&text, want))
+    let is_refused = match Text::from_str(&heap, want) {
+        Ok(text) => then_drop(text.copy().is_err() && text_is_copied(&text, want), text),
+        Err(_) => false,
+    };
+    then_drop(is_refused, heap)
 }
 
 /// Whether the first copy of the bytes is refused, and the second is made.
-fn bytes_are_refused_once(alloc: Global, want: &[u8]) -> Result<bool, AllocError> {
+fn bytes_are_refused_once(alloc: Global, want: &[u8]) -> bool {
     let heap = Refusing::new(alloc, 2);
-    let bytes = Bytes::from_vec(Vec::from_slice(&heap, want)?);
-    Ok(bytes.copy().is_err() && bytes_are_copied(&bytes, want))
+    let is_refused = match Vec::from_slice(&heap, want) {
+        Ok(vec) => {
+            let bytes = Bytes::from_vec(vec);
+            then_drop(
+                bytes.copy().is_err() && bytes_are_copied(&bytes, want),
+                bytes,
+            )
+        }
+        Err(_) => false,
+    };
+    then_drop(is_refused, heap)
 }
 
 #[test]
-fn texts_and_bytes_are_copied_or_refused(rt: HostRuntime) -> Result<(), Fail> {
-    assert!(rt; text_is_refused_once(rt.alloc(), "seventeen letters")?);
-    assert!(rt; bytes_are_refused_once(rt.alloc(), &[1, 2])?);
-    Ok(())
+fn texts_and_bytes_are_copied_or_refused(rt: HostRuntime) {
+    assert!(rt; text_is_refused_once(rt.alloc(), "seventeen letters"));
+    assert!(rt; bytes_are_refused_once(rt.alloc(), &[1, 2]));
 }
