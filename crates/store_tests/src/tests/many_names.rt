@@ -3,52 +3,71 @@
 use bm_lines::{Letter, LogName, ParcelBuilder, Text};
 use bm_session::Item;
 use bm_store::*;
-use std::alloc::{AllocError, Global};
-use std::process::Abort;
+use std::alloc::Global;
 use std::test::Fail;
 
 const LOGS: u32 = 1000;
 
 /// The log's name: the digits of its number.
-fn name_of(rt: &impl Abort, alloc: Global, number: u32) -> Result<LogName, AllocError> {
-    let digits = format!(in alloc; "{number}")?;
-    Ok(LogName::new(alloc, digits.as_str())?.expect(rt, "a name of a log"))
+fn name_of(alloc: Global, number: u32) -> Option<LogName> {
+    let digits = format!(in alloc; "{number}").ok()?;
+    LogName::new(alloc, digits.as_str()).ok()?
 }
 
-/// Gives the builder a text for the log.
-fn give(
-    rt: &impl Abort,
-    alloc: Global,
-    builder: &mut ParcelBuilder,
-    number: u32,
-    text: &str,
-) -> Result<(), AllocError> {
-    let name = name_of(rt, alloc, number)?;
-    builder.add_text(&name, Letter::O, Text::from_str(alloc, text)?)
+/// Whether the builder takes the text under the name.
+fn takes(alloc: Global, builder: &mut ParcelBuilder, name: &LogName, text: &str) -> bool {
+    match Text::from_str(alloc, text) {
+        Ok(text) => builder.add_text(name, Letter::O, text).is_ok(),
+        Err(_) => false,
+    }
+}
+
+/// Whether the builder takes the text for the log.
+fn takes_for(alloc: Global, builder: &mut ParcelBuilder, number: u32, text: &str) -> bool {
+    match name_of(alloc, number) {
+        Some(name) => takes(alloc, builder, &name, text),
+        None => false,
+    }
 }
 
 /// The text for each log.
-fn for_each(rt: &impl Abort, alloc: Global, text: &str) -> Result<Item, AllocError> {
+fn for_each(alloc: Global, text: &str) -> Option<Item> {
     let mut builder = ParcelBuilder::new(alloc);
     for number in 0..LOGS {
-        give(rt, alloc, &mut builder, number, text)?;
-    }
-    Ok(Item::Lines(0, builder.into_parcel()))
-}
-
-/// How many logs have so many lines.
-fn count_with(rt: &impl Abort, alloc: Global, book: &Book, lines: u64) -> Result<u32, AllocError> {
-    let mut count: u32 = 0;
-    for number in 0..LOGS {
-        let name = name_of(rt, alloc, number)?;
-        if book
-            .state(0, name.as_str())
-            .is_some_and(|state| state.lines == lines)
-        {
-            count = count.saturating_add(1);
+        if !takes_for(alloc, &mut builder, number, text) {
+            return None;
         }
     }
-    Ok(count)
+    Some(Item::Lines(0, builder.into_parcel()))
+}
+
+/// Whether the log has so many lines.
+fn has_lines(alloc: Global, book: &Book, number: u32, lines: u64) -> bool {
+    match name_of(alloc, number) {
+        Some(name) => match book.state(0, name.as_str()) {
+            Some(state) => state.lines == lines,
+            None => false,
+        },
+        None => false,
+    }
+}
+
+/// Whether each log has so many lines.
+fn have_lines(alloc: Global, book: &Book, lines: u64) -> bool {
+    for number in 0..LOGS {
+        if !has_lines(alloc, book, number, lines) {
+            return false;
+        }
+    }
+    true
+}
+
+/// Whether the book takes the text for each log, and each has so many lines then.
+fn gets(alloc: Global, book: &mut Book, text: &str, lines: u64) -> bool {
+    match for_each(alloc, text) {
+        Some(item) => book.apply(&item).is_ok() && have_lines(alloc, book, lines),
+        None => false,
+    }
 }
 
 #[test]
@@ -56,10 +75,7 @@ fn each_of_many_logs_gets_its_lines(rt: HostRuntime) -> Result<(), Fail> {
     let alloc = rt.alloc();
     let mut book = Book::new(alloc);
     book.apply(&Item::Open(0))?;
-    book.apply(&for_each(&rt, alloc, "a")?)?;
-    assert_eq!(rt; count_with(&rt, alloc, &book, 1)?, LOGS);
-    book.apply(&for_each(&rt, alloc, "b\nc")?)?;
-    assert_eq!(rt; count_with(&rt, alloc, &book, 3)?, LOGS);
+    assert!(rt; gets(alloc, &mut book, "a", 1) && gets(alloc, &mut book, "b\nc", 3));
     assert!(rt; book.state(0, "a").is_none());
     Ok(())
 }

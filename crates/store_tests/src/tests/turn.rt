@@ -1,10 +1,10 @@
 //! What a book takes and is asked, as data.
 
-use super::{Row, TRIES, again};
+use super::Row;
 use bm_lines::{Letter, LogName, Parcel};
 use bm_session::{Item, Results};
 use bm_store::*;
-use std::alloc::{AllocError, Global};
+use std::alloc::Global;
 
 /// An item that is taken, or what is asked.
 #[derive(Clone, Copy)]
@@ -36,30 +36,33 @@ pub enum Gives {
     NoLog,
 }
 
-fn add(alloc: Global, parcel: &mut Parcel, name: &str, text: &str) -> Result<(), AllocError> {
-    match LogName::new(alloc, name)? {
-        Some(name) => parcel.add(&name, Letter::O, text),
-        None => Err(AllocError),
+/// Whether the parcel takes the text under the name.
+fn adds(alloc: Global, parcel: &mut Parcel, name: &str, text: &str) -> bool {
+    match LogName::new(alloc, name) {
+        Ok(Some(name)) => parcel.add(&name, Letter::O, text).is_ok(),
+        _ => false,
     }
 }
 
-fn lines(alloc: Global, parts: &[(&str, &str)]) -> Result<Item, AllocError> {
+fn lines(alloc: Global, parts: &[(&str, &str)]) -> Option<Item> {
     let mut parcel = Parcel::new(alloc);
     for (name, text) in parts {
-        add(alloc, &mut parcel, name, text)?;
+        if !adds(alloc, &mut parcel, name, text) {
+            return None;
+        }
     }
-    Ok(Item::Lines(0, parcel))
+    Some(Item::Lines(0, parcel))
 }
 
-/// The item that is taken, or None where something is asked.
-fn item(alloc: Global, turn: Turn) -> Result<Option<Item>, AllocError> {
-    Ok(match turn {
-        Turn::Open(k) => Some(Item::Open(k)),
-        Turn::Add(parts) => Some(lines(alloc, parts)?),
-        Turn::End(k, results) => Some(Item::End(k, results)),
+/// The item that is taken. None where memory is wanting, or something is asked.
+fn item(alloc: Global, turn: &Turn) -> Option<Item> {
+    match turn {
+        Turn::Open(k) => Some(Item::Open(*k)),
+        Turn::Add(parts) => lines(alloc, parts),
+        Turn::End(k, results) => Some(Item::End(*k, *results)),
         Turn::Gone => Some(Item::Gone),
         _ => None,
-    })
+    }
 }
 
 /// What is seen of a book without memory: how far these logs are.
@@ -84,44 +87,41 @@ fn look(book: &Book) -> Seen {
     }
 }
 
-/// Takes the item. After want of memory the book is as before, and the item is tried again.
-fn take(book: &mut Book, item: &Item) -> Result<(), AllocError> {
-    for _ in 0..TRIES {
-        let before = look(book);
-        if book.apply(item).is_ok() {
-            return Ok(());
-        }
-        if look(book) != before {
-            return Err(AllocError);
-        }
+/// Whether the book takes the item. After want of memory it is as before, and the item is tried
+/// again.
+fn takes(book: &mut Book, item: &Item) -> bool {
+    let before = look(book);
+    book.apply(item).is_ok() || look(book) == before && book.apply(item).is_ok()
+}
+
+/// Whether the book takes the turn's item, which is made again after want of memory.
+fn takes_turn(alloc: Global, book: &mut Book, turn: &Turn) -> bool {
+    let made = match item(alloc, turn) {
+        None => item(alloc, turn),
+        made => made,
+    };
+    match made {
+        Some(item) => takes(book, &item),
+        None => false,
     }
-    Err(AllocError)
 }
 
 pub fn slice(book: &Book, name: &str, offset: u64, limit: u64) -> Result<Chunk, ViewRefusal> {
-    for _ in 0..TRIES {
-        match book.slice(0, name, offset, limit) {
-            Err(ViewRefusal::Mem) => {}
-            answer => return answer,
-        }
+    match book.slice(0, name, offset, limit) {
+        Err(ViewRefusal::Mem) => book.slice(0, name, offset, limit),
+        answer => answer,
     }
-    Err(ViewRefusal::Mem)
 }
 
 /// Whether the book gives that.
-pub fn plays(alloc: Global, book: &mut Book, row: &Row) -> Result<bool, AllocError> {
-    let (turn, gives) = row;
-    if let Some(item) = again(|| item(alloc, *turn))? {
-        take(book, &item)?;
-        return Ok(matches!(gives, Gives::Taken));
-    }
-    Ok(match turn {
-        Turn::SliceOf(name, offset, limit) => gives.is_slice(&slice(book, name, *offset, *limit)),
+pub fn plays(alloc: Global, book: &mut Book, (turn, gives): &Row) -> bool {
+    match turn {
+        Turn::SliceOf(name, offset, limit) => gives.is_slice(slice(book, name, *offset, *limit)),
         Turn::StateOf(k, name) => gives.is_state(book.state(*k, name)),
         Turn::BlocksOf(k, name) => gives.are_blocks(book.blocks(*k, name)),
         Turn::Totals => gives.are_counts(book),
-        _ => false,
-    })
+        _ => takes_turn(alloc, book, turn) && matches!(gives, Gives::Taken),
+    }
 }
 
 impl Gives {
@@ -134,10 +134,10 @@ impl Gives {
         }
     }
 
-    fn is_slice(&self, answer: &Result<Chunk, ViewRefusal>) -> bool {
+    fn is_slice(&self, answer: Result<Chunk, ViewRefusal>) -> bool {
         match answer {
-            Ok(chunk) => self.is_chunk(chunk),
-            Err(refusal) => matches!(self, Gives::NoLog) && *refusal == ViewRefusal::NoLog,
+            Ok(chunk) => self.is_chunk(&chunk),
+            Err(refusal) => matches!(self, Gives::NoLog) && refusal == ViewRefusal::NoLog,
         }
     }
 
@@ -153,9 +153,15 @@ impl Gives {
     }
 
     /// Whether a copy of the chunk is this.
-    pub fn is_copied(&self, chunk: &Chunk) -> Result<bool, AllocError> {
-        let copy = chunk.copy()?;
-        Ok(self.is_chunk(&copy))
+    pub fn is_copied(&self, chunk: &Chunk) -> bool {
+        let copy = match chunk.copy() {
+            Err(_) => chunk.copy(),
+            copy => copy,
+        };
+        match copy {
+            Ok(copy) => self.is_chunk(&copy),
+            Err(_) => false,
+        }
     }
 
     fn is_state(&self, state: Option<LogState>) -> bool {
@@ -178,11 +184,12 @@ impl Gives {
 }
 
 fn are_placed(wanted: &[(u64, usize)], blocks: &[Placed]) -> bool {
+    for (one, placed) in wanted.iter().zip(blocks) {
+        if !is_placed(one, placed) {
+            return false;
+        }
+    }
     wanted.len() == blocks.len()
-        && wanted
-            .iter()
-            .zip(blocks)
-            .all(|(one, placed)| is_placed(one, placed))
 }
 
 fn is_placed(wanted: &(u64, usize), placed: &Placed) -> bool {
