@@ -12,8 +12,8 @@ use std::test::Fail;
 /// A call of a board.
 #[derive(Clone, Copy)]
 enum Call {
-    /// Adds a build of the worker, with these locks and so many steps.
-    Add(usize, &'static [LockUse], usize),
+    /// Adds a build of the worker, with these locks and steps.
+    Add(usize, &'static [LockUse], &'static [Plan]),
     Ready(usize, bool),
     Start(u64),
     Done(u64, Results),
@@ -53,71 +53,95 @@ const EXCLUSIVE: LockUse = LockUse {
 /// A step's name, its words, and whether it halts or fails its build by a failure and always runs.
 type Plan = (&'static str, &'static [&'static str], bool, bool, bool);
 
-fn try_words(alloc: Global, words: &[&str]) -> Result<Words, AllocError> {
-    let mut texts = Vec::with_capacity(alloc, words.len())?;
+const PLAIN: Plan = ("", &[], false, true, false);
+
+/// Whether the word is put behind the others.
+fn puts_word(alloc: Global, words: &mut Vec<Text>, word: &str) -> bool {
+    if words.reserve(1).is_err() {
+        return false;
+    }
+    match Text::from_str(alloc, word) {
+        Ok(text) => {
+            words.push_reserved(text);
+            true
+        }
+        Err(_) => false,
+    }
+}
+
+fn try_words(alloc: Global, words: &[&str]) -> Option<Words> {
+    let mut texts = Vec::new(alloc);
     for word in words {
-        texts.push(Text::from_str(alloc, word)?)?;
+        if !puts_word(alloc, &mut texts, word) {
+            return None;
+        }
     }
-    Ok(Words::from_vec(texts))
+    Some(Words::from_vec(texts))
 }
 
-fn try_step(alloc: Global, plan: &Plan) -> Result<StepPlan, AllocError> {
+fn try_step(alloc: Global, plan: &Plan) -> Option<StepPlan> {
     let (name, words, halt_on_failure, flunk_on_failure, always_run) = *plan;
-    Ok(StepPlan {
-        name: Text::from_str(alloc, name)?,
-        argv: try_words(alloc, words)?,
-        halt_on_failure,
-        flunk_on_failure,
-        always_run,
-    })
+    let argv = try_words(alloc, words)?;
+    match Text::from_str(alloc, name) {
+        Ok(name) => Some(StepPlan {
+            name,
+            argv,
+            halt_on_failure,
+            flunk_on_failure,
+            always_run,
+        }),
+        Err(_) => None,
+    }
 }
 
-fn try_steps(alloc: Global, plans: &[Plan]) -> Result<Vec<StepPlan>, AllocError> {
-    let mut steps = Vec::with_capacity(alloc, plans.len())?;
-    for plan in plans {
-        steps.push(try_step(alloc, plan)?)?;
+/// Whether the step is put behind the others.
+fn puts_step(alloc: Global, steps: &mut Vec<StepPlan>, plan: &Plan) -> bool {
+    if steps.reserve(1).is_err() {
+        return false;
     }
-    Ok(steps)
+    match try_step(alloc, plan) {
+        Some(step) => {
+            steps.push_reserved(step);
+            true
+        }
+        None => false,
+    }
+}
+
+fn try_steps(alloc: Global, plans: &[Plan]) -> Option<StepPlans> {
+    let mut steps = Vec::new(alloc);
+    for plan in plans {
+        if !puts_step(alloc, &mut steps, plan) {
+            return None;
+        }
+    }
+    Some(StepPlans::from_vec(steps))
 }
 
 /// The steps. Where one request for memory is refused, the second try succeeds; so it is below.
-fn make_steps(alloc: Global, plans: &[Plan]) -> Result<Vec<StepPlan>, AllocError> {
+fn make_steps(alloc: Global, plans: &[Plan]) -> Option<StepPlans> {
     match try_steps(alloc, plans) {
-        Err(_) => try_steps(alloc, plans),
+        None => try_steps(alloc, plans),
         steps => steps,
     }
 }
 
-fn try_build(
-    alloc: Global,
-    worker: usize,
-    locks: &[LockUse],
-    steps: usize,
-) -> Result<Build, AllocError> {
-    static PLAIN: Plan = ("", &[], false, true, false);
-    let mut plans = Vec::with_capacity(alloc, steps)?;
-    for _ in 0..steps {
-        plans.push(try_step(alloc, &PLAIN)?)?;
+fn try_build(alloc: Global, worker: usize, locks: &[LockUse], plans: &[Plan]) -> Option<Build> {
+    let steps = try_steps(alloc, plans)?;
+    match Vec::from_slice(alloc, locks) {
+        Ok(locks) => Some(Build {
+            worker,
+            locks: LockUses::from_vec(locks),
+            steps,
+        }),
+        Err(_) => None,
     }
-    Ok(Build {
-        worker,
-        locks: LockUses::from_vec(Vec::from_slice(alloc, locks)?),
-        steps: StepPlans::from_vec(plans),
-    })
 }
 
-fn make_build(
-    alloc: Global,
-    worker: usize,
-    locks: &[LockUse],
-    steps: usize,
-) -> Result<Build, BoardRefusal> {
-    match try_build(alloc, worker, locks, steps) {
-        Ok(build) => Ok(build),
-        Err(_) => match try_build(alloc, worker, locks, steps) {
-            Ok(build) => Ok(build),
-            Err(_) => Err(BoardRefusal::Mem),
-        },
+fn make_build(alloc: Global, worker: usize, locks: &[LockUse], plans: &[Plan]) -> Option<Build> {
+    match try_build(alloc, worker, locks, plans) {
+        None => try_build(alloc, worker, locks, plans),
+        build => build,
     }
 }
 
@@ -131,11 +155,31 @@ fn make_board(alloc: Global, slots: &[u8], lock_max: &[u32]) -> Result<Board, Al
     }
 }
 
-fn add(board: &mut Board, build: Build) -> Result<u64, BoardRefusal> {
+fn add_again(board: &mut Board, build: Build) -> Result<Gives, BoardRefusal> {
     match board.add_build(build) {
-        Err((build, BoardRefusal::Mem)) => board.add_build(build).map_err(|refused| refused.1),
+        Ok(id) => Ok(Added(id)),
         Err((_, refusal)) => Err(refusal),
-        Ok(id) => Ok(id),
+    }
+}
+
+fn add(board: &mut Board, build: Build) -> Result<Gives, BoardRefusal> {
+    match board.add_build(build) {
+        Ok(id) => Ok(Added(id)),
+        Err((build, BoardRefusal::Mem)) => add_again(board, build),
+        Err((_, refusal)) => Err(refusal),
+    }
+}
+
+fn add_made(
+    alloc: Global,
+    board: &mut Board,
+    worker: usize,
+    locks: &[LockUse],
+    plans: &[Plan],
+) -> Result<Gives, BoardRefusal> {
+    match make_build(alloc, worker, locks, plans) {
+        Some(build) => add(board, build),
+        None => Err(BoardRefusal::Mem),
     }
 }
 
@@ -167,10 +211,7 @@ fn give_up(board: &mut Board, id: u64) -> Result<Gives, BoardRefusal> {
 
 fn try_call(alloc: Global, board: &mut Board, call: Call) -> Result<Gives, BoardRefusal> {
     match call {
-        Add(worker, locks, steps) => {
-            let build = make_build(alloc, worker, locks, steps)?;
-            Ok(Added(add(board, build)?))
-        }
+        Add(worker, locks, plans) => add_made(alloc, board, worker, locks, plans),
         Ready(worker, ready) => set_ready(board, worker, ready),
         Start(id) => start(board, id),
         Done(id, outcome) => Ok(Follows(board.step_done(id, outcome)?)),
@@ -207,10 +248,10 @@ fn locks_and_slots_are_held_from_start_to_release(rt: HostRuntime) -> Result<(),
         (Ready(0, true), Nothing),
         (Ready(1, true), Nothing),
         (Ready(2, true), Nothing),
-        (Add(0, &[COUNTING], 1), Added(0)),
-        (Add(1, &[COUNTING], 1), Added(1)),
-        (Add(2, &[EXCLUSIVE], 1), Added(2)),
-        (Add(0, &[COUNTING], 1), Added(3)),
+        (Add(0, &[COUNTING], &[PLAIN]), Added(0)),
+        (Add(1, &[COUNTING], &[PLAIN]), Added(1)),
+        (Add(2, &[EXCLUSIVE], &[PLAIN]), Added(2)),
+        (Add(0, &[COUNTING], &[PLAIN]), Added(3)),
         (Start(0), Started(0, Next::Step(0))),
         (Start(1), Started(1, Next::Step(0))),
         (Start(2), Refused(BoardRefusal::LockHeld)),
@@ -237,9 +278,9 @@ fn locks_and_slots_are_held_from_start_to_release(rt: HostRuntime) -> Result<(),
 fn builds_are_cancelled_and_given_up(rt: HostRuntime) -> Result<(), Fail> {
     static ROWS: [Row; 18] = [
         (Ready(0, true), Nothing),
-        (Add(0, &[], 1), Added(0)),
-        (Add(0, &[], 1), Added(1)),
-        (Add(0, &[], 1), Added(2)),
+        (Add(0, &[], &[PLAIN]), Added(0)),
+        (Add(0, &[], &[PLAIN]), Added(1)),
+        (Add(0, &[], &[PLAIN]), Added(2)),
         (Cancel(0), Cancelled(false)),
         (Outcome(0), Has(Some(Results::Cancelled))),
         (Cancel(0), Refused(BoardRefusal::NotRunning)),
@@ -254,11 +295,11 @@ fn builds_are_cancelled_and_given_up(rt: HostRuntime) -> Result<(), Fail> {
         (Outcome(2), Has(Some(Results::Retry))),
         (Start(2), Refused(BoardRefusal::NotWaiting)),
         (
-            Add(0, &[COUNTING, EXCLUSIVE], 1),
+            Add(0, &[COUNTING, EXCLUSIVE], &[PLAIN]),
             Refused(BoardRefusal::BadLock),
         ),
         (Release(1), Nothing),
-        (Add(0, &[], 0), Added(3)),
+        (Add(0, &[], &[]), Added(3)),
         (Start(3), Started(0, Next::Ended(Results::Success))),
     ];
     goes_through(&rt, &mut make_board(rt.alloc(), &[1], &[1])?, &ROWS)
@@ -268,8 +309,8 @@ fn builds_are_cancelled_and_given_up(rt: HostRuntime) -> Result<(), Fail> {
 fn lost_worker_ends_its_build_between_two_steps(rt: HostRuntime) -> Result<(), Fail> {
     static ROWS: [Row; 10] = [
         (Ready(0, true), Nothing),
-        (Add(0, &[], 3), Added(0)),
-        (Add(0, &[], 1), Added(1)),
+        (Add(0, &[], &[PLAIN, PLAIN, PLAIN]), Added(0)),
+        (Add(0, &[], &[PLAIN]), Added(1)),
         (Start(0), Started(0, Next::Step(0))),
         (Done(0, Results::Success), Follows(Next::Step(1))),
         (Ready(0, false), Nothing),
@@ -287,12 +328,12 @@ fn lost_worker_ends_its_build_between_two_steps(rt: HostRuntime) -> Result<(), F
 #[test]
 fn board_takes_ten_thousand_builds(rt: HostRuntime) -> Result<(), Fail> {
     static MORE: [Row; 2] = [
-        (Add(0, &[], 0), Refused(BoardRefusal::Full)),
-        (Add(1, &[], 0), Refused(BoardRefusal::NoWorker)),
+        (Add(0, &[], &[]), Refused(BoardRefusal::Full)),
+        (Add(1, &[], &[]), Refused(BoardRefusal::NoWorker)),
     ];
     let mut board = make_board(rt.alloc(), &[4], &[])?;
     for id in 0..10_000 {
-        let given = called(rt.alloc(), &mut board, Add(0, &[], 0));
+        let given = called(rt.alloc(), &mut board, Add(0, &[], &[]));
         assert!(rt; given == Added(id), "build {id}: {given:?}");
     }
     goes_through(&rt, &mut board, &MORE)
@@ -328,7 +369,7 @@ fn steps_follow_by_their_flags(rt: HostRuntime) -> Result<(), Fail> {
             Next::Ended(Results::Failure),
         ),
     ];
-    let steps = make_steps(rt.alloc(), &PLANS)?;
+    let steps = make_steps(rt.alloc(), &PLANS).ok_or("no steps")?;
     for (n, (outcomes, next)) in ROWS.iter().enumerate() {
         assert!(rt;
             next_after(steps.as_slice(), outcomes) == Some(*next),
@@ -339,7 +380,12 @@ fn steps_follow_by_their_flags(rt: HostRuntime) -> Result<(), Fail> {
 }
 
 fn are_words(words: &[Text], wanted: &[&str]) -> bool {
-    words.len() == wanted.len() && words.iter().zip(wanted).all(|(a, b)| a.as_str() == *b)
+    for (word, text) in words.iter().zip(wanted) {
+        if word.as_str() != *text {
+            return false;
+        }
+    }
+    words.len() == wanted.len()
 }
 
 fn is_step(step: &StepPlan, plan: &Plan) -> bool {
@@ -351,43 +397,56 @@ fn is_step(step: &StepPlan, plan: &Plan) -> bool {
 }
 
 fn are_steps(steps: &[StepPlan], plans: &[Plan]) -> bool {
-    for (n, step) in steps.iter().enumerate() {
-        if n >= plans.len() || !is_step(step, &plans[n]) {
+    for (step, plan) in steps.iter().zip(plans) {
+        if !is_step(step, plan) {
             return false;
         }
     }
     steps.len() == plans.len()
 }
 
+fn is_build(build: &Build, worker: usize, locks: &[LockUse], plans: &[Plan]) -> bool {
+    build.worker == worker
+        && build.locks.as_slice() == locks
+        && are_steps(build.steps.as_slice(), plans)
+}
+
+/// Whether a copy of the build has all of it.
+fn is_copied(build: &Build, worker: usize, locks: &[LockUse], plans: &[Plan]) -> bool {
+    let copy = match build.copy() {
+        Err(_) => build.copy(),
+        copy => copy,
+    };
+    match copy {
+        Ok(copy) => is_build(&copy, worker, locks, plans),
+        Err(_) => false,
+    }
+}
+
 #[test]
 fn build_is_copied_whole(rt: HostRuntime) -> Result<(), Fail> {
+    static LOCKS: [LockUse; 2] = [EXCLUSIVE, COUNTING];
     static PLANS: [Plan; 2] = [
         ("compile", &["make", "all"], true, false, true),
         ("test", &["make"], false, true, false),
     ];
-    let mut build = make_build(rt.alloc(), 1, &[EXCLUSIVE, COUNTING], 0)?;
-    build.steps = StepPlans::from_vec(make_steps(rt.alloc(), &PLANS)?);
-    let copy = match build.copy() {
-        Err(_) => build.copy()?,
-        Ok(copy) => copy,
-    };
-    let are_its_own = copy.locks.as_slice() == [EXCLUSIVE, COUNTING].as_slice();
-    assert!(rt; copy.worker == 1 && are_its_own);
-    assert!(rt; are_steps(copy.steps.as_slice(), &PLANS));
+    let build = make_build(rt.alloc(), 1, &LOCKS, &PLANS).ok_or("no build")?;
+    assert!(rt; is_copied(&build, 1, &LOCKS, &PLANS));
     Ok(())
 }
 
-fn text_of(alloc: Global, refusal: BoardRefusal) -> Option<String> {
+/// Whether the refusal has the text. None where memory is wanting.
+fn try_text(alloc: Global, refusal: BoardRefusal, wanted: &str) -> Option<bool> {
     match format!(in alloc; "{refusal}") {
-        Ok(text) => Some(text),
-        Err(_) => format!(in alloc; "{refusal}").ok(),
+        Ok(text) => Some(text.as_str() == wanted),
+        Err(_) => None,
     }
 }
 
 fn has_text(alloc: Global, refusal: BoardRefusal, wanted: &str) -> bool {
-    match text_of(alloc, refusal) {
-        Some(text) => text.as_str() == wanted,
-        None => false,
+    match try_text(alloc, refusal, wanted) {
+        None => try_text(alloc, refusal, wanted) == Some(true),
+        answer => answer == Some(true),
     }
 }
 
