@@ -11,15 +11,20 @@ const HEAD: &str = "listen = \"127.0.0.1:0\"\nweb = \"127.0.0.1:0\"\n";
 
 /// Whether the text is refused for the key: `syntax` where it is no TOML, and no key where it is
 /// taken.
-fn is_told(alloc: Global, head: &str, rest: &str, key: &str) -> bool {
-    let Ok(text) = format!(in alloc; "{head}{rest}") else {
-        return false;
-    };
-    match read_config(alloc, text.as_str()) {
+fn is_told(alloc: Global, text: &str, key: &str) -> bool {
+    match read_config(alloc, text) {
         Ok(_) => key.is_empty(),
         Err(ConfigFault::Syntax) => key == "syntax",
         Err(ConfigFault::Key(told)) => told.as_str() == key,
         Err(ConfigFault::Mem) => false,
+    }
+}
+
+/// The same of the text that has the head before it.
+fn is_told_behind(alloc: Global, head: &str, rest: &str, key: &str) -> bool {
+    match format!(in alloc; "{head}{rest}") {
+        Ok(text) => is_told(alloc, text.as_str(), key),
+        Err(_) => false,
     }
 }
 
@@ -96,7 +101,7 @@ const WORKERS: [(&str, &str); 30] = [
 #[test]
 fn workers_are_told_apart(rt: HostRuntime) {
     for (rest, key) in &WORKERS {
-        assert!(rt; is_told(rt.alloc(), HEAD, rest, key), "{rest}");
+        assert!(rt; is_told_behind(rt.alloc(), HEAD, rest, key), "{rest}");
     }
 }
 
@@ -173,7 +178,10 @@ const HEAD_AND_WORKER: &str =
 #[test]
 fn the_first_key_at_fault_is_told(rt: HostRuntime) {
     for (rest, key) in &REST {
-        assert!(rt; is_told(rt.alloc(), HEAD_AND_WORKER, rest, key), "{rest}");
+        assert!(rt;
+            is_told_behind(rt.alloc(), HEAD_AND_WORKER, rest, key),
+            "{rest}"
+        );
     }
 }
 
@@ -195,9 +203,15 @@ const ADDRESSES: [(&str, &str); 8] = [
 #[test]
 fn addresses_are_ip_addresses_and_ports(rt: HostRuntime) {
     for (text, key) in &ADDRESSES {
-        assert!(rt; is_told(rt.alloc(), text, "", key), "{text}");
+        assert!(rt; is_told(rt.alloc(), text, key), "{text}");
     }
 }
+
+/// A configuration that lacks each key that may be missing.
+const PLAIN: &str = "listen = \"127.0.0.1:0\"
+web = \"127.0.0.1:0\"
+worker = [{name=\"w0\",password=\"p\"}]
+build = [{worker=\"w0\",step=[{name=\"s\",command=[\"a\",\"b\"]}]}]";
 
 fn has_defaults(config: &Config) -> bool {
     let (Some(worker), Some(build)) = (
@@ -226,10 +240,7 @@ fn has_defaults(config: &Config) -> bool {
 
 #[test]
 fn missing_keys_have_their_defaults(rt: HostRuntime) -> Result<(), Fail> {
-    let alloc = rt.alloc();
-    let rest = "build = [{worker=\"w0\",step=[{name=\"s\",command=[\"a\",\"b\"]}]}]";
-    let text = format!(in alloc; "{HEAD_AND_WORKER}{rest}")?;
-    let config = read_config(alloc, text.as_str())?;
+    let config = read_config(rt.alloc(), PLAIN)?;
     assert!(rt; has_defaults(&config));
     Ok(())
 }
@@ -303,19 +314,38 @@ fn each_key_is_read(rt: HostRuntime) -> Result<(), Fail> {
     Ok(())
 }
 
-/// A configuration of one step with so many words of so many bytes each.
-fn step_of(alloc: Global, words: usize, bytes: usize) -> Result<String, Fail> {
-    let mut text = String::from_str(alloc, HEAD_AND_WORKER)?;
-    text.push_str("build = [{worker=\"w0\",step=[{name=\"s\",command=[")?;
-    for _ in 0..words {
-        text.push('"')?;
-        for _ in 0..bytes {
-            text.push('x')?;
+/// Whether the text is put behind the other one so often.
+fn puts(out: &mut String, text: &str, times: usize) -> bool {
+    for _ in 0..times {
+        if out.push_str(text).is_err() {
+            return false;
         }
-        text.push_str("\",")?;
     }
-    text.push_str("]}]}]")?;
-    Ok(text)
+    true
+}
+
+/// Whether a list of so many words of so many bytes each is put behind the text.
+fn puts_words(out: &mut String, words: usize, bytes: usize) -> bool {
+    for _ in 0..words {
+        if !puts(out, "\"", 1) || !puts(out, "x", bytes) || !puts(out, "\",", 1) {
+            return false;
+        }
+    }
+    true
+}
+
+/// Whether the key is told of a configuration of one step with so many words of so many bytes each.
+fn is_told_of_words(alloc: Global, words: usize, bytes: usize, key: &str) -> bool {
+    let mut text = String::new(alloc);
+    puts(&mut text, HEAD_AND_WORKER, 1)
+        && puts(
+            &mut text,
+            "build = [{worker=\"w0\",step=[{name=\"s\",command=[",
+            1,
+        )
+        && puts_words(&mut text, words, bytes)
+        && puts(&mut text, "]}]}]", 1)
+        && is_told(alloc, text.as_str(), key)
 }
 
 /// How many words, of how many bytes each, and the key that is told.
@@ -327,13 +357,11 @@ const STEPS: [(usize, usize, &str); 4] = [
 ];
 
 #[test]
-fn a_command_has_limits(rt: HostRuntime) -> Result<(), Fail> {
+fn a_command_has_limits(rt: HostRuntime) {
     for (words, bytes, key) in &STEPS {
-        let text = step_of(rt.alloc(), *words, *bytes)?;
         assert!(rt;
-            is_told(rt.alloc(), text.as_str(), "", key),
+            is_told_of_words(rt.alloc(), *words, *bytes, key),
             "{words} {bytes}"
         );
     }
-    Ok(())
 }
