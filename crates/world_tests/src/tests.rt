@@ -14,107 +14,61 @@ use says::Says;
 use script::{Script, step};
 use std::alloc::{AllocError, Global};
 use std::process::Abort;
-use std::test::Fail;
-
-/// How often a call is made where one request for memory is refused.
-const TRIES: usize = 2;
 
 /// A step, and what the lane says to it.
 type Row = (Script, Says);
 
-/// Makes the call again where it met want of memory.
-fn again<T: Drop, F: Fn() -> Result<T, AllocError>>(call: F) -> Result<T, AllocError>
-    requires { F.IsAlwaysCallable call }
-{
-    for _ in 0..TRIES {
-        if let Ok(value) = call() {
-            return Ok(value);
-        }
-    }
-    Err(AllocError)
-}
-
+/// A new world. Where one request for memory is refused, the second try succeeds; so it is below.
 fn new_world(alloc: Global, capacity: usize) -> Result<World, AllocError>
     requires some { 1 ≤ capacity }
     requires few { capacity ≤ 65536 }
 {
-    for _ in 0..TRIES {
-        if let Ok(world) = World::new(alloc, capacity) {
-            return Ok(world);
-        }
+    match World::new(alloc, capacity) {
+        Err(_) => World::new(alloc, capacity),
+        world => world,
     }
-    Err(AllocError)
 }
 
-/// Does the step. After want of memory no event was taken, and the step that came back is tried
-/// again.
-fn answer(world: &mut World, step: Step) -> Result<Answer, AllocError> {
+fn new_step(alloc: Global, script: Script) -> Result<Step, AllocError> {
+    match step(alloc, script) {
+        Err(_) => step(alloc, script),
+        step => step,
+    }
+}
+
+/// The answer to the step. After want of memory no event was taken, and the step that came back is
+/// tried again.
+fn answer(world: &mut World, step: Step) -> Option<Answer> {
     let before = world.session().trace().len();
     match world.step(step) {
-        Ok(answer) => Ok(answer),
+        Ok(answer) => Some(answer),
         Err((back, _)) => answer_again(world, back, before),
     }
 }
 
-/// Does the step that came back, where there are as many events as before.
-fn answer_again(world: &mut World, step: Step, before: usize) -> Result<Answer, AllocError> {
-    if world.session().trace().len() != before {
-        return Err(AllocError);
-    }
-    match world.step(step) {
-        Ok(answer) => Ok(answer),
-        Err((_, error)) => Err(error),
+/// The answer to the step that came back, where there are as many events as before.
+fn answer_again(world: &mut World, step: Step, before: usize) -> Option<Answer> {
+    if world.session().trace().len() == before {
+        world.step(step).ok()
+    } else {
+        None
     }
 }
 
 /// The answer to the step of a script.
-fn answer_to(alloc: Global, world: &mut World, script: Script) -> Result<Answer, AllocError> {
-    let step = again(|| step(alloc, script))?;
-    answer(world, step)
-}
-
-/// A copy of the answer to a copy of the step.
-fn copied_answer_to(
-    alloc: Global,
-    world: &mut World,
-    script: Script,
-) -> Result<Answer, AllocError> {
-    match copied_step(alloc, script) {
-        Ok(step) => copied_answer(world, step),
-        Err(error) => Err(error),
+fn answer_to(alloc: Global, world: &mut World, script: Script) -> Option<Answer> {
+    match new_step(alloc, script) {
+        Ok(step) => answer(world, step),
+        Err(_) => None,
     }
 }
 
-fn copied_step(alloc: Global, script: Script) -> Result<Step, AllocError> {
-    match again(|| step(alloc, script)) {
-        Ok(step) => again(|| step.copy()),
-        Err(error) => Err(error),
+/// Whether the lane says so to the step of the row.
+fn has_its_answer(alloc: Global, world: &mut World, (script, says): &Row) -> bool {
+    match answer_to(alloc, world, *script) {
+        Some(answer) => says.is(&answer),
+        None => false,
     }
-}
-
-fn copied_answer(world: &mut World, step: Step) -> Result<Answer, AllocError> {
-    match answer(world, step) {
-        Ok(answer) => again(|| answer.copy()),
-        Err(error) => Err(error),
-    }
-}
-
-/// The answer is that of its row; rows count from 0.
-fn assert_says(rt: &impl Abort, n: usize, says: &Says, answer: &Answer) {
-    assert!(rt; says.is(answer), "row {n}: {answer:?}");
-}
-
-/// A world after the steps of the rows, each of which had its answer.
-fn played(rt: &(impl AllocGlobal + Abort), capacity: usize, rows: &[Row]) -> Result<World, Fail>
-    requires some { 1 ≤ capacity }
-    requires few { capacity ≤ 65536 }
-{
-    let mut world = new_world(rt.alloc(), capacity)?;
-    for (n, (script, says)) in rows.iter().enumerate() {
-        let answer = answer_to(rt.alloc(), &mut world, *script)?;
-        assert_says(rt, n, says, &answer);
-    }
-    Ok(world)
 }
 
 /// Whether the commands, from the first on, ended so.
@@ -127,61 +81,138 @@ fn have_ended(session: &Session, outcomes: &[Option<Results>]) -> bool {
     true
 }
 
-/// A world plays the rows, each of which has its answer. Then its commands, from the first on,
-/// ended so.
+/// The world plays the rows, each of which has its answer; they count from 0. Then its commands,
+/// from the first on, ended so.
+fn play(
+    rt: &(impl AllocGlobal + Abort),
+    world: &mut World,
+    rows: &[Row],
+    outcomes: &[Option<Results>],
+) {
+    for (n, row) in rows.iter().enumerate() {
+        assert!(rt; has_its_answer(rt.alloc(), world, row), "row {n}");
+    }
+    assert!(rt; have_ended(world.session(), outcomes));
+}
+
+/// The same of a new world.
 fn plays(
     rt: &(impl AllocGlobal + Abort),
     capacity: usize,
     rows: &[Row],
     outcomes: &[Option<Results>],
-) -> Result<(), Fail>
+)
     requires some { 1 ≤ capacity }
     requires few { capacity ≤ 65536 }
 {
-    match played(rt, capacity, rows) {
-        Ok(world) => {
-            assert!(rt; have_ended(world.session(), outcomes));
-            Ok(())
-        }
-        Err(fail) => Err(fail),
+    let mut world = new_world(rt.alloc(), capacity).expect(rt, "memory for a world");
+    play(rt, &mut world, rows, outcomes);
+}
+
+fn copy_of(step: &Step) -> Result<Step, AllocError> {
+    match step.copy() {
+        Err(_) => step.copy(),
+        copy => copy,
     }
 }
 
-/// Plays the rows by copies of their steps and of the answers.
-fn play_copies(rt: &(impl AllocGlobal + Abort), rows: &[Row]) -> Result<(), Fail> {
-    let mut world = new_world(rt.alloc(), 1)?;
-    for (n, (script, says)) in rows.iter().enumerate() {
-        let answer = copied_answer_to(rt.alloc(), &mut world, *script)?;
-        assert_says(rt, n, says, &answer);
+/// A copy of the script's step.
+fn copied_step(alloc: Global, script: Script) -> Result<Step, AllocError> {
+    match new_step(alloc, script) {
+        Ok(step) => copy_of(&step),
+        Err(error) => Err(error),
     }
-    Ok(())
+}
+
+/// Whether a copy of the answer is what is said.
+fn is_copied(answer: &Answer, says: &Says) -> bool {
+    let copy = match answer.copy() {
+        Err(_) => answer.copy(),
+        copy => copy,
+    };
+    match copy {
+        Ok(copy) => says.is(&copy),
+        Err(_) => false,
+    }
+}
+
+/// Whether the lane's answer to the step has a copy that is what is said.
+fn has_a_copied_answer(world: &mut World, step: Step, says: &Says) -> bool {
+    match answer(world, step) {
+        Some(answer) => is_copied(&answer, says),
+        None => false,
+    }
+}
+
+/// Whether the lane says so to a copy of the row's step, by a copy of its answer.
+fn has_its_copies(alloc: Global, world: &mut World, (script, says): &Row) -> bool {
+    match copied_step(alloc, *script) {
+        Ok(step) => has_a_copied_answer(world, step, says),
+        Err(_) => false,
+    }
+}
+
+/// Whether the lane says so to copies of the rows' steps, by copies of its answers.
+fn have_their_copies(alloc: Global, world: &mut World, rows: &[Row]) -> bool {
+    for row in rows {
+        if !has_its_copies(alloc, world, row) {
+            return false;
+        }
+    }
+    true
+}
+
+/// The same of a new lane, whose queue takes one item.
+fn plays_copies(alloc: Global, rows: &[Row]) -> bool {
+    match new_world(alloc, 1) {
+        Ok(mut world) => have_their_copies(alloc, &mut world, rows),
+        Err(_) => false,
+    }
+}
+
+/// Whether the step of the script is put behind the others.
+fn puts_step(alloc: Global, steps: &mut Vec<Step>, script: Script) -> bool {
+    if steps.reserve(1).is_err() {
+        return false;
+    }
+    match new_step(alloc, script) {
+        Ok(step) => {
+            steps.push_reserved(step);
+            true
+        }
+        Err(_) => false,
+    }
 }
 
 /// The answers of a run, over a queue of one item, of the steps of the rows.
-fn try_run(alloc: Global, rows: &[Row]) -> Result<Vec<Answer>, AllocError> {
+fn try_run(alloc: Global, rows: &[Row]) -> Option<Vec<Answer>> {
     let mut steps = Vec::new(alloc);
     for (script, _) in rows {
-        steps.push(step(alloc, *script)?)?;
-    }
-    World::run(alloc, steps, 1)
-}
-
-/// The answers are those of the rows.
-fn assert_all(rt: &impl Abort, rows: &[Row], answers: &[Answer]) {
-    assert!(rt; answers.len() == rows.len());
-    for (n, (answer, (_, says))) in answers.iter().zip(rows).enumerate() {
-        assert_says(rt, n, says, answer);
-    }
-}
-
-/// A run of the steps of the rows gives their answers.
-fn run(rt: &(impl AllocGlobal + Abort), rows: &[Row]) -> Result<(), Fail> {
-    let alloc = rt.alloc();
-    match again(|| try_run(alloc, rows)) {
-        Ok(answers) => {
-            assert_all(rt, rows, answers.as_slice());
-            Ok(())
+        if !puts_step(alloc, &mut steps, *script) {
+            return None;
         }
-        Err(error) => Err(Fail::from(error)),
+    }
+    World::run(alloc, steps, 1).ok()
+}
+
+/// Whether the answers are those of the rows.
+fn are_said(rows: &[Row], answers: &[Answer]) -> bool {
+    for (row, answer) in rows.iter().zip(answers) {
+        if !row.1.is(answer) {
+            return false;
+        }
+    }
+    rows.len() == answers.len()
+}
+
+/// Whether a run of the rows' steps has their answers.
+fn runs(alloc: Global, rows: &[Row]) -> bool {
+    let answers = match try_run(alloc, rows) {
+        None => try_run(alloc, rows),
+        answers => answers,
+    };
+    match answers {
+        Some(answers) => are_said(rows, answers.as_slice()),
+        None => false,
     }
 }

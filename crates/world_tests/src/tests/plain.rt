@@ -1,8 +1,10 @@
 //! A lane by its definition: the trace is cut, and each look walks the events that viewers see.
 
+ghost use Rattle.bm_session.specs.Session.{IsPlanFor};
+
 use super::script::{Script, event};
 use bm_lines::{Block, Text, content};
-use bm_session::{Event, Refusal, Reply, Session};
+use bm_session::{Event, Plan, Refusal, Session};
 use bm_store::Chunk;
 use bm_world::*;
 use std::alloc::{AllocError, Global};
@@ -18,28 +20,41 @@ pub struct Plain {
     shown: usize,
 }
 
-/// Takes an event that was taken before by another session.
-fn take(session: &mut Session, event: Event) -> Result<(), AllocError> {
-    let Ok(plan) = session.ready(event) else {
-        return Err(AllocError);
-    };
-    let _ = session.commit(plan);
-    Ok(())
+/// What is answered where an event isn't taken.
+fn refused(reason: Refusal) -> Result<Answer, AllocError> {
+    match reason {
+        Refusal::Mem => Err(AllocError),
+        reason => Ok(Answer::Refused(reason)),
+    }
 }
 
-/// Takes the first events, so many.
-fn take_all(
-    alloc: Global,
-    session: &mut Session,
-    scripts: &[Script],
-    count: usize,
-) -> Result<(), AllocError> {
+/// Whether the session takes an event that was taken before by another one.
+fn takes(session: &mut Session, event: Event) -> bool {
+    match session.ready(event) {
+        Ok(plan) => {
+            let _ = session.commit(plan);
+            true
+        }
+        Err(_) => false,
+    }
+}
+
+fn takes_script(alloc: Global, session: &mut Session, script: Script) -> bool {
+    match event(alloc, script) {
+        Ok(Some(event)) => takes(session, event),
+        Ok(None) => true,
+        Err(_) => false,
+    }
+}
+
+/// Whether the session takes the first events, so many.
+fn takes_all(alloc: Global, session: &mut Session, scripts: &[Script], count: usize) -> bool {
     for script in scripts.iter().take(count) {
-        if let Some(event) = event(alloc, *script)? {
-            take(session, event)?;
+        if !takes_script(alloc, session, *script) {
+            return false;
         }
     }
-    Ok(())
+    true
 }
 
 /// The asked lines of a log.
@@ -70,9 +85,15 @@ impl Plain {
     }
 
     pub fn answer(&mut self, alloc: Global, script: Script) -> Result<Answer, AllocError> {
-        if let Some(event) = event(alloc, script)? {
-            return self.hear(event, script);
+        match event(alloc, script) {
+            Ok(Some(event)) => self.hear(event, script),
+            Ok(None) => self.show(alloc, script),
+            Err(error) => Err(error),
         }
+    }
+
+    /// The answer to a step that is no hearing.
+    fn show(&mut self, alloc: Global, script: Script) -> Result<Answer, AllocError> {
         match script {
             Script::Look(k, name, offset, limit) => self.look(alloc, k, name, offset, limit),
             _ => Ok(self.drain()),
@@ -80,31 +101,44 @@ impl Plain {
     }
 
     fn hear(&mut self, event: Event, script: Script) -> Result<Answer, AllocError> {
-        let mut plan = match self.session.ready(event) {
-            Ok(plan) => plan,
-            Err((_, Refusal::Mem)) => return Err(AllocError),
-            Err((_, reason)) => return Ok(Answer::Refused(reason)),
-        };
+        match self.session.ready(event) {
+            Ok(plan) => self.commit(plan, script),
+            Err(back) => refused(back.1),
+        }
+    }
+
+    /// Takes the planned event, whose item must have room.
+    fn commit(&mut self, mut plan: Plan, script: Script) -> Result<Answer, AllocError>
+        requires { IsPlanFor self.old.session plan }
+    {
         let has_item = plan.take_item().is_some();
         if has_item && self.is_full() {
             let _ = self.session.withdraw(plan);
-            return Ok(Answer::Busy);
+            Ok(Answer::Busy)
+        } else {
+            self.reply(plan, script, has_item)
         }
-        let (reply, _): (Reply, _) = self.session.commit(plan);
-        self.keep(script, has_item)?;
-        Ok(Answer::Heard(reply))
+    }
+
+    fn reply(&mut self, plan: Plan, script: Script, has_item: bool) -> Result<Answer, AllocError>
+        requires { IsPlanFor self.old.session plan }
+    {
+        let reply = self.session.commit(plan).0;
+        if self.keeps(script, has_item) {
+            Ok(Answer::Heard(reply))
+        } else {
+            Err(AllocError)
+        }
     }
 
     fn is_full(&self) -> bool {
         self.productive.len().saturating_sub(self.shown) >= self.capacity
     }
 
-    fn keep(&mut self, script: Script, has_item: bool) -> Result<(), AllocError> {
-        self.taken.push(script)?;
-        if has_item {
-            self.productive.push(self.taken.len())?;
-        }
-        Ok(())
+    /// Whether there is memory for the event that was taken.
+    fn keeps(&mut self, script: Script, has_item: bool) -> bool {
+        self.taken.push(script).is_ok()
+            && (!has_item || self.productive.push(self.taken.len()).is_ok())
     }
 
     fn drain(&mut self) -> Answer {
@@ -116,23 +150,21 @@ impl Plain {
         }
     }
 
-    /// A session that took the shortest front of the events that has as many items as viewers see.
-    fn visible(&self, alloc: Global) -> Result<Session, AllocError> {
-        let count = match self.shown {
+    /// How many events are the shortest front that has as many items as viewers see.
+    fn visible(&self) -> usize {
+        match self.shown {
             0 => 0,
             shown => self.productive.get(shown - 1).copied().unwrap_or(0),
-        };
-        let mut session = Session::new(alloc)?;
-        match take_all(alloc, &mut session, self.taken.as_slice(), count) {
-            Ok(()) => Ok(session),
-            Err(error) => Err(error),
         }
     }
 
+    /// The log, by a session that took those events.
     fn visible_log(&self, alloc: Global, k: u64, name: &str) -> Result<Option<Block>, AllocError> {
-        match self.visible(alloc) {
-            Ok(session) => session.log(alloc, k, name),
-            Err(error) => Err(error),
+        let mut session = Session::new(alloc)?;
+        if takes_all(alloc, &mut session, self.taken.as_slice(), self.visible()) {
+            session.log(alloc, k, name)
+        } else {
+            Err(AllocError)
         }
     }
 

@@ -2,14 +2,14 @@
 
 ghost use Rattle.std.specs.Prelude.{◌≤◌, ◌<◌};
 
+use super::answer_to;
 use super::plain::Plain;
-use super::script::{Script, step};
+use super::script::Script;
 use bm_lines::Letter;
 use bm_world::*;
 use rand_core::utils::NextWord;
 use rand_pcg::Pcg32;
 use std::alloc::{AllocError, Global};
-use std::test::Fail;
 
 const SCRIPTS: u64 = 320;
 
@@ -92,22 +92,6 @@ fn next_script(turn: u64, random: &mut Pcg32) -> Script {
     }
 }
 
-/// The answer of both to a step, or None where they differ.
-fn same_answer(
-    alloc: Global,
-    world: &mut World,
-    plain: &mut Plain,
-    script: Script,
-) -> Result<Option<Answer>, AllocError> {
-    let wanted = plain.answer(alloc, script)?;
-    let answer = super::answer(world, step(alloc, script)?)?;
-    if agree(&answer, &wanted) {
-        Ok(Some(answer))
-    } else {
-        Ok(None)
-    }
-}
-
 fn lines_in(answer: &Answer) -> u64 {
     match answer {
         Answer::Chunk(chunk) => chunk.lines,
@@ -115,33 +99,91 @@ fn lines_in(answer: &Answer) -> u64 {
     }
 }
 
-/// Whether both give the same answers; how many of them were lines counts in `seen`.
-fn plays(alloc: Global, seed: u64, seen: &mut u64) -> Result<bool, AllocError> {
-    let mut random = Pcg32::new(seed, 54);
-    let capacity = 1 + below(&mut random, 6) as usize;
-    let mut world = World::new(alloc, capacity)?;
-    let mut plain = Plain::new(alloc, capacity)?;
+/// How many lines both answers are, or None where they differ.
+fn lines_in_both(a: &Answer, b: &Answer) -> Option<u64> {
+    if agree(a, b) { Some(lines_in(a)) } else { None }
+}
+
+/// How many lines the world answers to a step, or None where it doesn't answer as is wanted.
+fn lines_as_wanted(
+    alloc: Global,
+    world: &mut World,
+    script: Script,
+    wanted: &Answer,
+) -> Result<Option<u64>, AllocError> {
+    match answer_to(alloc, world, script) {
+        Some(answer) => Ok(lines_in_both(&answer, wanted)),
+        None => Err(AllocError),
+    }
+}
+
+/// How many lines both answer to a step, or None where they differ.
+fn lines_of_both(
+    alloc: Global,
+    world: &mut World,
+    plain: &mut Plain,
+    script: Script,
+) -> Result<Option<u64>, AllocError> {
+    match plain.answer(alloc, script) {
+        Ok(wanted) => lines_as_wanted(alloc, world, script, &wanted),
+        Err(error) => Err(error),
+    }
+}
+
+/// Whether both give the same answers to random steps; how many lines those are counts in `seen`.
+fn agree_at_random(
+    alloc: Global,
+    random: &mut Pcg32,
+    world: &mut World,
+    plain: &mut Plain,
+    seen: &mut u64,
+) -> Result<bool, AllocError> {
     for turn in 0..STEPS {
-        let script = next_script(turn, &mut random);
-        match same_answer(alloc, &mut world, &mut plain, script)? {
-            Some(answer) => *seen = seen.saturating_add(lines_in(&answer)),
+        match lines_of_both(alloc, world, plain, next_script(turn, random))? {
+            Some(lines) => *seen = seen.saturating_add(lines),
             None => return Ok(false),
         }
     }
     Ok(true)
 }
 
+/// Whether the world and a plain one of its capacity give the same answers.
+fn agrees_at_random(
+    alloc: Global,
+    random: &mut Pcg32,
+    world: &mut World,
+    capacity: usize,
+    seen: &mut u64,
+) -> Result<bool, AllocError> {
+    match Plain::new(alloc, capacity) {
+        Ok(mut plain) => agree_at_random(alloc, random, world, &mut plain, seen),
+        Err(error) => Err(error),
+    }
+}
+
+/// The same of a new world.
+fn plays(alloc: Global, seed: u64, seen: &mut u64) -> Result<bool, AllocError> {
+    let mut random = Pcg32::new(seed, 54);
+    let capacity = 1 + below(&mut random, 6) as usize;
+    match World::new(alloc, capacity) {
+        Ok(mut world) => agrees_at_random(alloc, &mut random, &mut world, capacity, seen),
+        Err(error) => Err(error),
+    }
+}
+
+/// The same, from the beginning where that met want of memory.
+fn plays_again(alloc: Global, seed: u64, seen: &mut u64) -> bool {
+    match plays(alloc, seed, seen) {
+        Err(_) => plays(alloc, seed, seen) == Ok(true),
+        same => same == Ok(true),
+    }
+}
+
 #[test]
-fn random_scripts_have_the_plain_answers(rt: HostRuntime) -> Result<(), Fail> {
-    let alloc = rt.alloc();
+fn random_scripts_have_the_plain_answers(rt: HostRuntime) {
     let mut seen = 0;
     for seed in 0..SCRIPTS {
-        let same = match plays(alloc, seed, &mut seen) {
-            Ok(same) => same,
-            Err(_) => plays(alloc, seed, &mut seen)?,
-        };
-        assert!(rt; same, "script {seed}");
+        assert!(rt; plays_again(rt.alloc(), seed, &mut seen), "script {seed}");
     }
     assert!(rt; seen > SCRIPTS, "too few lines were looked at");
-    Ok(())
 }

@@ -2,23 +2,22 @@
 
 use super::says::Says::*;
 use super::script::Script::*;
-use super::{Row, play_copies, played, plays, run};
+use super::{Row, new_world, play, plays, plays_copies, runs};
 use bm_lines::Letter::{E, H, O};
 use bm_session::{Refusal, Results};
-use std::test::Fail;
 
 #[test]
-fn nothing_is_there_at_first(rt: HostRuntime) -> Result<(), Fail> {
+fn nothing_is_there_at_first(rt: HostRuntime) {
     static ROWS: [Row; 3] = [
         (Look(0, "stdio", 0, 10), NoLog),
         (Stop(0), Refused(Refusal::NotUp)),
         (Drain, Empty),
     ];
-    plays(&rt, 4, &ROWS, &[])
+    plays(&rt, 4, &ROWS, &[]);
 }
 
 #[test]
-fn lines_are_seen_once_drained(rt: HostRuntime) -> Result<(), Fail> {
+fn lines_are_seen_once_drained(rt: HostRuntime) {
     static ROWS: [Row; 9] = [
         (Up, Silent),
         (Go, Start(0, 0)),
@@ -30,11 +29,11 @@ fn lines_are_seen_once_drained(rt: HostRuntime) -> Result<(), Fail> {
         (Look(0, "stdio", 0, 10), Lines(0, 1, "oa\n")),
         (Drain, Empty),
     ];
-    plays(&rt, 4, &ROWS, &[])
+    plays(&rt, 4, &ROWS, &[]);
 }
 
 #[test]
-fn full_queue_is_busy_until_drained(rt: HostRuntime) -> Result<(), Fail> {
+fn full_queue_is_busy_until_drained(rt: HostRuntime) {
     static ROWS: [Row; 7] = [
         (Up, Silent),
         (Go, Start(0, 0)),
@@ -44,11 +43,11 @@ fn full_queue_is_busy_until_drained(rt: HostRuntime) -> Result<(), Fail> {
         (Up, Silent),
         (Look(0, "stdio", 0, 9), Lines(0, 0, "")),
     ];
-    run(&rt, &ROWS)
+    assert!(rt; runs(rt.alloc(), &ROWS));
 }
 
 #[test]
-fn busy_lane_takes_after_drain(rt: HostRuntime) -> Result<(), Fail> {
+fn busy_lane_takes_after_drain(rt: HostRuntime) {
     static ROWS: [Row; 10] = [
         (Up, Silent),
         (Go, Start(0, 0)),
@@ -61,13 +60,13 @@ fn busy_lane_takes_after_drain(rt: HostRuntime) -> Result<(), Fail> {
         (Update(3, 0, "stdio", O, "a\n"), Done(3)),
         (Look(0, "stdio", 0, 9), Lines(0, 0, "")),
     ];
-    let world = played(&rt, 4, &ROWS)?;
+    let mut world = new_world(rt.alloc(), 4).expect(&rt, "memory for a world");
+    play(&rt, &mut world, &ROWS, &[]);
     assert!(rt; world.session().trace().len() == 7);
-    Ok(())
 }
 
 #[test]
-fn numbers_start_afresh_after_a_loss(rt: HostRuntime) -> Result<(), Fail> {
+fn numbers_start_afresh_after_a_loss(rt: HostRuntime) {
     static ROWS: [Row; 17] = [
         (Up, Silent),
         (Go, Start(0, 0)),
@@ -87,11 +86,11 @@ fn numbers_start_afresh_after_a_loss(rt: HostRuntime) -> Result<(), Fail> {
         (Look(1, "stdio", 0, 9), Lines(0, 1, "on\n")),
         (Drain, Empty),
     ];
-    plays(&rt, 8, &ROWS, &[Some(Results::Retry), None])
+    plays(&rt, 8, &ROWS, &[Some(Results::Retry), None]);
 }
 
 #[test]
-fn update_after_complete_is_not_kept(rt: HostRuntime) -> Result<(), Fail> {
+fn update_after_complete_is_not_kept(rt: HostRuntime) {
     static ROWS: [Row; 10] = [
         (Up, Silent),
         (Go, Start(0, 0)),
@@ -104,11 +103,11 @@ fn update_after_complete_is_not_kept(rt: HostRuntime) -> Result<(), Fail> {
         (Drain, Empty),
         (Look(0, "stdio", 0, 9), Lines(0, 0, "")),
     ];
-    plays(&rt, 4, &ROWS, &[Some(Results::Cancelled)])
+    plays(&rt, 4, &ROWS, &[Some(Results::Cancelled)]);
 }
 
 #[test]
-fn four_commands_are_open_at_most(rt: HostRuntime) -> Result<(), Fail> {
+fn four_commands_are_open_at_most(rt: HostRuntime) {
     static ROWS: [Row; 7] = [
         (Up, Silent),
         (Up, Refused(Refusal::AlreadyUp)),
@@ -118,11 +117,11 @@ fn four_commands_are_open_at_most(rt: HostRuntime) -> Result<(), Fail> {
         (Go, Start(3, 3)),
         (Go, Refused(Refusal::TooManyOpen)),
     ];
-    plays(&rt, 8, &ROWS, &[])
+    plays(&rt, 8, &ROWS, &[]);
 }
 
 #[test]
-fn named_log_is_seen_under_its_name(rt: HostRuntime) -> Result<(), Fail> {
+fn named_log_is_seen_under_its_name(rt: HostRuntime) {
     static ROWS: [Row; 9] = [
         (Up, Silent),
         (Go, Start(0, 0)),
@@ -134,11 +133,11 @@ fn named_log_is_seen_under_its_name(rt: HostRuntime) -> Result<(), Fail> {
         (Look(0, "stdio", 0, 9), Lines(0, 0, "")),
         (Look(0, "m", 0, 10), NoLog),
     ];
-    plays(&rt, 4, &ROWS, &[])
+    plays(&rt, 4, &ROWS, &[]);
 }
 
 #[test]
-fn resumed_session_doubles_no_line(rt: HostRuntime) -> Result<(), Fail> {
+fn resumed_session_doubles_no_line(rt: HostRuntime) {
     static ROWS: [Row; 14] = [
         (Up, Silent),
         (Go, Start(0, 0)),
@@ -155,11 +154,11 @@ fn resumed_session_doubles_no_line(rt: HostRuntime) -> Result<(), Fail> {
         (Drain, Empty),
         (Look(0, "stdio", 0, 9), Lines(0, 3, "oa\nob\noc\n")),
     ];
-    plays(&rt, 8, &ROWS, &[None])
+    plays(&rt, 8, &ROWS, &[None]);
 }
 
 #[test]
-fn cut_session_is_resumed_or_given_up(rt: HostRuntime) -> Result<(), Fail> {
+fn cut_session_is_resumed_or_given_up(rt: HostRuntime) {
     static ROWS: [Row; 11] = [
         (Up, Silent),
         (Go, Start(0, 0)),
@@ -173,11 +172,11 @@ fn cut_session_is_resumed_or_given_up(rt: HostRuntime) -> Result<(), Fail> {
         (Up, Silent),
         (Go, Start(0, 2)),
     ];
-    plays(&rt, 8, &ROWS, &[Some(Results::Retry)])
+    plays(&rt, 8, &ROWS, &[Some(Results::Retry)]);
 }
 
 #[test]
-fn lines_are_seen_from_a_place_on(rt: HostRuntime) -> Result<(), Fail> {
+fn lines_are_seen_from_a_place_on(rt: HostRuntime) {
     static ROWS: [Row; 14] = [
         (Up, Silent),
         (Go, Start(0, 0)),
@@ -194,11 +193,11 @@ fn lines_are_seen_from_a_place_on(rt: HostRuntime) -> Result<(), Fail> {
         (Look(0, "stdio", 7, 9), Lines(7, 0, "")),
         (Look(0, "stdio", 1, 0), Lines(1, 0, "")),
     ];
-    plays(&rt, 4, &ROWS, &[])
+    plays(&rt, 4, &ROWS, &[]);
 }
 
 #[test]
-fn refused_start_ends_its_command(rt: HostRuntime) -> Result<(), Fail> {
+fn refused_start_ends_its_command(rt: HostRuntime) {
     static ROWS: [Row; 5] = [
         (Up, Silent),
         (Go, Start(0, 0)),
@@ -206,11 +205,11 @@ fn refused_start_ends_its_command(rt: HostRuntime) -> Result<(), Fail> {
         (Update(0, 0, "stdio", O, "a\n"), NoCommand(0)),
         (Stop(0), Refused(Refusal::NoSuchCommand)),
     ];
-    plays(&rt, 4, &ROWS, &[Some(Results::Exception)])
+    plays(&rt, 4, &ROWS, &[Some(Results::Exception)]);
 }
 
 #[test]
-fn copies_are_equal(rt: HostRuntime) -> Result<(), Fail> {
+fn copies_are_equal(rt: HostRuntime) {
     static ROWS: [Row; 10] = [
         (Up, Silent),
         (Up, Refused(Refusal::AlreadyUp)),
@@ -223,5 +222,5 @@ fn copies_are_equal(rt: HostRuntime) -> Result<(), Fail> {
         (Drain, Empty),
         (Look(0, "stdio", 0, 1), Lines(0, 1, "oa\n")),
     ];
-    play_copies(&rt, &ROWS)
+    assert!(rt; plays_copies(rt.alloc(), &ROWS));
 }

@@ -26,61 +26,62 @@ pub enum Script {
 
 fn parcel(alloc: Global, name: &str, letter: Letter, text: &str) -> Result<Parcel, AllocError> {
     match LogName::new(alloc, name) {
-        Ok(Some(name)) => one_part(alloc, &name, letter, text),
-        Ok(None) => Err(AllocError),
-        Err(error) => Err(error),
+        Ok(Some(name)) => Parcel::of_str(alloc, name, letter, text),
+        _ => Err(AllocError),
     }
 }
 
-fn one_part(
+/// What is heard of an update: a text of one of the command's logs.
+fn update(
     alloc: Global,
-    name: &LogName,
+    command: u64,
+    name: &str,
     letter: Letter,
     text: &str,
-) -> Result<Parcel, AllocError> {
-    let mut parcel = Parcel::new(alloc);
-    match parcel.add(name, letter, text) {
-        Ok(()) => Ok(parcel),
+) -> Result<Body, AllocError> {
+    match parcel(alloc, name, letter, text) {
+        Ok(parcel) => Ok(Body::Update {
+            command,
+            parcel,
+            rc: None,
+        }),
         Err(error) => Err(error),
     }
 }
 
 /// The event that is heard, or None where the step is no hearing.
 pub fn event(alloc: Global, script: Script) -> Result<Option<Event>, AllocError> {
-    Ok(Some(match script {
+    let event = match script {
         Script::Up => Event::Up,
         Script::Go => Event::Go,
         Script::Stop(k) => Event::Stop(k),
         Script::Cut => Event::Cut,
         Script::Down => Event::Down,
         Script::Update(seq, command, name, letter, text) => {
-            let parcel = parcel(alloc, name, letter, text)?;
-            let rc = None;
-            Event::In(
-                seq,
-                Body::Update {
-                    command,
-                    parcel,
-                    rc,
-                },
-            )
+            Event::In(seq, update(alloc, command, name, letter, text)?)
         }
         Script::Complete(seq, command, fault) => Event::In(seq, Body::Complete { command, fault }),
         Script::Answered(seq, fault) => Event::In(seq, Body::Answered { fault }),
         Script::BadArgs(seq) => Event::bad_args(seq),
         Script::Drain | Script::Look(_, _, _, _) => return Ok(None),
-    }))
+    };
+    Ok(Some(event))
+}
+
+fn look(alloc: Global, k: u64, name: &str, offset: u64, limit: u64) -> Result<Step, AllocError> {
+    match Text::from_str(alloc, name) {
+        Ok(name) => Ok(Step::Look(k, name, offset, limit)),
+        Err(error) => Err(error),
+    }
 }
 
 pub fn step(alloc: Global, script: Script) -> Result<Step, AllocError> {
-    if let Some(event) = event(alloc, script)? {
-        return Ok(Step::Hear(event));
+    if let Script::Look(k, name, offset, limit) = script {
+        return look(alloc, k, name, offset, limit);
     }
-    match script {
-        Script::Look(k, name, offset, limit) => {
-            let name = Text::from_str(alloc, name)?;
-            Ok(Step::Look(k, name, offset, limit))
-        }
-        _ => Ok(Step::Drain),
+    match event(alloc, script) {
+        Ok(Some(event)) => Ok(Step::Hear(event)),
+        Ok(None) => Ok(Step::Drain),
+        Err(error) => Err(error),
     }
 }
