@@ -4,24 +4,25 @@ use bm_rules::*;
 use bm_session::Results;
 use std::alloc::Global;
 use std::process::Abort;
-use std::test::Fail;
 
 /// An event of a worker, whether it takes builds then, what is done with its process, and whether
 /// the builds that wait are given up.
 type Row = (WorkerEvent, bool, ProcessDuty, bool);
 
-/// A worker goes through the rows.
-fn goes_through(rt: &impl Abort, post: Post, rows: &[Row]) -> Result<(), Fail> {
-    let mut post = post;
-    for (event, ready, process, gives_up) in rows {
-        let duty = post.hear(*event);
-        let is_right = duty.ready == *ready
-            && duty.process == *process
-            && duty.gives_up == *gives_up
-            && post.is_ready() == *ready;
-        assert!(rt; is_right, "at {event:?}: {duty:?}");
+/// Whether the duty at the row's event is that of the row.
+fn is_done(post: &mut Post, (event, ready, process, gives_up): &Row) -> bool {
+    let duty = post.hear(*event);
+    duty.ready == *ready
+        && duty.process == *process
+        && duty.gives_up == *gives_up
+        && post.is_ready() == *ready
+}
+
+/// A worker goes through the rows, which count from 0.
+fn goes_through(rt: &impl Abort, mut post: Post, rows: &[Row]) {
+    for (n, row) in rows.iter().enumerate() {
+        assert!(rt; is_done(&mut post, row), "row {n}");
     }
-    Ok(())
 }
 
 const IDLE: WorkerEvent = WorkerEvent::Tick { has_build: false };
@@ -29,7 +30,7 @@ const IDLE: WorkerEvent = WorkerEvent::Tick { has_build: false };
 const BUSY: WorkerEvent = WorkerEvent::Tick { has_build: true };
 
 #[test]
-fn latent_worker_is_started_and_stopped(rt: HostRuntime) -> Result<(), Fail> {
+fn latent_worker_is_started_and_stopped(rt: HostRuntime) {
     static ROWS: [Row; 17] = [
         (WorkerEvent::Wanted, false, ProcessDuty::Start, false),
         (WorkerEvent::Wanted, false, ProcessDuty::None, false),
@@ -49,22 +50,22 @@ fn latent_worker_is_started_and_stopped(rt: HostRuntime) -> Result<(), Fail> {
         (WorkerEvent::Wanted, false, ProcessDuty::Start, false),
         (WorkerEvent::Stopped, false, ProcessDuty::None, true),
     ];
-    goes_through(&rt, Post::latent(3), &ROWS)
+    goes_through(&rt, Post::latent(3), &ROWS);
 }
 
 #[test]
-fn stranger_is_sent_away_and_forgotten(rt: HostRuntime) -> Result<(), Fail> {
+fn stranger_is_sent_away_and_forgotten(rt: HostRuntime) {
     static ROWS: [Row; 4] = [
         (WorkerEvent::Attached, false, ProcessDuty::Shutdown, false),
         (WorkerEvent::Wanted, false, ProcessDuty::None, false),
         (WorkerEvent::Lost, false, ProcessDuty::Start, false),
         (WorkerEvent::Failed, false, ProcessDuty::None, true),
     ];
-    goes_through(&rt, Post::latent(1), &ROWS)
+    goes_through(&rt, Post::latent(1), &ROWS);
 }
 
 #[test]
-fn plain_worker_takes_builds_while_attached(rt: HostRuntime) -> Result<(), Fail> {
+fn plain_worker_takes_builds_while_attached(rt: HostRuntime) {
     static ROWS: [Row; 8] = [
         (WorkerEvent::Wanted, false, ProcessDuty::None, false),
         (WorkerEvent::Attached, true, ProcessDuty::None, false),
@@ -75,7 +76,7 @@ fn plain_worker_takes_builds_while_attached(rt: HostRuntime) -> Result<(), Fail>
         (WorkerEvent::Wanted, false, ProcessDuty::None, true),
         (WorkerEvent::Lost, false, ProcessDuty::None, false),
     ];
-    goes_through(&rt, Post::plain(), &ROWS)
+    goes_through(&rt, Post::plain(), &ROWS);
 }
 
 /// Whether a lane with these ticks to resume is over after so many of them, and was not before.
@@ -88,32 +89,43 @@ fn is_over_after(tenure: &mut Tenure, ticks: u32) -> bool {
     !tenure.is_over() && tenure.tick() && tenure.is_over()
 }
 
+/// Whether the count of a lane begins anew with each cut, and stops where a connection is attached.
+fn is_counted_anew(tenure: &mut Tenure) -> bool {
+    tenure.begin();
+    tenure.cut();
+    let lasts = !tenure.tick() && !tenure.tick();
+    tenure.begin();
+    lasts && !tenure.tick() && !tenure.tick()
+}
+
+/// Whether a lane whose worker isn't awaited is over at its cut, and nothing is counted after that.
+fn is_over_at_once(tenure: &mut Tenure) -> bool {
+    tenure.dismiss();
+    let lasts = !tenure.is_over();
+    tenure.cut();
+    let is_over = tenure.is_over();
+    tenure.end();
+    lasts && is_over && !tenure.is_over() && !tenure.is_counting()
+}
+
 #[test]
-fn cut_lane_is_given_up_in_time(rt: HostRuntime) -> Result<(), Fail> {
+fn cut_lane_is_given_up_in_time(rt: HostRuntime) {
     let mut tenure = Tenure::new(3);
     assert!(rt; !tenure.tick() && !tenure.is_counting());
     tenure.cut();
     assert!(rt; tenure.is_counting() && is_over_after(&mut tenure, 3));
-    tenure.begin();
-    tenure.cut();
-    assert!(rt; !tenure.tick() && !tenure.tick());
-    tenure.begin();
-    assert!(rt; !tenure.tick() && !tenure.tick());
-    tenure.dismiss();
-    assert!(rt; !tenure.is_over());
-    tenure.cut();
-    assert!(rt; tenure.is_over());
-    tenure.end();
-    assert!(rt; !tenure.is_over() && !tenure.is_counting());
-    Ok(())
+    assert!(rt; is_counted_anew(&mut tenure) && is_over_at_once(&mut tenure));
 }
 
+/// Moments, and how many ticks have ended since the one before.
+const MOMENTS: [(u64, u64); 6] = [(14, 0), (36, 3), (44, 0), (0, 0), (45, 1), (1045, 100)];
+
 #[test]
-fn ticks_are_counted_once(rt: HostRuntime) -> Result<(), Fail> {
+fn ticks_are_counted_once(rt: HostRuntime) {
     let mut pace = Pace::new(10, 5);
-    assert!(rt; pace.ticks(14) == 0 && pace.ticks(36) == 3 && pace.ticks(44) == 0);
-    assert!(rt; pace.ticks(0) == 0 && pace.ticks(45) == 1 && pace.ticks(1045) == 100);
-    Ok(())
+    for (now, ticks) in &MOMENTS {
+        assert!(rt; pace.ticks(*now) == *ticks, "at {now}");
+    }
 }
 
 /// Lines of standard input, and the build that each cancels.
@@ -131,19 +143,25 @@ const LINES: [(&[u8], Option<u64>); 10] = [
 ];
 
 #[test]
-fn cancel_is_read_exactly(rt: HostRuntime) -> Result<(), Fail> {
+fn cancel_is_read_exactly(rt: HostRuntime) {
     for (line, build) in &LINES {
         assert!(rt; read_cancel(line) == *build, "{line:?}");
     }
-    Ok(())
 }
 
+/// Results of builds, whether a thread failed, and the status.
+const ENDS: [(&[Results], bool, u8); 4] = [
+    (&[Results::Success, Results::Warnings], false, 0),
+    (&[], false, 0),
+    (&[Results::Success, Results::Warnings], true, 1),
+    (&[Results::Success, Results::Skipped], false, 1),
+];
+
 #[test]
-fn status_tells_a_bad_end(rt: HostRuntime) -> Result<(), Fail> {
-    let good = [Results::Success, Results::Warnings];
-    assert!(rt; status(&good, false) == 0 && status(&[], false) == 0 && status(&good, true) == 1);
-    assert!(rt; status(&[Results::Success, Results::Skipped], false) == 1);
-    Ok(())
+fn status_tells_a_bad_end(rt: HostRuntime) {
+    for (n, (results, failed, wanted)) in ENDS.iter().enumerate() {
+        assert!(rt; status(results, *failed) == *wanted, "row {n}");
+    }
 }
 
 /// Whether a remark is that line.
@@ -152,36 +170,32 @@ fn says(alloc: Global, remark: Remark<'_>, line: &str) -> bool {
     remark.write(alloc, &mut output).is_ok() && output.as_slice() == line.as_bytes()
 }
 
-#[test]
-fn remarks_are_one_line(rt: HostRuntime) -> Result<(), Fail> {
-    let log = LogId {
-        command: 3,
-        lane: 1,
-        lanes: 4,
-    };
-    let step = "a\nb\\c\u{9b}d\u{e9}";
-    let started = Remark::StepStarted {
-        build: 2,
-        log,
-        step,
-    };
-    let cause = LossCause::Expired;
-    assert!(rt;
-        says(
-            rt.alloc(),
-            started,
-            "build 2 step started, log 13: a\\x0ab\\\\c\\x9bd\u{e9}\n"
-        )
-    );
-    assert!(rt;
-        says(
-            rt.alloc(),
-            Remark::Lost {
-                worker: "w 0",
-                cause
+/// Remarks, and their lines.
+const REMARKS: [(Remark<'static>, &str); 2] = [
+    (
+        Remark::StepStarted {
+            build: 2,
+            log: LogId {
+                command: 3,
+                lane: 1,
+                lanes: 4,
             },
-            "worker w 0 lost, not resumed in time\n"
-        )
-    );
-    Ok(())
+            step: "a\nb\\c\u{9b}d\u{e9}",
+        },
+        "build 2 step started, log 13: a\\x0ab\\\\c\\x9bd\u{e9}\n",
+    ),
+    (
+        Remark::Lost {
+            worker: "w 0",
+            cause: LossCause::Expired,
+        },
+        "worker w 0 lost, not resumed in time\n",
+    ),
+];
+
+#[test]
+fn remarks_are_one_line(rt: HostRuntime) {
+    for (remark, line) in &REMARKS {
+        assert!(rt; says(rt.alloc(), *remark, line), "{line}");
+    }
 }
