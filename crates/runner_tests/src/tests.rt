@@ -11,7 +11,7 @@ use std::process::Abort;
 use std::test::Fail;
 
 /// What a scripted port does next.
-#[derive(Clone, Copy, Debug)]
+#[derive(Clone, Copy)]
 enum Line {
     Refuse,
     Say(Polled),
@@ -32,7 +32,7 @@ const RETRY: Line = Line::Say(Polled::Ended(Results::Retry));
 const CANCELLED: Line = Line::Say(Polled::Ended(Results::Cancelled));
 
 /// A port over memory. It goes down its script, and says `Running` at its end.
-#[derive(Debug, Drop)]
+#[derive(Drop)]
 struct Scripted {
     entries: Entries,
     refused: bool,
@@ -98,41 +98,62 @@ impl Port for Scripted {
     }
 }
 
-fn make_step(
-    alloc: Global,
-    name: &str,
-    halt_on_failure: bool,
-    always_run: bool,
-) -> Result<StepPlan, AllocError> {
-    Ok(StepPlan {
-        name: Text::from_str(alloc, name)?,
-        argv: Words::from_vec(Vec::new(alloc)),
-        halt_on_failure,
-        flunk_on_failure: true,
-        always_run,
+/// A step's name, whether it halts its build where it fails, and whether it always runs.
+type Plan = (&'static str, bool, bool);
+
+static PLANS: [Plan; 3] = [
+    ("halt", true, false),
+    ("plain", false, false),
+    ("always", false, true),
+];
+
+fn make_step(alloc: Global, (name, halts, always): &Plan) -> Option<StepPlan> {
+    match Text::from_str(alloc, name) {
+        Ok(name) => Some(StepPlan {
+            name,
+            argv: Words::new(alloc),
+            halt_on_failure: *halts,
+            flunk_on_failure: true,
+            always_run: *always,
+        }),
+        Err(_) => None,
+    }
+}
+
+/// Whether the step is put behind the others.
+fn puts_step(alloc: Global, steps: &mut Vec<StepPlan>, plan: &Plan) -> bool {
+    if steps.reserve(1).is_err() {
+        return false;
+    }
+    match make_step(alloc, plan) {
+        Some(step) => {
+            steps.push_reserved(step);
+            true
+        }
+        None => false,
+    }
+}
+
+/// A build of the first steps, so many.
+fn try_build(alloc: Global, count: usize) -> Option<Build> {
+    let mut steps = Vec::new(alloc);
+    for plan in PLANS.iter().take(count) {
+        if !puts_step(alloc, &mut steps, plan) {
+            return None;
+        }
+    }
+    Some(Build {
+        worker: 0,
+        locks: LockUses::new(alloc),
+        steps: StepPlans::from_vec(steps),
     })
 }
 
-/// A build whose first step halts it where it fails, and whose third step always runs.
-fn make_build(alloc: Global, count: usize) -> Result<Build, AllocError> {
-    let mut steps = Vec::with_capacity(alloc, 3)?;
-    for (place, (name, halts, always)) in [
-        ("halt", true, false),
-        ("plain", false, false),
-        ("always", false, true),
-    ]
-    .into_iter()
-    .enumerate()
-    {
-        if place < count {
-            steps.push(make_step(alloc, name, halts, always)?)?;
-        }
+fn make_build(alloc: Global, count: usize) -> Option<Build> {
+    match try_build(alloc, count) {
+        None => try_build(alloc, count),
+        build => build,
     }
-    Ok(Build {
-        worker: 0,
-        locks: LockUses::from_vec(Vec::new(alloc)),
-        steps: StepPlans::from_vec(steps),
-    })
 }
 
 fn try_port(alloc: Global, script: [Line; 4]) -> Result<Scripted, AllocError>
@@ -157,24 +178,47 @@ fn make_port(alloc: Global, script: [Line; 4]) -> Result<Scripted, AllocError>
     }
 }
 
-/// Runs the first steps of the build over the script. Where a request for memory is refused, the
-/// port is as it was, and all is tried once more.
+/// Runs the build. Where a request for memory is refused, the port is as it was, and all is tried
+/// once more.
+fn run_build_again(
+    alloc: Global,
+    build: &Build,
+    port: &mut Scripted,
+    turns: u64,
+) -> Result<Report, AllocError>
+    requires { port.old.refused ≡ false }
+{
+    match run_build(alloc, build, port, turns) {
+        Err(_) => run_build(alloc, build, port, turns),
+        report => report,
+    }
+}
+
+/// Runs the build over the script.
+fn run_over(
+    alloc: Global,
+    build: &Build,
+    script: [Line; 4],
+    turns: u64,
+) -> Result<(Report, Scripted), AllocError> {
+    let mut port = make_port(alloc, script)?;
+    match run_build_again(alloc, build, &mut port, turns) {
+        Ok(report) => Ok((report, port)),
+        Err(error) => Err(error),
+    }
+}
+
+/// Runs the first steps of the build over the script.
 fn run(
     alloc: Global,
     count: usize,
     script: [Line; 4],
     turns: u64,
 ) -> Result<(Report, Scripted), AllocError> {
-    let build = match make_build(alloc, count) {
-        Err(_) => make_build(alloc, count)?,
-        Ok(build) => build,
-    };
-    let mut port = make_port(alloc, script)?;
-    let report = match run_build(alloc, &build, &mut port, turns) {
-        Err(_) => run_build(alloc, &build, &mut port, turns)?,
-        Ok(report) => report,
-    };
-    Ok((report, port))
+    match make_build(alloc, count) {
+        Some(build) => run_over(alloc, &build, script, turns),
+        None => Err(AllocError),
+    }
 }
 
 /// What a run leaves: its outcomes and its result, the first letters of the steps that were to be
@@ -196,7 +240,12 @@ fn is_report(report: &Report, outcomes: &[Results], whole: Results) -> bool {
 }
 
 fn were_polled(entries: &[Told], polls: &[u64]) -> bool {
-    entries.len() == polls.len() && entries.iter().zip(polls).all(|(a, b)| a.polls == *b)
+    for (entry, count) in entries.iter().zip(polls) {
+        if entry.polls != *count {
+            return false;
+        }
+    }
+    entries.len() == polls.len()
 }
 
 impl Left {
@@ -209,18 +258,25 @@ impl Left {
     }
 }
 
-/// Each row's run leaves what the row says; rows count from 0.
-fn leave(rt: &(impl AllocGlobal + Abort), rows: &[Row]) -> Result<(), Fail> {
-    for (n, (count, script, turns, left)) in rows.iter().enumerate() {
-        let (report, port) = run(rt.alloc(), *count, *script, *turns)?;
-        let is_right = is_report(&report, left.outcomes, left.result) && left.is_in(&port);
-        assert!(rt; is_right, "row {n}");
+/// Whether the row's run leaves what the row says.
+fn leaves(alloc: Global, (count, script, turns, left): &Row) -> bool {
+    match run(alloc, *count, *script, *turns) {
+        Ok((report, port)) => {
+            is_report(&report, left.outcomes, left.result) && left.is_in(&port)
+        }
+        Err(_) => false,
     }
-    Ok(())
+}
+
+/// Each row's run leaves what the row says; rows count from 0.
+fn leave(rt: &(impl AllocGlobal + Abort), rows: &[Row]) {
+    for (n, row) in rows.iter().enumerate() {
+        assert!(rt; leaves(rt.alloc(), row), "row {n}");
+    }
 }
 
 #[test]
-fn outcomes_are_those_of_the_port(rt: HostRuntime) -> Result<(), Fail> {
+fn outcomes_are_those_of_the_port(rt: HostRuntime) {
     static ROWS: [Row; 3] = [
         (
             3,
@@ -262,11 +318,11 @@ fn outcomes_are_those_of_the_port(rt: HostRuntime) -> Result<(), Fail> {
             },
         ),
     ];
-    leave(&rt, &ROWS)
+    leave(&rt, &ROWS);
 }
 
 #[test]
-fn one_step_ends_by_what_its_port_says(rt: HostRuntime) -> Result<(), Fail> {
+fn one_step_ends_by_what_its_port_says(rt: HostRuntime) {
     static ROWS: [Row; 3] = [
         (
             1,
@@ -308,12 +364,12 @@ fn one_step_ends_by_what_its_port_says(rt: HostRuntime) -> Result<(), Fail> {
             },
         ),
     ];
-    leave(&rt, &ROWS)
+    leave(&rt, &ROWS);
 }
 
 /// In the second row the worker is lost between two steps.
 #[test]
-fn refused_start_is_retried_by_no_later_step(rt: HostRuntime) -> Result<(), Fail> {
+fn refused_start_is_retried_by_no_later_step(rt: HostRuntime) {
     static ROWS: [Row; 2] = [
         (
             1,
@@ -342,30 +398,42 @@ fn refused_start_is_retried_by_no_later_step(rt: HostRuntime) -> Result<(), Fail
             },
         ),
     ];
-    leave(&rt, &ROWS)
+    leave(&rt, &ROWS);
+}
+
+/// Whether a copy of the report has these outcomes and this result.
+fn is_copied(report: &Report, outcomes: &[Results], whole: Results) -> bool {
+    let copy = match report.copy() {
+        Err(_) => report.copy(),
+        copy => copy,
+    };
+    match copy {
+        Ok(copy) => is_report(&copy, outcomes, whole),
+        Err(_) => false,
+    }
 }
 
 #[test]
 fn report_is_copied_whole(rt: HostRuntime) -> Result<(), Fail> {
     let (report, _) = run(rt.alloc(), 1, [FAILURE, RUNNING, RUNNING, RUNNING], 9)?;
-    let copy = match report.copy() {
-        Err(_) => report.copy()?,
-        Ok(copy) => copy,
-    };
-    assert!(rt; is_report(&copy, &[Results::Failure], Results::Failure));
+    assert!(rt; is_copied(&report, &[Results::Failure], Results::Failure));
     Ok(())
 }
 
-#[test]
-fn reserved_entry_is_begun(rt: HostRuntime) -> Result<(), Fail> {
-    let mut entries = Entries::new(rt.alloc());
-    let has_room = entries.reserve().is_ok() || entries.reserve().is_ok();
-    assert!(rt; has_room && entries.as_slice().is_empty());
+/// Whether there is room, and then an entry for the command 7 is begun.
+fn is_begun(entries: &mut Entries) -> bool {
     let first = Told {
         k: 7,
         polls: 0,
         ended: None,
     };
-    assert!(rt; entries.begin(7).is_ok() && entries.as_slice() == [first].as_slice());
-    Ok(())
+    (entries.reserve().is_ok() || entries.reserve().is_ok())
+        && entries.as_slice().is_empty()
+        && entries.begin(7).is_ok()
+        && entries.as_slice() == [first].as_slice()
+}
+
+#[test]
+fn reserved_entry_is_begun(rt: HostRuntime) {
+    assert!(rt; is_begun(&mut Entries::new(rt.alloc())));
 }
