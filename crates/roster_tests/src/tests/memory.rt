@@ -5,7 +5,7 @@
 //! request is refused, and no call is made twice.
 ghost use Rattle.std.specs.Prelude.{◌≡◌};
 
-use super::{build_of, roster_of};
+use super::{build_of, roster_of, starts_none};
 use bm_board::{BoardRefusal, Build, Mode};
 use bm_lane::{Blank, Viewer, Yard, open};
 use bm_roster::{Commission, Roster};
@@ -42,17 +42,21 @@ fn build_again(alloc: Global) -> Option<Build> {
     }
 }
 
-/// Whether a build is added under that number, by a second call where memory was wanting.
-fn is_added_again<Y: Yard>(alloc: Global, roster: &mut Roster<Y>, number: u64) -> bool {
-    let Some(build) = build_again(alloc) else {
-        return false;
-    };
+/// Whether the build is added under that number, by a second call where memory was wanting.
+fn takes_again<Y: Yard>(alloc: Global, roster: &mut Roster<Y>, build: &Build, number: u64) -> bool {
     let before = look_at(roster);
-    match roster.add(alloc, &build) {
+    match roster.add(alloc, build) {
         Err(BoardRefusal::Mem) => {
-            look_at(roster) == before && roster.add(alloc, &build) == Ok(number)
+            look_at(roster) == before && roster.add(alloc, build) == Ok(number)
         }
         answer => answer == Ok(number),
+    }
+}
+
+fn is_added_again<Y: Yard>(alloc: Global, roster: &mut Roster<Y>, number: u64) -> bool {
+    match build_again(alloc) {
+        Some(build) => takes_again(alloc, roster, &build, number),
+        None => false,
     }
 }
 
@@ -65,35 +69,47 @@ fn next_again<Y: Yard>(roster: &mut Roster<Y>) -> Option<Commission<Y>> {
     }
 }
 
-/// Whether these builds end, with their results.
-fn are_ended<Y: Yard>(roster: &mut Roster<Y>, first: Commission<Y>, second: Commission<Y>) -> bool {
-    let (one, other) = (first.number, second.number);
-    roster.end(one, Results::Success, first.viewer)
-        && roster.end(other, Results::Failure, second.viewer)
+/// Whether the build is the one of this number, and ends.
+fn is_ended<Y: Yard>(
+    roster: &mut Roster<Y>,
+    build: Commission<Y>,
+    number: u64,
+    reported: Results,
+) -> bool {
+    let is_it = build.number == number;
+    roster.end(number, reported, build.viewer) && is_it
+}
+
+/// Whether the other build is started beside the first, no build is left, and both end with their
+/// results.
+fn are_ended<Y: Yard>(roster: &mut Roster<Y>, first: Commission<Y>, one: u64, other: u64) -> bool {
+    let Some(second) = next_again(roster) else {
+        return false;
+    };
+    let is_last = starts_none(roster);
+    let is_first_ended = is_ended(roster, first, one, Results::Success);
+    let is_second_ended = is_ended(roster, second, other, Results::Failure);
+    is_last
+        && is_first_ended
+        && is_second_ended
         && roster.is_over()
         && roster.result(one) == Some(Results::Success)
         && roster.result(other) == Some(Results::Failure)
 }
 
-/// Whether two builds that wait are both started. Where memory is wanting for the first, the second
-/// goes on, and the first is started by the next call.
+/// Whether two builds that wait are both started, and end. Where memory is wanting for the first,
+/// the second goes on, and the first is started by the next call.
 fn are_started_again<Y: Yard>(roster: &mut Roster<Y>) -> bool {
     let Some(first) = next_again(roster) else {
         return false;
     };
     let (one, other) = if roster.is_short() { (1, 0) } else { (0, 1) };
-    let Some(second) = next_again(roster) else {
-        return false;
-    };
-    first.number == one
-        && second.number == other
-        && roster.next().is_none()
-        && are_ended(roster, first, second)
+    are_ended(roster, first, one, other)
 }
 
 /// Whether two builds are added, started and ended. None where there is no roster.
 fn is_kept_again<Y: Yard>(alloc: Global, viewers: Vec<Viewer<Y>>) -> Option<bool> {
-    let mut roster = roster_of(alloc, viewers, 0)?;
+    let mut roster = roster_of(alloc, viewers)?;
     roster.set_ready(0, true);
     let is_right = is_added_again(alloc, &mut roster, 0)
         && is_added_again(alloc, &mut roster, 1)
