@@ -3,7 +3,7 @@ ghost use Rattle.std.specs.Prelude.{◌≡◌};
 
 use crate::lists::config_again;
 use bm_config::WorkerConfig;
-use bm_lane::{Blank, Yard};
+use bm_lane::{Blank, Ends, Yard};
 use bm_parts::{Doors, Parts, deal, open_all, open_doors};
 use std::alloc::{AllocGlobal, Global};
 use std::marker::Brand;
@@ -15,16 +15,20 @@ use std::test::Fail;
 const CALLS: u32 = 2;
 
 /// Whether there are two doors, each with its inbox.
+fn are_two(doors: &Doors<TcpStream>) -> bool {
+    match doors.outer.as_slice() {
+        [first, second] => first.lane() == 0 && second.lane() == 1 && doors.inner.len() == 2,
+        _ => false,
+    }
+}
+
 fn are_open_again(alloc: Global) -> bool {
     let doors: Result<Doors<TcpStream>, _> = match open_doors(alloc, 2) {
         Err(_) => open_doors(alloc, 2),
         doors => doors,
     };
     match doors {
-        Ok(doors) => match doors.outer.as_slice() {
-            [first, second] => { first.lane() == 0 && second.lane() == 1 && doors.inner.len() == 2 }
-            _ => false,
-        },
+        Ok(doors) => are_two(&doors),
         Err(_) => false,
     }
 }
@@ -50,7 +54,29 @@ fn are_dealt<Y: Yard, W: Wait + Drop>(parts: &Parts<Y, W, TcpStream>) -> bool {
         && parts.writers.len() == 1
 }
 
+/// A list of the ends of one lane. None where that had no memory, and they are let go.
+fn listed<Y: Yard, W: Wait + Drop>(alloc: Global, ends: Ends<Y, W>) -> Option<Vec<Ends<Y, W>>> {
+    let mut all = Vec::new(alloc);
+    match all.push(ends) {
+        Ok(()) => Some(all),
+        Err(_) => None,
+    }
+}
+
 /// Whether the ends of a lane are dealt out. None where that had no memory, and they are let go.
+fn is_dealt<Y: Yard, W: Wait + Drop>(
+    alloc: Global,
+    workers: &[WorkerConfig],
+    ends: Ends<Y, W>,
+) -> Option<bool> {
+    let all = listed(alloc, ends)?;
+    match deal::<Y, W, TcpStream>(alloc, workers, all) {
+        Some(parts) => Some(are_dealt(&parts)),
+        None => None,
+    }
+}
+
+/// The same of the ends of this lane.
 fn dealt<Y: Yard, W: Wait + Drop>(
     alloc: Global,
     workers: &[WorkerConfig],
@@ -58,13 +84,10 @@ fn dealt<Y: Yard, W: Wait + Drop>(
 ) -> Option<bool>
     requires { (blank.queue ≡ Y.queue 0) × (blank.copy ≡ Y.copy 0) }
 {
-    let Ok(ends) = blank.ends::<Y>(alloc, 0) else {
-        return None;
-    };
-    let mut all = Vec::new(alloc);
-    all.push(ends).ok()?;
-    let parts = deal::<Y, W, TcpStream>(alloc, workers, all)?;
-    Some(are_dealt(&parts))
+    match blank.ends::<Y>(alloc, 0) {
+        Ok(ends) => is_dealt(alloc, workers, ends),
+        Err(_) => None,
+    }
 }
 
 /// The same of the first of these workers' lanes, which are opened for it.
@@ -73,12 +96,10 @@ fn dealt_once<R: Wait + AllocGlobal + Copy + Drop>(
     workers: &[WorkerConfig],
 ) -> Option<bool> {
     let blanks = open_all(rt, rt.alloc(), 8, workers)?;
-    if blanks.len() != workers.len() {
-        return Some(false);
-    }
+    let are_all = blanks.len() == workers.len();
     match blanks.into_iter().next() {
-        Some(blank) => dealt::<Brand, R>(rt.alloc(), workers, blank),
-        None => Some(false),
+        Some(blank) if are_all => dealt::<Brand, R>(rt.alloc(), workers, blank),
+        _ => Some(false),
     }
 }
 

@@ -54,6 +54,13 @@ fn is_user(user: &User, name: &str, password: &str) -> bool {
     user.name.as_str() == name && user.password.as_str() == password
 }
 
+fn are_both(users: &[User]) -> bool {
+    match users {
+        [first, second] => is_user(first, "w0", "p") && is_user(second, "w1", "q"),
+        _ => false,
+    }
+}
+
 /// Whether both workers may log in.
 fn are_users_again(alloc: Global, workers: &[WorkerConfig]) -> bool {
     let users = match users_of(alloc, workers) {
@@ -61,10 +68,7 @@ fn are_users_again(alloc: Global, workers: &[WorkerConfig]) -> bool {
         users => users,
     };
     match users {
-        Ok(users) => match users.as_slice() {
-            [first, second] => is_user(first, "w0", "p") && is_user(second, "w1", "q"),
-            _ => false,
-        },
+        Ok(users) => are_both(users.as_slice()),
         Err(_) => false,
     }
 }
@@ -79,14 +83,8 @@ fn are_words(words: &Words, want: &[&str]) -> bool {
     words.as_slice().len() == want.len()
 }
 
-/// Whether the second worker is started with the master's address.
-fn is_placed_again(alloc: Global, workers: &[WorkerConfig]) -> bool {
-    let Some(worker) = workers.get(1) else {
-        return false;
-    };
-    let Some(program) = &worker.latent else {
-        return false;
-    };
+/// Whether the program's words are those with the master's address in them.
+fn is_placed(alloc: Global, program: &Words) -> bool {
     let words = match place_master(alloc, program.as_slice(), "m:1") {
         Err(_) => place_master(alloc, program.as_slice(), "m:1"),
         words => words,
@@ -97,16 +95,29 @@ fn is_placed_again(alloc: Global, workers: &[WorkerConfig]) -> bool {
     }
 }
 
+/// Whether the second worker is started with the master's address.
+fn is_placed_again(alloc: Global, workers: &[WorkerConfig]) -> bool {
+    let Some(worker) = workers.get(1) else {
+        return false;
+    };
+    match &worker.latent {
+        Some(program) => is_placed(alloc, program),
+        None => false,
+    }
+}
+
+fn are_made_again(alloc: Global, config: &Config) -> bool {
+    let workers = config.workers.as_slice();
+    are_slots_again(alloc, workers, &[3, 1])
+        && are_maxima_again(alloc, config, &[7, 1])
+        && are_users_again(alloc, workers)
+        && is_placed_again(alloc, workers)
+}
+
 #[test]
 fn refused_lists_are_made_again(rt: HostRuntime) -> Result<(), Fail> {
     let alloc = rt.alloc();
     let config = config_again(alloc).ok_or("no configuration")?;
-    let workers = config.workers.as_slice();
-    assert!(rt;
-        are_slots_again(alloc, workers, &[3, 1])
-            && are_maxima_again(alloc, &config, &[7, 1])
-            && are_users_again(alloc, workers)
-            && is_placed_again(alloc, workers)
-    );
+    assert!(rt; are_made_again(alloc, &config));
     Ok(())
 }
