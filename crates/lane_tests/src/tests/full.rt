@@ -3,13 +3,12 @@
 ghost use Rattle.std.specs.Prelude.{◌≡◌};
 
 use super::hand::*;
-use super::many::{ROUNDS, UPDATES, assert_whole, hear_at_last, is_counted, is_line, number};
+use super::many::{ROUNDS, UPDATES, hear_at_last, is_counted, is_line, leaves_whole, numbered};
 use bm_lane::*;
 use bm_session::Event;
 use bm_store::ViewRefusal;
 use std::alloc::{AllocError, Global};
 use std::marker::Brand;
-use std::process::Abort;
 use std::sync::atomic::{AtomicBool, AtomicU64, Ordering};
 use std::sync::{Mutex, Wait};
 use std::test::Fail;
@@ -90,6 +89,22 @@ impl Gate for Sluice {
     fn done(&self, _worker: usize, _lane: usize, _answer: Result<Drained, AllocError>) {}
 }
 
+// Hears the event, for which the gate makes room where it was Busy, and else not at all.
+fn hear_behind<Y: Yard, R: Wait>(
+    rt: &R,
+    reader: &mut ReaderEnd<Y>,
+    event: Event,
+    reason: HearRefusal,
+    gate: &Sluice,
+) -> bool {
+    let mut rounds = 0;
+    if reason == HearRefusal::Busy {
+        gate.opens();
+        rounds = ROUNDS;
+    }
+    hear_at_last(rt, reader, event, rounds)
+}
+
 // Hears the event, again after Busy, of which the gate is told.
 fn hear_full<Y: Yard, R: Wait>(
     rt: &R,
@@ -99,11 +114,7 @@ fn hear_full<Y: Yard, R: Wait>(
 ) -> bool {
     match reader.hear(rt, event) {
         Ok(_) => true,
-        Err((event, HearRefusal::Busy)) => {
-            gate.opens();
-            hear_at_last(rt, reader, event, ROUNDS)
-        }
-        Err(_) => false,
+        Err((back, reason)) => hear_behind(rt, reader, back, reason, gate),
     }
 }
 
@@ -114,10 +125,7 @@ fn hear_update<Y: Yard, R: Wait>(
     seq: u64,
     gate: &Sluice,
 ) -> bool {
-    let Ok(text) = number(alloc, seq) else {
-        return false;
-    };
-    match update(alloc, seq, text.as_str()) {
+    match numbered(alloc, seq) {
         Ok(event) => hear_full(rt, reader, event, gate),
         Err(_) => false,
     }
@@ -146,11 +154,17 @@ fn has_line<Y: Yard>(alloc: Global, viewer: &mut Viewer<Y>, place: u64) -> bool 
     match chunk(viewer, place, 1) {
         Ok(chunk) => {
             let mut lines = chunk.content.as_str().lines();
-            chunk.first_line == place
-                && chunk.lines == 1
-                && is_line(alloc, lines.next(), place) == Ok(true)
+            chunk.first_line == place && chunk.lines == 1 && is_line(alloc, lines.next(), place)
         }
         Err(_) => false,
+    }
+}
+
+// Whether the last of so many lines is the one of its number, or there is none.
+fn has_last_line<Y: Yard>(alloc: Global, viewer: &mut Viewer<Y>, lines: u64) -> bool {
+    match lines.checked_sub(1) {
+        Some(place) => has_line(alloc, viewer, place),
+        None => true,
     }
 }
 
@@ -162,49 +176,46 @@ fn is_right_at_a_look<Y: Yard>(alloc: Global, viewer: &mut Viewer<Y>) -> bool {
             let seen = viewer.count();
             before <= seen
                 && state.lines.saturating_add(1) == seen
-                && match state.lines.checked_sub(1) {
-                    Some(place) => has_line(alloc, viewer, place),
-                    None => true,
-                }
+                && has_last_line(alloc, viewer, state.lines)
         }
         Err(ViewRefusal::NoLog) => viewer.count() == 0,
         Err(_) => false,
     }
 }
 
-// A look of a viewer in a thread of its own, and whether it was right.
+// Whether a look of the viewer in a thread of its own is right.
 fn visit<Y: Yard + Send + Sync, R: Threads + Wait + Sync>(
     rt: &R,
     alloc: Global,
-    viewer: Viewer<Y>,
-) -> (Viewer<Y>, bool) {
-    let mut viewer = viewer;
-    let (back, _) = join(
-        rt,
-        move || {
-            let is_right = is_right_at_a_look(alloc, &mut viewer);
-            (viewer, is_right)
-        },
-        || (),
-    );
-    back
+    viewer: &mut Viewer<Y>,
+) -> bool {
+    let (is_right, _) = join(rt, || is_right_at_a_look(alloc, viewer), || ());
+    is_right
 }
 
-// The last viewer visits. It comes first then, or leaves for good where another one stays.
+// The last viewer comes first, or leaves for good where another one stays.
+fn turn<Y: Yard>(viewers: &mut Vec<Viewer<Y>>, leaves: bool) {
+    let count = viewers.len();
+    if leaves && count > 1 {
+        viewers.truncate(count - 1);
+    } else if count > 0 {
+        viewers.as_mut_slice().rotate_right(1);
+    }
+}
+
+// Whether the last viewer's visit is right, after which it makes room for the one before.
 fn next_visits<Y: Yard + Send + Sync, R: Threads + Wait + Sync>(
     rt: &R,
     alloc: Global,
     viewers: &mut Vec<Viewer<Y>>,
     leaves: bool,
 ) -> bool {
-    let Some(viewer) = viewers.pop() else {
-        return false;
+    let is_right = match viewers.last_mut() {
+        Some(viewer) => visit(rt, alloc, viewer),
+        None => false,
     };
-    let (viewer, is_right) = visit(rt, alloc, viewer);
-    if leaves && !viewers.is_empty() {
-        return is_right;
-    }
-    viewers.insert(0, viewer).is_ok() && is_right
+    turn(viewers, leaves);
+    is_right
 }
 
 // The viewers visit in turn until all was heard. Whether each visit was right.
@@ -226,17 +237,20 @@ fn visit_all<Y: Yard + Send + Sync, R: Threads + Wait + Sync>(
     false
 }
 
+// Whether the viewer is shown the whole log.
+fn is_shown<Y: Yard>(alloc: Global, viewer: &mut Viewer<Y>) -> bool {
+    match chunk(viewer, 0, UPDATES) {
+        Ok(chunk) => is_counted(alloc, &chunk) && viewer.count() == UPDATES + 1,
+        Err(_) => false,
+    }
+}
+
 // Whether one viewer is left, and is shown the whole log.
 fn is_shown_to_one<Y: Yard>(alloc: Global, viewers: &mut [Viewer<Y>]) -> bool {
-    if viewers.len() != 1 {
-        return false;
-    }
-    let Some(viewer) = viewers.first_mut() else {
-        return false;
-    };
-    match chunk(viewer, 0, UPDATES) {
-        Ok(chunk) => is_counted(alloc, &chunk) == Ok(true) && viewer.count() == UPDATES + 1,
-        Err(_) => false,
+    let is_one = viewers.len() == 1;
+    match viewers.first_mut() {
+        Some(viewer) => is_one && is_shown(alloc, viewer),
+        None => false,
     }
 }
 
@@ -248,101 +262,129 @@ fn has_all(report: Result<PoolReport, PoolFault>) -> bool {
     }
 }
 
-// The ends of a lane that was heard, drained by a pool and looked at, each at once. None where
-// something was lost, or an item but the first didn't find the queue full.
-fn side_by_side<Y: Yard + Send + Sync, W: Wait + Drop + Send + Sync, R: Threads + Wait + Sync>(
+// Whether a pool drained all while viewers visited, and each visit was right.
+fn drain_and_visit<Y: Yard + Send + Sync, W: Wait + Drop + Send + Sync, R: Threads + Wait + Sync>(
+    rt: &R,
+    alloc: Global,
+    lanes: &[Mutex<WriterEnd<Y, W>>],
+    viewers: &mut Vec<Viewer<Y>>,
+    gate: &Sluice,
+) -> bool {
+    let (report, is_right) = join(
+        rt,
+        || writers(rt, alloc, lanes, gate, 2, TURNS),
+        || visit_all(rt, alloc, viewers, gate),
+    );
+    is_right && has_all(report)
+}
+
+// Whether a lane was heard, drained by a pool and looked at, each at once, where nothing was lost,
+// and each item but the first found the queue full.
+fn is_done<Y: Yard + Send + Sync, W: Wait + Drop + Send + Sync, R: Threads + Wait + Sync>(
+    rt: &R,
+    alloc: Global,
+    reader: &mut ReaderEnd<Y>,
+    lanes: &[Mutex<WriterEnd<Y, W>>],
+    viewers: &mut Vec<Viewer<Y>>,
+) -> bool {
+    let sluice = Sluice::new();
+    let gate = &sluice;
+    let (is_heard, is_seen) = join(
+        rt,
+        || hear_all(rt, alloc, reader, gate),
+        || drain_and_visit(rt, alloc, lanes, viewers, gate),
+    );
+    is_heard
+        && is_seen
+        && gate.found.load(Ordering::SeqCst) == UPDATES
+        && is_shown_to_one(alloc, viewers.as_mut_slice())
+}
+
+// A pool's one lane.
+fn lane_of<Y: Yard, W: Wait + Drop>(
+    alloc: Global,
+    writer: WriterEnd<Y, W>,
+) -> Option<Vec<Mutex<WriterEnd<Y, W>>>> {
+    let mut lanes = Vec::new(alloc);
+    let is_there = lanes.push(Mutex::new(writer)).is_ok();
+    is_there.then_some(lanes)
+}
+
+// The ends of a lane after all of that. None where something was lost.
+fn after_pool<Y: Yard + Send + Sync, W: Wait + Drop + Send + Sync, R: Threads + Wait + Sync>(
     rt: &R,
     alloc: Global,
     ends: Ends<Y, W>,
 ) -> Option<Ends<Y, W>> {
     let Ends {
-        mut reader,
+        reader,
         writer,
-        mut viewers,
+        viewers,
     } = ends;
-    let sluice = Sluice::new();
-    let gate = &sluice;
-    let mut lanes = Vec::new(alloc);
-    lanes.push(Mutex::new(writer)).ok()?;
-    let held = lanes.as_slice();
-    let ((reader, is_heard), (report, (viewers, is_right))) = join(
-        rt,
-        move || {
-            let is_heard = hear_all(rt, alloc, &mut reader, gate);
-            (reader, is_heard)
-        },
-        move || {
-            join(
-                rt,
-                move || writers(rt, alloc, held, gate, 2, TURNS),
-                move || {
-                    let is_right = visit_all(rt, alloc, &mut viewers, gate);
-                    (viewers, is_right)
-                },
-            )
-        },
-    );
-    let is_full = gate.found.load(Ordering::SeqCst) == UPDATES;
-    let mut viewers = viewers;
-    let is_shown = is_shown_to_one(alloc, viewers.as_mut_slice());
-    let writer = lanes.pop()?.into_inner();
-    if is_heard && is_right && is_full && is_shown && has_all(report) {
-        Some(Ends {
-            reader,
-            writer,
-            viewers,
-        })
-    } else {
-        None
-    }
+    let others = Some((reader, viewers));
+    let ((mut reader, mut viewers), mut lanes) = others.zip(lane_of(alloc, writer))?;
+    let is_done = is_done(rt, alloc, &mut reader, lanes.as_slice(), &mut viewers);
+    let ((reader, viewers), lane) = Some((reader, viewers)).zip(lanes.pop())?;
+    let ends = Ends {
+        reader,
+        writer: lane.into_inner(),
+        viewers,
+    };
+    is_done.then_some(ends)
 }
 
-// The ends of a lane after all of that.
-fn after_pool<
-    Y: Yard + Send + Sync,
-    W: Wait + Drop + Send + Sync,
-    R: Threads + Wait + Abort + Sync,
->(rt: &R, alloc: Global, blank: Blank<W>) -> Result<Ends<Y, W>, Fail>
-    requires { (blank.queue ≡ Y.queue 0) × (blank.copy ≡ Y.copy 0) }
-{
-    let ends = ends_of::<Y, W>(alloc, blank, 0)?;
-    let after = side_by_side(rt, alloc, ends);
-    assert!(rt; after.is_some(), "not all was heard, drained and seen");
-    let ends = after.ok_or("no ends")?;
-    Ok(ends)
-}
-
-fn full_lane<Y: Yard + Send + Sync, W: Wait + Drop + Send + Sync, R: Threads + Wait + Abort + Sync>(
+// The same of a lane that has no ends yet.
+fn pooled<Y: Yard + Send + Sync, W: Wait + Drop + Send + Sync, R: Threads + Wait + Sync>(
     rt: &R,
     alloc: Global,
     blank: Blank<W>,
-) -> Result<(), Fail>
+) -> Option<Ends<Y, W>>
     requires { (blank.queue ≡ Y.queue 0) × (blank.copy ≡ Y.copy 0) }
 {
-    let ends = after_pool::<Y, W, R>(rt, alloc, blank)?;
-    let settled = settled(rt, alloc, ends)?;
-    assert_whole(rt, alloc, &settled)
+    match ends_of::<Y, W>(alloc, blank, 0) {
+        Some(ends) => after_pool(rt, alloc, ends),
+        None => None,
+    }
+}
+
+fn full_lane<Y: Yard + Send + Sync, W: Wait + Drop + Send + Sync, R: Threads + Wait + Sync>(
+    rt: &R,
+    alloc: Global,
+    blank: Blank<W>,
+) -> bool
+    requires { (blank.queue ≡ Y.queue 0) × (blank.copy ≡ Y.copy 0) }
+{
+    match pooled::<Y, W, R>(rt, alloc, blank) {
+        Some(ends) => leaves_whole(rt, alloc, ends),
+        None => false,
+    }
 }
 
 #[test]
 fn full_queue_loses_and_doubles_nothing_under_a_pool(rt: HostRuntime) -> Result<(), Fail> {
-    let blank = blank(&rt, rt.alloc(), 1, 1).ok().ok_or("no lane")?;
-    full_lane::<Brand, _, _>(&rt, rt.alloc(), blank)
+    let blank = blank(&rt, rt.alloc(), 1, 1).ok_or("no lane")?;
+    let is_whole = full_lane::<Brand, _, _>(&rt, rt.alloc(), blank);
+    assert!(rt; is_whole, "not all was heard, drained, seen and left");
+    Ok(())
 }
 
-fn visited_lane<
-    Y: Yard + Send + Sync,
-    W: Wait + Drop + Send + Sync,
-    R: Threads + Wait + Abort + Sync,
->(rt: &R, alloc: Global, blank: Blank<W>) -> Result<(), Fail>
+fn visited_lane<Y: Yard + Send + Sync, W: Wait + Drop + Send + Sync, R: Threads + Wait + Sync>(
+    rt: &R,
+    alloc: Global,
+    blank: Blank<W>,
+) -> bool
     requires { (blank.queue ≡ Y.queue 0) × (blank.copy ≡ Y.copy 0) }
 {
-    let _ = after_pool::<Y, W, R>(rt, alloc, blank)?;
-    Ok(())
+    match pooled::<Y, W, R>(rt, alloc, blank) {
+        Some(_ends) => true,
+        None => false,
+    }
 }
 
 #[test]
 fn viewers_come_and_go_under_a_pool(rt: HostRuntime) -> Result<(), Fail> {
-    let blank = blank(&rt, rt.alloc(), 1, 4).ok().ok_or("no lane")?;
-    visited_lane::<Brand, _, _>(&rt, rt.alloc(), blank)
+    let blank = blank(&rt, rt.alloc(), 1, 4).ok_or("no lane")?;
+    let is_done = visited_lane::<Brand, _, _>(&rt, rt.alloc(), blank);
+    assert!(rt; is_done, "not all was heard, drained and seen");
+    Ok(())
 }

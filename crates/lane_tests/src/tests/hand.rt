@@ -6,27 +6,26 @@ use bm_lines::{Letter, LogName, Parcel};
 use bm_session::{Body, Event, Refusal, Reply, Results};
 use bm_store::{Book, Chunk, LogState, ViewRefusal};
 use std::alloc::{AllocError, Global};
-use std::process::Abort;
 use std::sync::Wait;
-use std::test::Fail;
 
 /// How often a call is made where one request for memory is refused.
 pub const TRIES: usize = 2;
 
-// Adds a text to the log with that name.
-fn add_part(parcel: &mut Parcel, alloc: Global, name: &str, text: &str) -> Result<(), AllocError> {
-    let Some(name) = LogName::new(alloc, name)? else {
-        return Err(AllocError);
-    };
-    parcel.add(&name, Letter::O, text)
+// Whether the parcel takes a text for the log with that name.
+fn takes(parcel: &mut Parcel, alloc: Global, name: &str, text: &str) -> bool {
+    match LogName::new(alloc, name) {
+        Ok(Some(name)) => parcel.add(&name, Letter::O, text).is_ok(),
+        _ => false,
+    }
 }
 
-fn try_parcel(alloc: Global, parts: &[(&str, &str)]) -> Result<Parcel, AllocError> {
+fn try_parcel(alloc: Global, parts: &[(&str, &str)]) -> Option<Parcel> {
     let mut parcel = Parcel::new(alloc);
+    let mut is_whole = true;
     for (name, text) in parts {
-        add_part(&mut parcel, alloc, name, text)?;
+        is_whole = is_whole && takes(&mut parcel, alloc, name, text);
     }
-    Ok(parcel)
+    is_whole.then_some(parcel)
 }
 
 /// The request with this number, which updates command 0 by a text of standard output.
@@ -37,7 +36,7 @@ pub fn update(alloc: Global, seq: u64, text: &str) -> Result<Event, AllocError> 
 /// The request with this number, which updates command 0 by a text for each of these logs.
 pub fn update_logs(alloc: Global, seq: u64, parts: &[(&str, &str)]) -> Result<Event, AllocError> {
     for _ in 0..TRIES {
-        if let Ok(parcel) = try_parcel(alloc, parts) {
+        if let Some(parcel) = try_parcel(alloc, parts) {
             let update = Body::Update {
                 command: 0,
                 parcel,
@@ -55,51 +54,38 @@ pub fn blank<W: Wait + Copy + Drop>(
     alloc: Global,
     capacity: usize,
     viewers: usize,
-) -> Result<Blank<W>, OpenError>
+) -> Option<Blank<W>>
     requires { (0 < capacity) × (capacity ≤ 65536) × (0 < viewers) × (viewers ≤ 64) }
 {
     for _ in 0..TRIES {
         if let Ok(blank) = open(rt, alloc, capacity, viewers) {
-            return Ok(blank);
+            return Some(blank);
         }
     }
-    open(rt, alloc, capacity, viewers)
+    None
 }
 
 /// Two lanes of four places and one viewer that aren't named yet.
 pub fn two_blanks<W: Wait + Copy + Drop>(rt: W, alloc: Global) -> Option<(Blank<W>, Blank<W>)> {
-    match (blank(rt, alloc, 4, 1), blank(rt, alloc, 4, 1)) {
-        (Ok(first), Ok(second)) => Some((first, second)),
-        _ => None,
+    blank(rt, alloc, 4, 1).zip(blank(rt, alloc, 4, 1))
+}
+
+/// The answer of a call of the reader's end, whose event is let go where it is refused.
+pub fn told(answer: Result<Reply, (Event, HearRefusal)>) -> Result<Reply, HearRefusal> {
+    match answer {
+        Ok(reply) => Ok(reply),
+        Err(refused) => Err(refused.1),
     }
 }
 
-// What the reader's end says to the event, which comes back where memory is wanting.
-fn try_hear<Y: Yard, R: Wait>(
-    rt: &R,
-    reader: &mut ReaderEnd<Y>,
-    event: Event,
-) -> Result<Result<Reply, HearRefusal>, Event> {
-    match reader.hear(rt, event) {
-        Ok(reply) => Ok(Ok(reply)),
-        Err((back, HearRefusal::Session(Refusal::Mem))) => Err(back),
-        Err((_, reason)) => Ok(Err(reason)),
-    }
-}
-
-/// Hears the event.
+/// Hears the event, again where it met want of memory.
 pub fn hear<Y: Yard, R: Wait>(
     rt: &R,
     reader: &mut ReaderEnd<Y>,
     event: Event,
 ) -> Result<Reply, HearRefusal> {
-    match try_hear(rt, reader, event) {
-        Ok(answer) => answer,
-        Err(event) => match try_hear(rt, reader, event) {
-            Ok(answer) => answer,
-            Err(_) => Err(HearRefusal::Session(Refusal::Mem)),
-        },
-    }
+    let answer = reader.hear(rt, event);
+    again(rt, reader, answer)
 }
 
 /// Drains once.
@@ -184,6 +170,20 @@ pub fn is_left(settled: &Settled, events: u64, seen: &[u64]) -> bool {
     settled.trace.len() as u64 == events && settled.seen.as_slice() == seen
 }
 
+// Hears an event that met want of memory. Another reason stands.
+fn hear_behind<Y: Yard, R: Wait>(
+    rt: &R,
+    reader: &mut ReaderEnd<Y>,
+    event: Event,
+    reason: HearRefusal,
+) -> Result<Reply, HearRefusal> {
+    if reason == HearRefusal::Session(Refusal::Mem) {
+        told(reader.hear(rt, event))
+    } else {
+        Err(reason)
+    }
+}
+
 /// The answer of a call of the reader's end, which is made again where it met want of memory.
 pub fn again<Y: Yard, R: Wait>(
     rt: &R,
@@ -192,8 +192,7 @@ pub fn again<Y: Yard, R: Wait>(
 ) -> Result<Reply, HearRefusal> {
     match answer {
         Ok(reply) => Ok(reply),
-        Err((event, HearRefusal::Session(Refusal::Mem))) => hear(rt, reader, event),
-        Err((_, reason)) => Err(reason),
+        Err((back, reason)) => hear_behind(rt, reader, back, reason),
     }
 }
 
@@ -202,15 +201,25 @@ pub fn ends_of<Y: Yard, W: Wait + Drop>(
     alloc: Global,
     blank: Blank<W>,
     lane: u64,
-) -> Result<Ends<Y, W>, AllocError>
+) -> Option<Ends<Y, W>>
     requires { (blank.queue ≡ Y.queue lane) × (blank.copy ≡ Y.copy lane) }
 {
     match blank.ends::<Y>(alloc, lane) {
-        Ok(ends) => Ok(ends),
-        Err((blank, _)) => match blank.ends::<Y>(alloc, lane) {
-            Ok(ends) => Ok(ends),
-            Err((_, error)) => Err(error),
-        },
+        Ok(ends) => Some(ends),
+        Err((blank, _)) => blank.ends::<Y>(alloc, lane).ok(),
+    }
+}
+
+fn hears_text<Y: Yard, R: Wait>(
+    rt: &R,
+    alloc: Global,
+    reader: &mut ReaderEnd<Y>,
+    seq: u64,
+    text: &str,
+) -> bool {
+    match update(alloc, seq, text) {
+        Ok(event) => hear(rt, reader, event).is_ok(),
+        Err(_) => false,
     }
 }
 
@@ -223,15 +232,24 @@ fn hears_texts<Y: Yard, R: Wait>(
 ) -> bool {
     let mut seq = 0;
     for text in texts {
-        let Ok(event) = update(alloc, seq, text) else {
-            return false;
-        };
-        if hear(rt, reader, event).is_err() {
+        if !hears_text(rt, alloc, reader, seq, text) {
             return false;
         }
         seq = seq.saturating_add(1);
     }
     true
+}
+
+// Whether the lane hears of a connection, the start of a command and these texts of it.
+fn hears<Y: Yard, R: Wait>(
+    rt: &R,
+    alloc: Global,
+    reader: &mut ReaderEnd<Y>,
+    texts: &[&str],
+) -> bool {
+    hear(rt, reader, Event::Up).is_ok()
+        && hear(rt, reader, Event::Go).is_ok()
+        && hears_texts(rt, alloc, reader, texts)
 }
 
 /// The ends of a lane that heard of a connection, the start of a command and these texts of it.
@@ -241,19 +259,12 @@ pub fn heard<Y: Yard, W: Wait + Drop, R: Wait>(
     blank: Blank<W>,
     lane: u64,
     texts: &[&str],
-) -> Result<Ends<Y, W>, AllocError>
+) -> Option<Ends<Y, W>>
     requires { (blank.queue ≡ Y.queue lane) × (blank.copy ≡ Y.copy lane) }
 {
     let mut ends = ends_of::<Y, W>(alloc, blank, lane)?;
-    let reader = &mut ends.reader;
-    if hear(rt, reader, Event::Up).is_ok()
-        && hear(rt, reader, Event::Go).is_ok()
-        && hears_texts(rt, alloc, reader, texts)
-    {
-        Ok(ends)
-    } else {
-        Err(AllocError)
-    }
+    let is_heard = hears(rt, alloc, &mut ends.reader, texts);
+    is_heard.then_some(ends)
 }
 
 /// The ends of lanes 0 and 1, which heard these texts.
@@ -264,13 +275,12 @@ pub fn both_heard<Y: Yard, W: Wait + Drop, R: Wait>(
     second: Blank<W>,
     ours: &[&str],
     theirs: &[&str],
-) -> Result<(Ends<Y, W>, Ends<Y, W>), AllocError>
+) -> Option<(Ends<Y, W>, Ends<Y, W>)>
     requires first { (first.queue ≡ Y.queue 0) × (first.copy ≡ Y.copy 0) }
     requires second { (second.queue ≡ Y.queue 1) × (second.copy ≡ Y.copy 1) }
 {
-    let one = heard::<Y, W, R>(rt, alloc, first, 0, ours)?;
-    let two = heard::<Y, W, R>(rt, alloc, second, 1, theirs)?;
-    Ok((one, two))
+    let one = heard::<Y, W, R>(rt, alloc, first, 0, ours);
+    one.zip(heard::<Y, W, R>(rt, alloc, second, 1, theirs))
 }
 
 // What is left of a lane, or its ends where they aren't all there or memory is wanting.
@@ -288,31 +298,37 @@ fn try_settled<Y: Yard, W: Wait + Drop, R: Wait>(
     }
 }
 
-// What is left of a lane whose ends are all there, or none where they aren't or memory is wanting.
-fn left<Y: Yard, W: Wait + Drop, R: Wait>(
+/// What is left of a lane whose ends are all there, or none where they aren't or memory is wanting.
+pub fn left<Y: Yard, W: Wait + Drop, R: Wait>(
     rt: &R,
     alloc: Global,
     ends: Ends<Y, W>,
 ) -> Option<Settled> {
     match try_settled(rt, alloc, ends) {
         Ok(settled) => Some(settled),
-        Err(ends) => match try_settled(rt, alloc, ends) {
-            Ok(settled) => Some(settled),
-            Err(_) => None,
-        },
+        Err(ends) => try_settled(rt, alloc, ends).ok(),
     }
 }
 
-/// What is left of a lane whose ends are all there.
-pub fn settled<Y: Yard, W: Wait + Drop, R: Wait + Abort>(
+/// Whether a lane leaves so many events, and each viewer had seen so many items.
+pub fn leaves_events<Y: Yard, W: Wait + Drop, R: Wait>(
     rt: &R,
     alloc: Global,
     ends: Ends<Y, W>,
-) -> Result<Settled, Fail> {
-    assert!(rt; same_lane(&ends.reader, &ends.writer, ends.viewers.as_slice()));
+    events: u64,
+    seen: &[u64],
+) -> bool {
     match left(rt, alloc, ends) {
-        Some(settled) => Ok(settled),
-        None => Err(Fail::from(AllocError)),
+        Some(settled) => is_left(&settled, events, seen),
+        None => false,
+    }
+}
+
+/// Whether the book that is left has these lines of command 0, so many.
+pub fn leaves_lines(settled: Option<Settled>, lines: u64, text: &str) -> bool {
+    match settled {
+        Some(settled) => has_lines(&settled.book, lines, text),
+        None => false,
     }
 }
 
@@ -323,10 +339,7 @@ fn leaves<Y: Yard, W: Wait + Drop, R: Wait>(
     ends: Ends<Y, W>,
     log: (u64, &str),
 ) -> bool {
-    match left(rt, alloc, ends) {
-        Some(settled) => has_lines(&settled.book, log.0, log.1),
-        None => false,
-    }
+    leaves_lines(left(rt, alloc, ends), log.0, log.1)
 }
 
 /// Whether the books that are left of two lanes have these lines of their commands 0, so many.

@@ -7,7 +7,7 @@ use super::script::Call::{Chunk as Lookup, Drain, Hear, Update};
 use super::script::{Order, Row, play};
 use bm_lane::*;
 use bm_session::Event;
-use bm_store::{Chunk, ViewRefusal};
+use bm_store::{Book, Chunk, ViewRefusal};
 use std::alloc::{AllocError, Global};
 use std::marker::Brand;
 use std::process::Abort;
@@ -24,51 +24,46 @@ pub const UPDATES: u64 = 1_000;
 
 #[test]
 fn viewers_in_threads_of_their_own_see_the_same(rt: HostRuntime) -> Result<(), Fail> {
-    let blank = blank(&rt, rt.alloc(), 4, 2).ok().ok_or("no lane")?;
-    viewers_apart::<Brand, _, _>(&rt, rt.alloc(), blank)
+    let blank = blank(&rt, rt.alloc(), 4, 2).ok_or("no lane")?;
+    assert!(rt; viewers_apart::<Brand, _, _>(&rt, rt.alloc(), blank));
+    Ok(())
 }
 
-// Whether a viewer in a thread of its own has this chunk, and a state with as many lines.
-fn apart<Y: Yard + Send + Sync, R: Threads + Wait + Sync>(
-    rt: &R,
-    viewer: Viewer<Y>,
-    lines: u64,
-    text: &str,
-) -> (Viewer<Y>, bool) {
-    let mut viewer = viewer;
-    let (back, _) = join(
-        rt,
-        move || {
-            let is_there = are_lines(&chunk(&mut viewer, 0, 9), 0, lines, text)
-                && is_open(&viewer.state(0, "stdio"), lines);
-            (viewer, is_there)
-        },
-        || (),
-    );
-    back
+// Whether the viewer has this chunk, and a state with as many lines.
+fn has<Y: Yard>(viewer: &mut Viewer<Y>, lines: u64, text: &str) -> bool {
+    are_lines(&chunk(viewer, 0, 9), 0, lines, text) && is_open(&viewer.state(0, "stdio"), lines)
 }
 
-// Whether the last viewer has this chunk and its state in a thread of its own. It comes first then.
-fn last_is_apart<Y: Yard + Send + Sync, R: Threads + Wait + Sync>(
+// Whether the viewer at this place has the chunk and the state in a thread of its own.
+fn has_apart<Y: Yard + Send + Sync, R: Threads + Wait + Sync>(
     rt: &R,
-    viewers: &mut Vec<Viewer<Y>>,
+    viewers: &mut [Viewer<Y>],
+    place: usize,
     lines: u64,
     text: &str,
 ) -> bool {
-    let Some(viewer) = viewers.pop() else {
+    let Some(viewer) = viewers.get_mut(place) else {
         return false;
     };
-    let (viewer, is_there) = apart(rt, viewer, lines, text);
-    viewers.insert(0, viewer).is_ok() && is_there
+    let (is_there, _) = join(rt, || has(viewer, lines, text), || ());
+    is_there
 }
 
-fn viewers_apart<Y: Yard + Send + Sync, W: Wait + Drop, R: Threads + Wait + Abort + Sync>(
+fn both_have_apart<Y: Yard + Send + Sync, R: Threads + Wait + Sync>(
+    rt: &R,
+    viewers: &mut [Viewer<Y>],
+    lines: u64,
+    text: &str,
+) -> bool {
+    has_apart(rt, viewers, 0, lines, text) && has_apart(rt, viewers, 1, lines, text)
+}
+
+// Whether viewers in threads of their own are shown what was drained.
+fn are_shown_apart<Y: Yard + Send + Sync, W: Wait + Drop, R: Threads + Wait + Abort + Sync>(
     rt: &R,
     alloc: Global,
-    blank: Blank<W>,
-) -> Result<(), Fail>
-    requires { (blank.queue ≡ Y.queue 7) × (blank.copy ≡ Y.copy 7) }
-{
+    ends: &mut Ends<Y, W>,
+) -> bool {
     static FIRST: [Row; 6] = [
         (Hear(Order::Up), Silent),
         (Hear(Order::Go), Start(0, 0)),
@@ -78,21 +73,34 @@ fn viewers_apart<Y: Yard + Send + Sync, W: Wait + Drop, R: Threads + Wait + Abor
         (Drain, Took),
     ];
     static THEN: [Row; 1] = [(Drain, Took)];
-    let mut ends = ends_of::<Y, W>(alloc, blank, 7)?;
-    play(rt, alloc, &mut ends, &FIRST);
-    assert!(rt; last_is_apart(rt, &mut ends.viewers, 1, "oa\n"));
-    play(rt, alloc, &mut ends, &THEN);
-    assert!(rt; last_is_apart(rt, &mut ends.viewers, 2, "oa\nob\n"));
-    assert!(rt; last_is_apart(rt, &mut ends.viewers, 2, "oa\nob\n"));
-    let settled = settled(rt, alloc, ends)?;
-    assert!(rt; is_left(&settled, 4, &[3, 3]));
-    Ok(())
+    play(rt, alloc, ends, &FIRST);
+    let is_first_shown = has_apart(rt, ends.viewers.as_mut_slice(), 1, 1, "oa\n");
+    play(rt, alloc, ends, &THEN);
+    is_first_shown && both_have_apart(rt, ends.viewers.as_mut_slice(), 2, "oa\nob\n")
+}
+
+fn viewers_apart<Y: Yard + Send + Sync, W: Wait + Drop, R: Threads + Wait + Abort + Sync>(
+    rt: &R,
+    alloc: Global,
+    blank: Blank<W>,
+) -> bool
+    requires { (blank.queue ≡ Y.queue 7) × (blank.copy ≡ Y.copy 7) }
+{
+    match ends_of::<Y, W>(alloc, blank, 7) {
+        Some(mut ends) => {
+            let are_shown = are_shown_apart(rt, alloc, &mut ends);
+            leaves_events(rt, alloc, ends, 4, &[3, 3]) && are_shown
+        }
+        None => false,
+    }
 }
 
 #[test]
 fn many_updates_go_through_a_short_queue(rt: HostRuntime) -> Result<(), Fail> {
-    let blank = blank(&rt, rt.alloc(), 4, 1).ok().ok_or("no lane")?;
-    many_updates::<Brand, _, _>(&rt, rt.alloc(), blank)
+    let blank = blank(&rt, rt.alloc(), 4, 1).ok_or("no lane")?;
+    let is_whole = many_updates::<Brand, _, _>(&rt, rt.alloc(), blank);
+    assert!(rt; is_whole, "not all was heard, drained, seen and left");
+    Ok(())
 }
 
 // Hears the event, or gives it back.
@@ -131,24 +139,33 @@ pub fn number(alloc: Global, n: u64) -> Result<String, AllocError> {
     Err(AllocError)
 }
 
+/// The update with that number and its text.
+pub fn numbered(alloc: Global, seq: u64) -> Result<Event, AllocError> {
+    match number(alloc, seq) {
+        Ok(text) => update(alloc, seq, text.as_str()),
+        Err(error) => Err(error),
+    }
+}
+
+fn hear_update<Y: Yard, R: Wait>(
+    rt: &R,
+    alloc: Global,
+    reader: &mut ReaderEnd<Y>,
+    seq: u64,
+) -> bool {
+    match numbered(alloc, seq) {
+        Ok(event) => hear_at_last(rt, reader, event, ROUNDS),
+        Err(_) => false,
+    }
+}
+
 fn hear_updates<Y: Yard, R: Wait>(rt: &R, alloc: Global, reader: &mut ReaderEnd<Y>) -> bool {
-    if !hear_at_last(rt, reader, Event::Up, ROUNDS)
-        || !hear_at_last(rt, reader, Event::Go, ROUNDS)
-    {
-        return false;
-    }
+    let mut is_heard = hear_at_last(rt, reader, Event::Up, ROUNDS)
+        && hear_at_last(rt, reader, Event::Go, ROUNDS);
     for seq in 0..UPDATES {
-        let Ok(text) = number(alloc, seq) else {
-            return false;
-        };
-        let Ok(event) = update(alloc, seq, text.as_str()) else {
-            return false;
-        };
-        if !hear_at_last(rt, reader, event, ROUNDS) {
-            return false;
-        }
+        is_heard = is_heard && hear_update(rt, alloc, reader, seq);
     }
-    true
+    is_heard
 }
 
 // Drains the open and the updates.
@@ -189,102 +206,109 @@ fn watch<Y: Yard>(viewer: &mut Viewer<Y>) -> bool {
 }
 
 /// Whether this is the line of that number.
-pub fn is_line(alloc: Global, line: Option<&str>, seq: u64) -> Result<bool, AllocError> {
-    let text = format!(in alloc; "o{seq}")?;
-    Ok(line == Some(text.as_str()))
+pub fn is_line(alloc: Global, line: Option<&str>, seq: u64) -> bool {
+    match format!(in alloc; "o{seq}") {
+        Ok(text) => line == Some(text.as_str()),
+        Err(_) => false,
+    }
 }
 
 /// Whether the lines of the whole log are the numbers in order.
-pub fn is_counted(alloc: Global, answer: &Chunk) -> Result<bool, AllocError> {
+pub fn is_counted(alloc: Global, answer: &Chunk) -> bool {
     let mut lines = answer.content.as_str().lines();
     for seq in 0..UPDATES {
-        if !is_line(alloc, lines.next(), seq)? {
-            return Ok(false);
+        if !is_line(alloc, lines.next(), seq) {
+            return false;
         }
     }
-    Ok(answer.lines == UPDATES)
+    answer.lines == UPDATES
 }
 
-// Each end in a thread of its own, and back again; whether all was heard, drained and seen.
-fn side_by_side<Y: Yard + Send + Sync, W: Wait + Drop + Send + Sync, R: Threads + Wait + Sync>(
+// Whether all was drained and seen, by two ends in threads of their own.
+fn drain_and_watch<Y: Yard + Send + Sync, W: Wait + Drop + Send + Sync, R: Threads + Wait + Sync>(
     rt: &R,
-    alloc: Global,
-    mut reader: ReaderEnd<Y>,
-    mut writer: WriterEnd<Y, W>,
-    mut viewer: Viewer<Y>,
-) -> (ReaderEnd<Y>, WriterEnd<Y, W>, Viewer<Y>, bool) {
-    let ((reader, is_heard), ((writer, is_drained), (viewer, is_seen))) = join(
-        rt,
-        move || {
-            let is_heard = hear_updates(rt, alloc, &mut reader);
-            (reader, is_heard)
-        },
-        move || {
-            join(
-                rt,
-                move || {
-                    let is_drained = drain_updates(&mut writer);
-                    (writer, is_drained)
-                },
-                move || {
-                    let is_seen = watch(&mut viewer);
-                    (viewer, is_seen)
-                },
-            )
-        },
-    );
-    (reader, writer, viewer, is_heard && is_drained && is_seen)
+    writer: &mut WriterEnd<Y, W>,
+    viewer: &mut Viewer<Y>,
+) -> bool {
+    let (is_drained, is_seen) = join(rt, || drain_updates(writer), || watch(viewer));
+    is_drained && is_seen
 }
 
-// A lane with one viewer, whose ends went through threads of their own.
-fn after_threads<Y: Yard + Send + Sync, W: Wait + Drop + Send + Sync, R: Threads + Wait + Sync>(
+// Whether all was heard, drained and seen by a lane with one viewer, each end in a thread of its
+// own.
+fn is_done<Y: Yard + Send + Sync, W: Wait + Drop + Send + Sync, R: Threads + Wait + Sync>(
     rt: &R,
     alloc: Global,
-    ends: Ends<Y, W>,
-) -> Option<Ends<Y, W>> {
+    ends: &mut Ends<Y, W>,
+) -> bool {
     let Ends {
         reader,
         writer,
-        mut viewers,
-    } = ends;
-    let viewer = viewers.pop()?;
-    let (reader, writer, viewer, is_done) = side_by_side(rt, alloc, reader, writer, viewer);
-    if viewers.push(viewer).is_err() || !is_done {
-        return None;
-    }
-    Some(Ends {
-        reader,
-        writer,
         viewers,
-    })
+    } = ends;
+    let Some(viewer) = viewers.first_mut() else {
+        return false;
+    };
+    let (is_heard, is_shown) = join(
+        rt,
+        || hear_updates(rt, alloc, reader),
+        || drain_and_watch(rt, writer, viewer),
+    );
+    is_heard && is_shown
 }
 
-/// The whole log is there, each number in order.
-pub fn assert_whole(rt: &impl Abort, alloc: Global, settled: &Settled) -> Result<(), Fail> {
-    assert!(rt; is_left(settled, UPDATES + 2, &[UPDATES + 1]));
-    let Ok(whole) = settled.book.slice(0, "stdio", 0, UPDATES) else {
-        return Err(Fail::from(AllocError));
-    };
-    assert!(rt; is_counted(alloc, &whole)?);
-    Ok(())
+// Whether the book has the whole log, each number in order.
+fn has_whole(alloc: Global, book: &Book) -> bool {
+    match book.slice(0, "stdio", 0, UPDATES) {
+        Ok(whole) => is_counted(alloc, &whole),
+        Err(_) => false,
+    }
+}
+
+/// Whether the lane leaves all that it was told, each number in order, and its one viewer had seen
+/// all of it.
+pub fn leaves_whole<Y: Yard, W: Wait + Drop, R: Wait>(
+    rt: &R,
+    alloc: Global,
+    ends: Ends<Y, W>,
+) -> bool {
+    match left(rt, alloc, ends) {
+        Some(settled) => {
+            is_left(&settled, UPDATES + 2, &[UPDATES + 1]) && has_whole(alloc, &settled.book)
+        }
+        None => false,
+    }
+}
+
+// Whether all was heard, drained and seen, and a viewer has lines of the middle.
+fn is_all_there<
+    Y: Yard + Send + Sync,
+    W: Wait + Drop + Send + Sync,
+    R: Threads + Wait + Abort + Sync,
+>(rt: &R, alloc: Global, ends: &mut Ends<Y, W>) -> bool {
+    static MIDDLE: [Row; 1] = [(
+        Lookup(0, "stdio", 990, 5),
+        Lines(990, 5, "o990\no991\no992\no993\no994\n"),
+    )];
+    if !is_done(rt, alloc, ends) {
+        return false;
+    }
+    play(rt, alloc, ends, &MIDDLE);
+    true
 }
 
 fn many_updates<
     Y: Yard + Send + Sync,
     W: Wait + Drop + Send + Sync,
     R: Threads + Wait + Abort + Sync,
->(rt: &R, alloc: Global, blank: Blank<W>) -> Result<(), Fail>
+>(rt: &R, alloc: Global, blank: Blank<W>) -> bool
     requires { (blank.queue ≡ Y.queue 0) × (blank.copy ≡ Y.copy 0) }
 {
-    static MIDDLE: [Row; 1] = [(
-        Lookup(0, "stdio", 990, 5),
-        Lines(990, 5, "o990\no991\no992\no993\no994\n"),
-    )];
-    let ends = ends_of::<Y, W>(alloc, blank, 0)?;
-    let after = after_threads(rt, alloc, ends);
-    assert!(rt; after.is_some(), "not all was heard, drained and seen");
-    let mut ends = after.ok_or("no ends")?;
-    play(rt, alloc, &mut ends, &MIDDLE);
-    let settled = settled(rt, alloc, ends)?;
-    assert_whole(rt, alloc, &settled)
+    match ends_of::<Y, W>(alloc, blank, 0) {
+        Some(mut ends) => {
+            let is_all_there = is_all_there(rt, alloc, &mut ends);
+            leaves_whole(rt, alloc, ends) && is_all_there
+        }
+        None => false,
+    }
 }

@@ -87,6 +87,16 @@ struct Together {
     met: AtomicU64,
 }
 
+impl Together {
+    fn new() -> Together {
+        Together {
+            first: AtomicU64::new(0),
+            second: AtomicU64::new(0),
+            met: AtomicU64::new(0),
+        }
+    }
+}
+
 impl Gate for Together {
     fn pass(&self, worker: usize, _lane: usize) -> Pass {
         let (mine, other) = if worker == 0 {
@@ -120,18 +130,26 @@ fn room_for_two<T: Drop>(alloc: Global) -> Result<Vec<T>, AllocError>
     }
 }
 
-// The writer's end of a lane that heard these texts.
-fn writer_of<Y: Yard, W: Wait + Drop, R: Wait>(
-    rt: &R,
+// Two lanes for a pool.
+fn lanes_of<Y: Yard, W: Wait + Drop>(
     alloc: Global,
-    blank: Blank<W>,
-    lane: u64,
-    texts: &[&str],
-) -> Result<WriterEnd<Y, W>, AllocError>
-    requires { (blank.queue ≡ Y.queue lane) × (blank.copy ≡ Y.copy lane) }
-{
-    let Ends { writer, .. } = heard::<Y, W, R>(rt, alloc, blank, lane, texts)?;
-    Ok(writer)
+    first: WriterEnd<Y, W>,
+    second: WriterEnd<Y, W>,
+) -> Option<Vec<Mutex<WriterEnd<Y, W>>>> {
+    match room_for_two(alloc) {
+        Ok(mut lanes) => {
+            lanes.push_reserved(Mutex::new(first));
+            lanes.push_reserved(Mutex::new(second));
+            Some(lanes)
+        }
+        Err(_) => None,
+    }
+}
+
+// The writer's end, without the others.
+fn writer_of<Y: Yard, W: Wait + Drop>(ends: Ends<Y, W>) -> WriterEnd<Y, W> {
+    let Ends { writer, .. } = ends;
+    writer
 }
 
 // The report of so many threads that drain lanes with these texts; None where a thread or memory
@@ -154,17 +172,9 @@ fn pooled<
     requires first { (first.queue ≡ Y.queue 0) × (first.copy ≡ Y.copy 0) }
     requires second { (second.queue ≡ Y.queue 1) × (second.copy ≡ Y.copy 1) }
 {
-    let Ok(one) = writer_of::<Y, W, R>(rt, alloc, first, 0, texts) else {
-        return None;
-    };
-    let Ok(two) = writer_of::<Y, W, R>(rt, alloc, second, 1, texts) else {
-        return None;
-    };
-    let Ok(mut lanes) = room_for_two(alloc) else {
-        return None;
-    };
-    lanes.push_reserved(Mutex::new(one));
-    lanes.push_reserved(Mutex::new(two));
+    let one = heard::<Y, W, R>(rt, alloc, first, 0, texts);
+    let (one, two) = one.zip(heard::<Y, W, R>(rt, alloc, second, 1, texts))?;
+    let lanes = lanes_of(alloc, writer_of(one), writer_of(two))?;
     writers(rt, alloc, lanes.as_slice(), gate, threads, turns).ok()
 }
 
@@ -183,20 +193,24 @@ fn pool_on_two<G: Gate + Sync, R: Threads + Wait + Sync>(
 // A pool that was refused a thread may have drained, so each row begins anew with lanes and a gate
 // of its own.
 
+// How many workers of a pool met, and how many items they took.
+fn met<R: Threads + Wait + Sync>(rt: &R, alloc: Global) -> Option<(u64, u128)> {
+    let gate = Together::new();
+    match pool_on_two(rt, alloc, &[], &gate, 2, 5) {
+        Some(report) => Some((gate.met.load(Ordering::SeqCst), report.took)),
+        None => None,
+    }
+}
+
 #[test]
-fn workers_of_a_pool_meet(rt: HostRuntime) -> Result<(), Fail> {
+fn workers_of_a_pool_meet(rt: HostRuntime) {
+    let mut all = None;
     for _ in 0..TRIES {
-        let gate = Together {
-            first: AtomicU64::new(0),
-            second: AtomicU64::new(0),
-            met: AtomicU64::new(0),
-        };
-        if let Some(report) = pool_on_two(&rt, rt.alloc(), &[], &gate, 2, 5) {
-            assert!(rt; gate.met.load(Ordering::SeqCst) == 2 && report.took == 2);
-            return Ok(());
+        if all.is_none() {
+            all = met(&rt, rt.alloc());
         }
     }
-    Err(Fail::from("no pool"))
+    assert!(rt; all == Some((2, 2)), "{all:?}");
 }
 
 // What a pool on two lanes with two items each took where nothing was refused, and what its gate
@@ -262,20 +276,24 @@ impl Ran {
     }
 }
 
+// What ran on two new lanes, where each is left with its lines.
+fn pressed<R: Threads + Wait + Sync>(rt: &R, alloc: Global, gate: &Always) -> Option<Ran> {
+    let (first, second) = two_blanks(rt, alloc)?;
+    under_pressure::<Brand, _, _>(rt, alloc, first, second, gate)
+}
+
 #[test]
 fn pool_loses_nothing_where_memory_is_wanting(rt: HostRuntime) -> Result<(), Fail> {
     let gate = Always::new([Pass::Go, Pass::Go]);
-    let (first, second) = two_blanks(&rt, rt.alloc()).ok_or("no lanes")?;
-    let ran = under_pressure::<Brand, _, _>(&rt, rt.alloc(), first, second, &gate);
-    let ran = ran.ok_or("no pool, or lines are lost")?;
+    let ran = pressed(&rt, rt.alloc(), &gate).ok_or("no pool, or lines are lost")?;
     let told = gate.told();
     // One request at most is refused, so one drain at most met that.
     assert!(rt; told.took == 4 && told.refused <= 1 && ran.counts_up_to(told));
     if told.refused > 0 {
-        let _ = println!(rt; "met: want of memory in a drain of the pool");
+        let _ = rt.println("met: want of memory in a drain of the pool");
     }
     if ran.before.drains > 0 {
-        let _ = println!(rt; "met: a pool that drained and was refused a thread");
+        let _ = rt.println("met: a pool that drained and was refused a thread");
     }
     Ok(())
 }
@@ -299,6 +317,15 @@ fn pool<Y: Yard + Send + Sync, W: Wait + Drop + Send + Sync, R: Threads + Wait +
     None
 }
 
+// The writer's ends of two lanes of a pool.
+fn given_back<Y: Yard, W: Wait + Drop>(
+    mut lanes: Vec<Mutex<WriterEnd<Y, W>>>,
+) -> Option<(WriterEnd<Y, W>, WriterEnd<Y, W>)> {
+    let second = lanes.pop();
+    let (first, second) = lanes.pop().zip(second)?;
+    Some((first.into_inner(), second.into_inner()))
+}
+
 // Two writer's ends under a pool, and back again.
 fn drained<Y: Yard + Send + Sync, W: Wait + Drop + Send + Sync, R: Threads + Wait + Sync>(
     rt: &R,
@@ -306,16 +333,10 @@ fn drained<Y: Yard + Send + Sync, W: Wait + Drop + Send + Sync, R: Threads + Wai
     first: WriterEnd<Y, W>,
     second: WriterEnd<Y, W>,
     gate: &Always,
-) -> Option<(WriterEnd<Y, W>, WriterEnd<Y, W>, Ran)> {
-    let Ok(mut lanes) = room_for_two(alloc) else {
-        return None;
-    };
-    lanes.push_reserved(Mutex::new(first));
-    lanes.push_reserved(Mutex::new(second));
-    let ran = pool(rt, alloc, lanes.as_slice(), gate)?;
-    let second = lanes.pop()?.into_inner();
-    let first = lanes.pop()?.into_inner();
-    Some((first, second, ran))
+) -> Option<((WriterEnd<Y, W>, WriterEnd<Y, W>), Ran)> {
+    let lanes = lanes_of(alloc, first, second)?;
+    let ran = pool(rt, alloc, lanes.as_slice(), gate);
+    given_back(lanes).zip(ran)
 }
 
 // The ends of two lanes after a pool of their writer's ends.
@@ -326,7 +347,7 @@ fn after_pool<Y: Yard + Send + Sync, W: Wait + Drop + Send + Sync, R: Threads + 
     two: Ends<Y, W>,
     gate: &Always,
 ) -> Option<(Ends<Y, W>, Ends<Y, W>, Ran)> {
-    let (first, second, ran) = drained(rt, alloc, one.writer, two.writer, gate)?;
+    let ((first, second), ran) = drained(rt, alloc, one.writer, two.writer, gate)?;
     let one = Ends {
         reader: one.reader,
         writer: first,
@@ -352,10 +373,8 @@ fn under_pressure<Y: Yard + Send + Sync, W: Wait + Drop + Send + Sync, R: Thread
     requires first { (first.queue ≡ Y.queue 0) × (first.copy ≡ Y.copy 0) }
     requires second { (second.queue ≡ Y.queue 1) × (second.copy ≡ Y.copy 1) }
 {
-    match both_heard::<Y, W, R>(rt, alloc, first, second, &["a\n"], &["b\n"]) {
-        Ok((one, two)) => settled_after_pool(rt, alloc, one, two, gate),
-        Err(_) => None,
-    }
+    let (one, two) = both_heard::<Y, W, R>(rt, alloc, first, second, &["a\n"], &["b\n"])?;
+    settled_after_pool(rt, alloc, one, two, gate)
 }
 
 // The report of a pool of both lanes, where each is left with its lines.
@@ -365,9 +384,5 @@ fn settled_after_pool<
     R: Threads + Wait + Sync,
 >(rt: &R, alloc: Global, one: Ends<Y, W>, two: Ends<Y, W>, gate: &Always) -> Option<Ran> {
     let (one, two, ran) = after_pool(rt, alloc, one, two, gate)?;
-    if both_leave(rt, alloc, one, two, (1, "oa\n"), (1, "ob\n")) {
-        Some(ran)
-    } else {
-        None
-    }
+    both_leave(rt, alloc, one, two, (1, "oa\n"), (1, "ob\n")).then_some(ran)
 }

@@ -5,11 +5,10 @@ use super::hand::*;
 use super::says::Says;
 use bm_lane::*;
 use bm_session::{Event, Reply};
-use std::alloc::{AllocError, Global};
+use std::alloc::Global;
 use std::marker::Brand;
 use std::process::Abort;
 use std::sync::Wait;
-use std::test::Fail;
 
 /// The number of a lane that stands alone.
 pub const LANE: u64 = 7;
@@ -55,14 +54,6 @@ fn event(order: Order) -> Event {
     }
 }
 
-// The session is given up, which takes no memory.
-fn down<Y: Yard, R: Wait>(rt: &R, reader: &mut ReaderEnd<Y>) -> Result<Reply, HearRefusal> {
-    match reader.down(rt) {
-        Ok(reply) => Ok(reply),
-        Err((_, reason)) => Err(reason),
-    }
-}
-
 fn give<Y: Yard, R: Wait>(
     rt: &R,
     reader: &mut ReaderEnd<Y>,
@@ -73,7 +64,8 @@ fn give<Y: Yard, R: Wait>(
         Order::Go => reader.go(rt),
         Order::Stop(k) => reader.stop(rt, k),
         Order::Cut => reader.cut(rt),
-        Order::Down => return down(rt, reader),
+        // The session is given up, which takes no memory.
+        Order::Down => return told(reader.down(rt)),
     };
     again(rt, reader, answer)
 }
@@ -141,12 +133,12 @@ fn played_on<Y: Yard, W: Wait + Drop, R: Wait + Abort>(
     alloc: Global,
     blank: Blank<W>,
     rows: &[Row],
-) -> Result<Settled, Fail>
+) -> Option<Settled>
     requires { (blank.queue ≡ Y.queue 7) × (blank.copy ≡ Y.copy 7) }
 {
     let mut ends = ends_of::<Y, W>(alloc, blank, LANE)?;
     play(rt, alloc, &mut ends, rows);
-    settled(rt, alloc, ends)
+    left(rt, alloc, ends)
 }
 
 /// What is left of a lane after the calls of the rows, each of which had its answer.
@@ -156,9 +148,9 @@ pub fn played<R: Wait + Abort>(
     capacity: usize,
     viewers: usize,
     rows: &[Row],
-) -> Result<Settled, Fail>
+) -> Option<Settled>
     requires { (0 < capacity) × (capacity ≤ 65536) × (0 < viewers) × (viewers ≤ 64) }
 {
-    let blank = blank(rt, alloc, capacity, viewers).ok().ok_or("no lane")?;
+    let blank = blank(rt, alloc, capacity, viewers)?;
     played_on::<Brand, _, _>(rt, alloc, blank, rows)
 }

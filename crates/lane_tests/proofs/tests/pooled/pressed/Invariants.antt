@@ -1,5 +1,5 @@
 use Rattle.std.proofs.Common.{cond, nat_eq}
-use Rattle.lane_tests.proofs.tests.pooled.pool_loses_nothing_where_memory_is_wanting.Given as goal
+use Rattle.lane_tests.proofs.tests.pooled.pressed.Given as goal
 
 abbrev pub ghosts-under_pressure : goal.ghosts-under_pressure
 ghosts-under_pressure g a = record {
