@@ -22,59 +22,87 @@ fn gives<Y: Yard>(routes: &Routes, alloc: Global, viewers: &mut [Viewer<Y>], row
 // Each row is answered so.
 fn answered<Y: Yard>(
     rt: &impl Abort,
+    routes: &Routes,
     alloc: Global,
     viewers: &mut Vec<Viewer<Y>>,
     rows: &[Row],
-) -> Result<(), Fail> {
-    let routes = Routes::new(alloc)?;
+) {
     for row in rows {
-        let is_given = !viewers.is_empty() && gives(&routes, alloc, viewers, row);
+        let is_given = !viewers.is_empty() && gives(routes, alloc, viewers, row);
         assert!(rt; is_given, "{row:?}");
     }
-    Ok(())
 }
 
-// The one viewer of these ends joins the others. The ends stay: viewers see nothing once their
-// writer is gone.
-fn joins<Y: Yard, W: Wait + Drop>(
-    viewers: &mut Vec<Viewer<Y>>,
-    ends: &mut Option<Ends<Y, W>>,
-) -> bool {
-    let Some(ends) = ends else {
-        return false;
-    };
-    match ends.viewers.pop() {
+fn gets<Y: Yard>(viewers: &mut Vec<Viewer<Y>>, viewer: Option<Viewer<Y>>) -> bool {
+    match viewer {
         Some(viewer) => viewers.push(viewer).is_ok(),
         None => false,
     }
 }
 
+// Whether the one viewer of these ends joins the others.
+fn joins<Y: Yard, W: Wait + Drop>(
+    viewers: &mut Vec<Viewer<Y>>,
+    ends: &mut Option<Ends<Y, W>>,
+) -> bool {
+    match ends {
+        Some(ends) => gets(viewers, ends.viewers.pop()),
+        None => false,
+    }
+}
+
+// The ends of a lane that showed this, whose one viewer joined the others. They stay: viewers see
+// nothing once their writer is gone.
+fn joined<Y: Yard, W: Wait + Drop, R: Wait + Abort>(
+    rt: &R,
+    alloc: Global,
+    viewers: &mut Vec<Viewer<Y>>,
+    blank: Blank<W>,
+    lane: u64,
+    name: &str,
+    text: &str,
+) -> Option<Ends<Y, W>>
+    requires { (blank.queue ≡ Y.queue lane) × (blank.copy ≡ Y.copy lane) }
+{
+    let mut ends = shown::<Y, W, R>(rt, alloc, blank, lane, name, text);
+    assert!(rt; joins(viewers, &mut ends));
+    ends
+}
+
 fn on_lanes<Y: Yard, W: Wait + Drop, R: Wait + Abort>(
     rt: &R,
+    routes: &Routes,
     alloc: Global,
     first: Blank<W>,
     second: Blank<W>,
     third: Blank<W>,
-) -> Result<(), Fail>
+)
     requires first { (first.queue ≡ Y.queue 0) × (first.copy ≡ Y.copy 0) }
     requires second { (second.queue ≡ Y.queue 1) × (second.copy ≡ Y.copy 1) }
     requires third { (third.queue ≡ Y.queue 2) × (third.copy ≡ Y.copy 2) }
 {
     let mut viewers = Vec::<Viewer<Y>>::new(alloc);
-    let mut one = shown(rt, alloc, first, 0, "a b", "b\nc\n");
-    assert!(rt; joins(&mut viewers, &mut one));
-    answered(rt, alloc, &mut viewers, WIRE)?;
-    answered(rt, alloc, &mut viewers, ONE)?;
-    let mut two = shown(rt, alloc, second, 1, ODD, ODD);
-    let mut three = shown(rt, alloc, third, 2, "a b", "d\n");
-    assert!(rt; joins(&mut viewers, &mut two) && joins(&mut viewers, &mut three));
-    answered(rt, alloc, &mut viewers, THREE)
+    let _one = joined(rt, alloc, &mut viewers, first, 0, "a b", "b\nc\n");
+    answered(rt, routes, alloc, &mut viewers, WIRE);
+    answered(rt, routes, alloc, &mut viewers, ONE);
+    let _two = joined(rt, alloc, &mut viewers, second, 1, ODD, ODD);
+    let _three = joined(rt, alloc, &mut viewers, third, 2, "a b", "d\n");
+    answered(rt, routes, alloc, &mut viewers, THREE);
+}
+
+// Three lanes that aren't named yet.
+fn three_blanks<W: Wait + Copy + Drop>(
+    rt: W,
+    alloc: Global,
+) -> Option<((Blank<W>, Blank<W>), Blank<W>)> {
+    let two = open(rt, alloc, 8, 1).ok().zip(open(rt, alloc, 8, 1).ok());
+    two.zip(open(rt, alloc, 8, 1).ok())
 }
 
 #[test]
 fn answers_byte_for_byte(rt: HostRuntime) -> Result<(), Fail> {
-    let first = open(&rt, rt.alloc(), 8, 1).ok().ok_or("no lane")?;
-    let second = open(&rt, rt.alloc(), 8, 1).ok().ok_or("no lane")?;
-    let third = open(&rt, rt.alloc(), 8, 1).ok().ok_or("no lane")?;
-    on_lanes::<Brand, _, _>(&rt, rt.alloc(), first, second, third)
+    let routes = Routes::new(rt.alloc())?;
+    let ((first, second), third) = three_blanks(&rt, rt.alloc()).ok_or("no lanes")?;
+    on_lanes::<Brand, _, _>(&rt, &routes, rt.alloc(), first, second, third);
+    Ok(())
 }

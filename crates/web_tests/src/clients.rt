@@ -1,7 +1,7 @@
 //! A client over the loopback.
 
-use crate::rows::Row;
-use std::alloc::{AllocError, AllocGlobal};
+use crate::rows::{Reply, Row};
+use std::alloc::{AllocError, AllocGlobal, Global};
 use std::io;
 use std::io::{Read, Write};
 use std::net::{Net, SocketAddr, TcpStream};
@@ -18,9 +18,10 @@ impl<R: Net<Stream = TcpStream> + Clock + AllocGlobal + Copy> Client<R> {
     /// A connection whose reads and writes give up after some seconds.
     pub fn connect(self) -> io::Result<TcpStream> {
         let stream = TcpStream::connect(&self.rt, self.address)?;
-        stream.set_read_timeout(Some(Duration::from_secs(5)))?;
-        stream.set_write_timeout(Some(Duration::from_secs(5)))?;
-        Ok(stream)
+        match limit(&stream) {
+            Ok(()) => Ok(stream),
+            Err(error) => Err(error),
+        }
     }
 
     /// The words of a request without a body, from a client that goes on afterwards or is done.
@@ -31,22 +32,31 @@ impl<R: Net<Stream = TcpStream> + Clock + AllocGlobal + Copy> Client<R> {
 
     /// What the server says after these words, until it closes the connection.
     pub fn said(self, words: &str) -> io::Result<String> {
-        let stream = self.connect()?;
-        (&stream).write_all(words.as_bytes())?;
-        io::read_to_string(self.rt.alloc(), &stream)
+        match self.connect() {
+            Ok(stream) => self.said_on(&stream, words),
+            Err(error) => Err(error),
+        }
+    }
+
+    // What the server says on this connection after the words.
+    fn said_on(self, stream: &TcpStream, words: &str) -> io::Result<String> {
+        let mut to = stream;
+        to.write_all(words.as_bytes())?;
+        io::read_to_string(self.rt.alloc(), stream)
     }
 
     /// Whether a request gets its answer, as JSON, over a connection of its own.
     pub fn is_answered(self, row: &Row) -> bool {
-        let (method, target, (status, body)) = row;
-        let Ok(line) = format!(in self.rt.alloc(); "HTTP/1.1 {status} ") else {
-            return false;
-        };
-        let Ok(words) = self.words(method, target, true) else {
-            return false;
-        };
-        match self.said(&words) {
-            Ok(text) => is_answer(&text, &line, body),
+        let (method, target, reply) = row;
+        match self.words(method, target, true) {
+            Ok(words) => self.is_replied(&words, reply),
+            Err(_) => false,
+        }
+    }
+
+    fn is_replied(self, words: &str, reply: &Reply) -> bool {
+        match self.said(words) {
+            Ok(text) => is_reply(self.rt.alloc(), &text, reply),
             Err(_) => false,
         }
     }
@@ -57,15 +67,35 @@ impl<R: Net<Stream = TcpStream> + Clock + AllocGlobal + Copy> Client<R> {
     }
 }
 
-fn is_answer(text: &str, line: &str, body: &str) -> bool {
+// Reads and writes give up after some seconds.
+fn limit(stream: &TcpStream) -> io::Result<()> {
+    stream.set_read_timeout(Some(Duration::from_secs(5)))?;
+    stream.set_write_timeout(Some(Duration::from_secs(5)))
+}
+
+fn has_status(alloc: Global, head: &str, status: u16) -> bool {
+    match format!(in alloc; "HTTP/1.1 {status} ") {
+        Ok(line) => head.starts_with(line.as_str()),
+        Err(_) => false,
+    }
+}
+
+fn is_reply(alloc: Global, text: &str, reply: &Reply) -> bool {
+    let (status, body) = reply;
     match text.split_once("\r\n\r\n") {
         Some((head, rest)) => {
-            head.starts_with(line)
+            has_status(alloc, head, *status)
                 && head.contains("content-type: application/json")
-                && rest == body
+                && rest == *body
         }
         None => false,
     }
+}
+
+/// Whether these words can be said.
+pub fn says(stream: &TcpStream, words: &str) -> bool {
+    let mut stream = stream;
+    stream.write_all(words.as_bytes()).is_ok()
 }
 
 /// Whether one byte comes.

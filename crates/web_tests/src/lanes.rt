@@ -1,42 +1,62 @@
 //! Lanes that have shown some lines.
 ghost use Rattle.std.specs.Prelude.{◌≡◌};
 
-use bm_lane::{Blank, Drained, Ends, WriterEnd, Yard};
+use bm_lane::{Blank, Drained, Ends, ReaderEnd, WriterEnd, Yard};
 use bm_lines::{Letter, LogName, Parcel};
 use bm_session::{Body, Event};
-use std::alloc::{AllocError, Global};
+use std::alloc::Global;
 use std::sync::Wait;
 
+// Whether the parcel takes a text under that name.
+fn takes(parcel: &mut Parcel, alloc: Global, name: &str, text: &str) -> bool {
+    match LogName::new(alloc, name) {
+        Ok(Some(name)) => parcel.add(&name, Letter::O, text).is_ok(),
+        _ => false,
+    }
+}
+
 // An update of a command by a text of its log under a name.
-fn update(
-    alloc: Global,
-    seq: u64,
-    command: u64,
-    name: &str,
-    text: &str,
-) -> Result<Event, AllocError> {
-    let Some(name) = LogName::new(alloc, name)? else {
-        return Err(AllocError);
-    };
+fn update(alloc: Global, seq: u64, command: u64, name: &str, text: &str) -> Option<Event> {
     let mut parcel = Parcel::new(alloc);
-    parcel.add(&name, Letter::O, text)?;
+    let is_taken = takes(&mut parcel, alloc, name, text);
     let update = Body::Update {
         command,
         parcel,
         rc: None,
     };
-    Ok(Event::In(seq, update))
+    is_taken.then_some(Event::In(seq, update))
+}
+
+// The end of a command.
+fn complete(seq: u64, command: u64) -> Event {
+    let complete = Body::Complete {
+        command,
+        fault: false,
+    };
+    Event::In(seq, complete)
 }
 
 // Whether the lane took the event.
-fn hears<Y: Yard, W: Wait + Drop, R: Wait>(
-    rt: &R,
-    ends: &mut Ends<Y, W>,
-    event: Result<Event, AllocError>,
-) -> bool {
-    match event {
-        Ok(event) => ends.reader.hear(rt, event).is_ok(),
+fn hears<Y: Yard, R: Wait>(rt: &R, reader: &mut ReaderEnd<Y>, event: Event) -> bool {
+    match reader.hear(rt, event) {
+        Ok(_) => true,
         Err(_) => false,
+    }
+}
+
+// Whether the lane took an update of the command with its number, by a text of its log under a
+// name.
+fn hears_update<Y: Yard, R: Wait>(
+    rt: &R,
+    alloc: Global,
+    reader: &mut ReaderEnd<Y>,
+    number: u64,
+    name: &str,
+    text: &str,
+) -> bool {
+    match update(alloc, number, number, name, text) {
+        Some(event) => hears(rt, reader, event),
+        None => false,
     }
 }
 
@@ -50,26 +70,21 @@ fn shows<Y: Yard, W: Wait + Drop>(writer: &mut WriterEnd<Y, W>) -> bool {
     false
 }
 
-// Whether the lane shows an ended command with one line, and an open one with a text in a log of
+// Whether the lane took an ended command with one line, and an open one with a text in a log of
 // this name.
-fn plays<Y: Yard, W: Wait + Drop, R: Wait>(
+fn hears_all<Y: Yard, R: Wait>(
     rt: &R,
     alloc: Global,
-    ends: &mut Ends<Y, W>,
+    reader: &mut ReaderEnd<Y>,
     name: &str,
     text: &str,
 ) -> bool {
-    let complete = Body::Complete {
-        command: 0,
-        fault: false,
-    };
-    hears(rt, ends, Ok(Event::Up))
-        && hears(rt, ends, Ok(Event::Go))
-        && hears(rt, ends, update(alloc, 0, 0, "stdio", "a\n"))
-        && hears(rt, ends, Ok(Event::Go))
-        && hears(rt, ends, update(alloc, 1, 1, name, text))
-        && hears(rt, ends, Ok(Event::In(2, complete)))
-        && shows(&mut ends.writer)
+    hears(rt, reader, Event::Up)
+        && hears(rt, reader, Event::Go)
+        && hears_update(rt, alloc, reader, 0, "stdio", "a\n")
+        && hears(rt, reader, Event::Go)
+        && hears_update(rt, alloc, reader, 1, name, text)
+        && hears(rt, reader, complete(2, 0))
 }
 
 /// The ends of a lane that showed two commands: the first has ended with the line `a`, the second
@@ -85,9 +100,6 @@ pub fn shown<Y: Yard, W: Wait + Drop, R: Wait>(
     requires { (blank.queue ≡ Y.queue lane) × (blank.copy ≡ Y.copy lane) }
 {
     let mut ends = blank.ends::<Y>(alloc, lane).ok()?;
-    if plays(rt, alloc, &mut ends, name, text) {
-        Some(ends)
-    } else {
-        None
-    }
+    let is_shown = hears_all(rt, alloc, &mut ends.reader, name, text) && shows(&mut ends.writer);
+    is_shown.then_some(ends)
 }

@@ -10,8 +10,8 @@ use std::marker::Brand;
 use std::sync::Wait;
 use std::test::Fail;
 
-/// How often a call is made where one request for memory is refused.
-const CALLS: u32 = 2;
+/// How often all is tried where one request for memory is refused.
+const TRIES: u32 = 2;
 
 /// How a row was answered.
 #[derive(Clone, Copy, PartialEq)]
@@ -23,6 +23,33 @@ enum Outcome {
     Wrongly,
 }
 
+impl Outcome {
+    // How both were answered: wrongly where one was, at last where one was.
+    fn and(self, other: Outcome) -> Outcome {
+        match (self, other) {
+            (Outcome::AtOnce, Outcome::AtOnce) => Outcome::AtOnce,
+            (Outcome::Wrongly, _) | (_, Outcome::Wrongly) => Outcome::Wrongly,
+            _ => Outcome::AtLast,
+        }
+    }
+}
+
+// Whether the answer is as the row says. None where it was unavailable, with an empty body.
+fn tried<Y: Yard>(
+    routes: &Routes,
+    alloc: Global,
+    viewers: &mut [Viewer<Y>],
+    row: &Row,
+) -> Option<bool>
+    requires { 0 < length viewers.old }
+{
+    let (method, target, (status, body)) = row;
+    let answer = routes.answer(alloc, method, target, viewers);
+    let is_given = answer.status == *status && answer.body.as_slice() == body.as_bytes();
+    let is_unavailable = answer.status == 503 && answer.body.is_empty();
+    if is_unavailable { None } else { Some(is_given) }
+}
+
 fn outcome_of<Y: Yard>(
     routes: &Routes,
     alloc: Global,
@@ -31,25 +58,48 @@ fn outcome_of<Y: Yard>(
 ) -> Outcome
     requires { 0 < length viewers.old }
 {
-    let (method, target, (status, body)) = row;
-    for call in 0..CALLS {
-        let answer = routes.answer(alloc, method, target, viewers);
-        if answer.status == *status && answer.body.as_slice() == body.as_bytes() {
-            return if call == 0 {
-                Outcome::AtOnce
-            } else {
-                Outcome::AtLast
-            };
-        }
-        if answer.status != 503 || !answer.body.is_empty() {
-            return Outcome::Wrongly;
-        }
+    match tried(routes, alloc, viewers, row) {
+        Some(true) => Outcome::AtOnce,
+        None if tried(routes, alloc, viewers, row) == Some(true) => Outcome::AtLast,
+        _ => Outcome::Wrongly,
     }
-    Outcome::Wrongly
 }
 
-// How these rows were answered: wrongly where one was, at last where one was. None where the lane
-// or the routes met want of memory.
+fn outcome_of_all<Y: Yard>(
+    routes: &Routes,
+    alloc: Global,
+    viewers: &mut [Viewer<Y>],
+    rows: &[Row],
+) -> Outcome
+    requires { 0 < length viewers.old }
+{
+    let mut all = Outcome::AtOnce;
+    for row in rows {
+        all = all.and(outcome_of(routes, alloc, viewers, row));
+    }
+    all
+}
+
+fn outcome_of_both<Y: Yard>(routes: &Routes, alloc: Global, viewers: &mut [Viewer<Y>]) -> Outcome
+    requires { 0 < length viewers.old }
+{
+    let first = outcome_of_all(routes, alloc, viewers, WIRE);
+    first.and(outcome_of_all(routes, alloc, viewers, SOME))
+}
+
+// How the rows were answered by these viewers. None where there are none, or the routes met want of
+// memory.
+fn seen_by<Y: Yard>(alloc: Global, viewers: &mut Vec<Viewer<Y>>) -> Option<Outcome> {
+    if viewers.is_empty() {
+        return None;
+    }
+    match Routes::new(alloc) {
+        Ok(routes) => Some(outcome_of_both(&routes, alloc, viewers.as_mut_slice())),
+        Err(_) => None,
+    }
+}
+
+// The same over a lane. None where it met want of memory, too.
 fn seen_over<Y: Yard, W: Wait + Drop, R: Wait + AllocGlobal>(
     rt: &R,
     blank: Blank<W>,
@@ -57,22 +107,10 @@ fn seen_over<Y: Yard, W: Wait + Drop, R: Wait + AllocGlobal>(
     requires { (blank.queue ≡ Y.queue 0) × (blank.copy ≡ Y.copy 0) }
 {
     let alloc = rt.alloc();
-    let mut ends = shown::<Y, W, R>(rt, alloc, blank, 0, "a b", "b\nc\n")?;
-    let routes = Routes::new(alloc).ok()?;
-    let mut all = Outcome::AtOnce;
-    for rows in [WIRE, SOME] {
-        for row in rows {
-            if ends.viewers.is_empty() {
-                return None;
-            }
-            match outcome_of(&routes, alloc, ends.viewers.as_mut_slice(), row) {
-                Outcome::AtOnce => {}
-                Outcome::AtLast => all = Outcome::AtLast,
-                Outcome::Wrongly => return Some(Outcome::Wrongly),
-            }
-        }
+    match shown::<Y, W, R>(rt, alloc, blank, 0, "a b", "b\nc\n") {
+        Some(mut ends) => seen_by(alloc, &mut ends.viewers),
+        None => None,
     }
-    Some(all)
 }
 
 // The same over a new lane.
@@ -84,13 +122,13 @@ fn seen_once<R: Wait + AllocGlobal + Copy + Drop>(rt: R) -> Option<Outcome> {
 #[test]
 fn refused_answer_is_unavailable_and_comes_again(rt: HostRuntime) -> Result<(), Fail> {
     let mut seen = None;
-    for _ in 0..CALLS {
+    for _ in 0..TRIES {
         if seen.is_none() {
             seen = seen_once(rt);
         }
     }
     if seen == Some(Outcome::AtLast) {
-        let _ = println!(rt; "met: an answer");
+        let _ = rt.println("met: an answer");
     }
     assert!(rt; matches!(seen, Some(Outcome::AtOnce | Outcome::AtLast)));
     Ok(())
