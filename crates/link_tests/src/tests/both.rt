@@ -4,7 +4,6 @@ use super::desk::{Answer, Call, HEARD, NOTED, PLAIN, Row, plays};
 use super::worker::Bench;
 use super::{ANSWER, ORDER, Script, TRUE};
 use std::alloc::Global;
-use std::test::Fail;
 
 /// What a worker writes whose master orders a command: it logs in, answers, and says a line.
 fn worker_says(alloc: Global) -> Option<Vec<u8>> {
@@ -22,11 +21,21 @@ fn said(bench: &mut Bench) -> Option<Vec<u8>> {
     }
 }
 
+/// Where the handshake at the front of these bytes ends.
+fn end_of_head(bytes: &[u8]) -> Option<usize> {
+    for place in 0..bytes.len() {
+        let rest = bytes.get(place..).unwrap_or_default();
+        if rest.starts_with(b"\r\n\r\n") {
+            return Some(place.saturating_add(4));
+        }
+    }
+    None
+}
+
 /// A stream that gives this, up to the end of the handshake in one read.
 fn stream_of(alloc: Global, input: Vec<u8>) -> Option<Script> {
-    let end = b"\r\n\r\n".as_slice();
-    match input.as_slice().windows(4).position(|piece| piece == end) {
-        Some(place) => Some(Script::new(alloc, input, place.saturating_add(4))),
+    match end_of_head(&input) {
+        Some(head) => Some(Script::new(alloc, input, head)),
         None => None,
     }
 }
@@ -41,7 +50,7 @@ pub(crate) fn worker_stream(alloc: Global) -> Option<Script> {
 
 /// The master that hears this orders that command, and writes what the worker heard.
 #[test]
-fn the_ends_talk(rt: HostRuntime) -> Result<(), Fail> {
+fn the_ends_talk(rt: HostRuntime) {
     static ROWS: [Row; 7] = [
         Row::Calls(Call::AcceptWorker, Answer::Done),
         Row::Calls(Call::Login, Answer::Place(1)),
@@ -52,5 +61,4 @@ fn the_ends_talk(rt: HostRuntime) -> Result<(), Fail> {
         Row::Wrote(&[TRUE, ORDER, ANSWER]),
     ];
     assert!(rt; plays(&rt, rt.alloc(), 8, false, &ROWS));
-    Ok(())
 }

@@ -15,20 +15,22 @@ use std::marker::Brand;
 use std::mem::{forget, swap};
 use std::process::Abort;
 use std::sync::Wait;
-use std::test::Fail;
 
 /// A call of a link.
 #[derive(Clone, Copy)]
 pub(crate) enum Call {
     /// Another link is accepted, over a stream that gives these messages after the head.
     Accept(&'static [&'static [u8]]),
-    /// The same, over a stream that gives a head of these pieces and no message.
+    /// Another link is accepted, over a stream that gives a head of these pieces and no message.
     AcceptHead(&'static [&'static [u8]]),
-    /// The same, over a stream that gives these messages after the head, and would then block.
+    /// Another link is accepted, over a stream that gives these messages after the head, and would
+    /// then block.
     AcceptWaiting(&'static [&'static [u8]]),
-    /// The same, over a stream that gives the first bytes of the head, and would then block.
+    /// Another link is accepted, over a stream that gives the first bytes of the head, and would
+    /// then block.
     AcceptSome(usize),
-    /// The same, over a stream that gives the head in pieces of so many bytes.
+    /// Another link is accepted, over a stream that gives the head in pieces of so many bytes, and
+    /// then these messages.
     AcceptInPieces(usize, &'static [&'static [u8]]),
     /// Another link is accepted, over a stream that gives what a worker wrote.
     AcceptWorker,
@@ -79,7 +81,8 @@ pub(crate) enum Row {
     /// What the frames are that a new link reads once its lane is up, and what its turn answers.
     /// The lane stays up where that is no fault, and is then taken down.
     Reads(&'static str, &'static [u8], Answer),
-    /// The same of a message of this kind with this many bytes.
+    /// What a new link's turn answers that reads this long message once its lane is up. The lane
+    /// stays up where that is no fault, and is then taken down.
     ReadsLong(Long, Answer),
     /// The link is set aside, and the one that was is called again.
     Changes,
@@ -115,10 +118,8 @@ pub(crate) struct Desk<Y: Yard, W: Wait + Drop> {
     arena: Bump,
     users: Vec<User>,
     argv: Vec<Text>,
-    /// The calls after which the stream of a link fails, where it does; it then gives single bytes.
-    calls: Option<u32>,
-    /// The bytes after which the stream of a link ends, where it is cut.
-    cut: Option<usize>,
+    /// The end that the stream of a link comes to.
+    end: End,
     link: Option<MasterLink<Script>>,
     aside: Option<MasterLink<Script>>,
 }
@@ -140,8 +141,7 @@ impl<Y: Yard, W: Wait + Drop> Desk<Y, W> {
             arena: Bump::new(alloc),
             users: Vec::new(alloc),
             argv: Vec::new(alloc),
-            calls: None,
-            cut: None,
+            end: End::Whole,
             link: None,
             aside: None,
         }
@@ -171,16 +171,9 @@ impl<Y: Yard, W: Wait + Drop> Desk<Y, W> {
         }
     }
 
-    /// From now on a link's stream comes to this end. One that fails gives single bytes.
+    /// From now on a link's stream comes to this end.
     pub fn ends_so(&mut self, end: End) {
-        self.calls = match end {
-            End::Fails(calls) => Some(calls),
-            _ => None,
-        };
-        self.cut = match end {
-            End::Cut(bytes) => Some(bytes),
-            _ => None,
-        };
+        self.end = end;
     }
 
     /// A link over this stream takes the place of the one before.
@@ -197,17 +190,14 @@ impl<Y: Yard, W: Wait + Drop> Desk<Y, W> {
     /// A link over a stream that gives the head in pieces of so many bytes, and then these
     /// messages, takes the place of the one before.
     fn accept_from(&mut self, messages: &[&[u8]], piece: usize) -> Answer {
-        let Ok(mut stream) = script_of(self.alloc, HEAD, messages) else {
-            return Answer::Nothing;
-        };
-        stream.piece = piece;
-        if let Some(bytes) = self.cut {
-            stream.input.truncate(bytes);
+        match script_of(self.alloc, HEAD, messages) {
+            Ok(mut stream) => {
+                stream.piece = piece;
+                self.end.shapes(&mut stream);
+                self.accept(stream)
+            }
+            Err(_) => Answer::Nothing,
         }
-        if let Some(calls) = self.calls {
-            stream.fails_after(calls);
-        }
-        self.accept(stream)
     }
 
     /// The link before is let go, and one takes its place over a stream that gives these bytes
@@ -217,7 +207,7 @@ impl<Y: Yard, W: Wait + Drop> Desk<Y, W> {
         self.accept_from(&[said], usize::MAX)
     }
 
-    /// The same, over a stream that gives a head of these pieces.
+    /// A link over a stream that gives a head of these pieces takes the place of the one before.
     fn accept_head(&mut self, pieces: &[&[u8]]) -> Answer {
         match joined(self.alloc, pieces) {
             Ok(head) => self.accept(Script::new(self.alloc, head, usize::MAX)),
@@ -225,15 +215,17 @@ impl<Y: Yard, W: Wait + Drop> Desk<Y, W> {
         }
     }
 
-    /// The same, over a stream that gives the first bytes of the head and these messages, and would
-    /// then block.
+    /// A link over a stream that gives the first bytes of the head and these messages, and would
+    /// then block, takes the place of the one before.
     fn accept_waiting(&mut self, first: usize, messages: &[&[u8]]) -> Answer {
-        let Ok(mut stream) = script_of(self.alloc, HEAD, messages) else {
-            return Answer::Nothing;
-        };
-        stream.input.truncate(first);
-        stream.waits = true;
-        self.accept(stream)
+        match script_of(self.alloc, HEAD, messages) {
+            Ok(mut stream) => {
+                stream.input.truncate(first);
+                stream.waits = true;
+                self.accept(stream)
+            }
+            Err(_) => Answer::Nothing,
+        }
     }
 
     fn accept_worker(&mut self) -> Answer {
@@ -329,14 +321,19 @@ impl<Y: Yard, W: Wait + Drop> Desk<Y, W> {
         }
     }
 
-    fn gives_so<R: Wait>(&mut self, rt: &R, frames: &[u8], gives: Answer) -> bool {
-        let is_attached = self.accept_from(&[AUTH, frames], usize::MAX) == Answer::Done
+    /// Whether a link over a stream that gives these messages takes its lane up plainly.
+    pub fn is_attached<R: Wait>(&mut self, rt: &R, messages: &[&[u8]]) -> bool {
+        self.accept_from(messages, usize::MAX) == Answer::Done
             && self.login() == Answer::Place(1)
-            && self.attach(rt) == PLAIN;
-        let is_told = self.turn(rt) == gives;
+            && self.attach(rt) == PLAIN
+    }
+
+    fn gives_so<R: Wait>(&mut self, rt: &R, frames: &[u8], gives: Answer) -> bool {
         let is_up = matches!(gives, Answer::Turned(_));
-        let reader = &mut self.ends.reader;
-        is_attached && is_told && reader.is_up() == is_up && (!is_up || reader.down(rt).is_ok())
+        self.is_attached(rt, &[AUTH, frames])
+            && self.turn(rt) == gives
+            && self.ends.reader.is_up() == is_up
+            && (!is_up || self.ends.reader.down(rt).is_ok())
     }
 
     fn gives_long<R: Wait>(&mut self, rt: &R, long: Long, gives: Answer) -> bool {
@@ -353,10 +350,17 @@ impl<Y: Yard, W: Wait + Drop> Desk<Y, W> {
         }
     }
 
+    fn wrote_last(&self, bytes: &[u8]) -> bool {
+        match &self.link {
+            Some(link) => link.get_ref().output.ends_with(bytes),
+            None => false,
+        }
+    }
+
     fn wrote(&self, pieces: &[&[u8]]) -> bool {
-        match (&self.link, joined(self.alloc, pieces)) {
-            (Some(link), Ok(whole)) => link.get_ref().output.ends_with(&whole),
-            _ => false,
+        match joined(self.alloc, pieces) {
+            Ok(whole) => self.wrote_last(&whole),
+            Err(_) => false,
         }
     }
 

@@ -12,7 +12,6 @@ use std::alloc::Global;
 use std::marker::Brand;
 use std::process::Abort;
 use std::sync::Wait;
-use std::test::Fail;
 
 /// A login, an update, a text and the end, and how many bytes each call reads.
 static CALLS: [(Call, Answer, usize); 8] = [
@@ -57,15 +56,16 @@ impl<Y: Yard, W: Wait + Drop> Desk<Y, W> {
     /// What is seen of the calls. Where no link was accepted none is called.
     fn watched<R: Wait>(&mut self, rt: &R, end: End) -> Watch {
         let mut watch = Watch::of(end);
-        for (n, (call, right, bytes)) in CALLS.iter().enumerate() {
-            if n == 0 || watch.has_link {
-                let step = Step {
-                    right: *right,
-                    bytes: *bytes,
-                    is_late: false,
-                };
-                watch.see(step, self.answer(rt, *call), self.has_failed());
-                watch.has_link = self.has_link();
+        for (call, right, bytes) in &CALLS {
+            let step = Step {
+                right: *right,
+                bytes: *bytes,
+                is_late: false,
+            };
+            watch.see(step, self.answer(rt, *call), self.has_failed());
+            watch.has_link = self.has_link();
+            if !watch.has_link {
+                break;
             }
         }
         watch.is_right &= self.is_over(watch.has_ended);
@@ -119,41 +119,41 @@ pub(crate) fn ended_right(watch: Option<Watch>) -> Option<bool> {
     }
 }
 
+/// Whether the end is told as it should be wherever the stream fails, until it has no call more that
+/// could fail.
+fn is_told_at_each_call<R: Wait + Abort>(rt: &R, alloc: Global, resumable: bool) -> bool {
+    for calls in 0..400 {
+        let ended = ended_right(watched(rt, alloc, resumable, End::Fails(calls)));
+        assert!(rt; ended.is_some(), "after {calls} calls");
+        if ended == Some(false) {
+            return true;
+        }
+    }
+    false
+}
+
 /// A session that the worker doesn't name isn't resumed, whatever its lane allows.
 #[test]
-fn a_failing_stream_is_told_once(rt: HostRuntime) -> Result<(), Fail> {
-    for resumable in [false, true] {
-        let mut has_ended = true;
-        for calls in 0..400 {
-            if has_ended {
-                let watch = watched(&rt, rt.alloc(), resumable, End::Fails(calls));
-                let ended = ended_right(watch);
-                assert!(rt; ended.is_some(), "after {calls} calls");
-                has_ended = ended == Some(true);
-            }
-        }
-        assert!(rt; !has_ended);
-    }
-    Ok(())
+fn a_failing_stream_is_told_once(rt: HostRuntime) {
+    assert!(rt; is_told_at_each_call(&rt, rt.alloc(), false));
+    assert!(rt; is_told_at_each_call(&rt, rt.alloc(), true));
 }
 
 #[test]
-fn an_end_is_told_once(rt: HostRuntime) -> Result<(), Fail> {
+fn an_end_is_told_once(rt: HostRuntime) {
     for bytes in 0..=HEAD.len() + AUTH.len() + UPDATE.len() + TEXT.len() {
         let watch = watched(&rt, rt.alloc(), false, End::Cut(bytes));
         assert!(rt; ended_right(watch) == Some(true), "after {bytes} bytes");
     }
-    Ok(())
 }
 
 /// What came before a refused request for memory is right, and no update is passed over after it.
 /// Where the lane itself found no memory, it is made again.
 #[test]
-fn refused_memory_ends_the_link(rt: HostRuntime) -> Result<(), Fail> {
+fn refused_memory_ends_the_link(rt: HostRuntime) {
     let watch = match watched(&rt, rt.alloc(), false, End::Refused) {
         Some(watch) => Some(watch),
         None => watched(&rt, rt.alloc(), false, End::Refused),
     };
     assert!(rt; ended_right(watch).is_some());
-    Ok(())
 }

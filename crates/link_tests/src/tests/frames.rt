@@ -3,8 +3,6 @@
 
 use super::desk::{Answer, BAD, CLOSED, Call, DROPPED, HEARD, PLAIN, Row, plays};
 use super::{ANSWER, AUTH, CLOSE, TRUE, UPDATE};
-use std::process::Abort;
-use std::test::Fail;
 
 /// A ping of a byte more than a ping may have.
 const LONG_PING: &[u8] = b"\x89\xfe\0\x7e\0\0\0\0\
@@ -378,15 +376,14 @@ static FRAMES: [Row; 105] = [
 ];
 
 #[test]
-fn frames_give_their_turns(rt: HostRuntime) -> Result<(), Fail> {
+fn frames_give_their_turns(rt: HostRuntime) {
     assert!(rt; plays(&rt, rt.alloc(), 1, false, &FRAMES));
-    Ok(())
 }
 
 /// A ping between the pieces of an update is a turn of its own, and its pong goes out before the
 /// answer to the update.
 #[test]
-fn a_ping_between_pieces_is_answered(rt: HostRuntime) -> Result<(), Fail> {
+fn a_ping_between_pieces_is_answered(rt: HostRuntime) {
     static ROWS: [Row; 8] = [
         Row::Calls(Call::Accept(&[AUTH, PIECES_WITH_PING]), Answer::Done),
         Row::Calls(Call::Login, Answer::Place(1)),
@@ -398,12 +395,11 @@ fn a_ping_between_pieces_is_answered(rt: HostRuntime) -> Result<(), Fail> {
         Row::Had(3),
     ];
     assert!(rt; plays(&rt, rt.alloc(), 8, false, &ROWS));
-    Ok(())
 }
 
 /// A close frame is answered by one, and nothing is read behind it.
 #[test]
-fn a_close_frame_is_answered(rt: HostRuntime) -> Result<(), Fail> {
+fn a_close_frame_is_answered(rt: HostRuntime) {
     static ROWS: [Row; 10] = [
         Row::Calls(Call::Accept(&[AUTH, CLOSING, UPDATE]), Answer::Done),
         Row::Calls(Call::Login, Answer::Place(1)),
@@ -417,5 +413,4 @@ fn a_close_frame_is_answered(rt: HostRuntime) -> Result<(), Fail> {
         Row::Wrote(&[CLOSE]),
     ];
     assert!(rt; plays(&rt, rt.alloc(), 1, false, &ROWS));
-    Ok(())
 }

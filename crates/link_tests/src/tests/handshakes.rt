@@ -3,12 +3,10 @@
 use super::AUTH;
 use super::desk::{Answer, BAD, Call, PLAIN, Row, plays};
 use bm_link::*;
-use std::process::Abort;
-use std::test::Fail;
 
 /// A handshake that comes in pieces is heard; one that trickles in is taken for an attack.
 #[test]
-fn a_handshake_comes_in_pieces(rt: HostRuntime) -> Result<(), Fail> {
+fn a_handshake_comes_in_pieces(rt: HostRuntime) {
     static ROWS: [Row; 4] = [
         Row::Calls(Call::AcceptInPieces(16, &[AUTH]), Answer::Done),
         Row::Calls(Call::Login, Answer::Place(1)),
@@ -16,7 +14,6 @@ fn a_handshake_comes_in_pieces(rt: HostRuntime) -> Result<(), Fail> {
         Row::Calls(Call::AcceptInPieces(1, &[AUTH]), BAD),
     ];
     assert!(rt; plays(&rt, rt.alloc(), 1, false, &ROWS));
-    Ok(())
 }
 
 const GET: &[u8] = b"GET / HTTP/1.1\r\nHost: x\r\n";
@@ -83,7 +80,6 @@ static HANDSHAKES: [Row; 16] = [
 ];
 
 #[test]
-fn handshakes_are_taken_or_refused(rt: HostRuntime) -> Result<(), Fail> {
+fn handshakes_are_taken_or_refused(rt: HostRuntime) {
     assert!(rt; plays(&rt, rt.alloc(), 1, false, &HANDSHAKES));
-    Ok(())
 }

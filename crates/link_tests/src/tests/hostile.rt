@@ -6,11 +6,11 @@
 //! message is a bad one, after which the lane is down and its log is as it was.
 ghost use Rattle.std.specs.Prelude.{◌≡◌};
 
-use super::desk::{Answer, BAD, Call, Desk, HEARD, NOTED, PLAIN};
+use super::desk::{Answer, BAD, Call, Desk, HEARD, NOTED};
 use super::lengths::binary;
 use super::{AUTH, COMPLETE_THREE, DONE, ORDER, TRUE, UPDATE};
 use bm_lane::{Blank, Yard, open};
-use bm_lines::{Parcel, STDIO, content};
+use bm_lines::{Parcel, Part, STDIO, content};
 use bm_link::*;
 use bm_msg::{NUMBER_LIMIT, write_answer};
 use bm_session::{Body, Event, Results};
@@ -19,7 +19,6 @@ use std::alloc::Global;
 use std::marker::Brand;
 use std::process::Abort;
 use std::sync::Wait;
-use std::test::Fail;
 
 /// What came of a message.
 #[derive(Clone, Copy, PartialEq)]
@@ -73,44 +72,55 @@ fn answer_bytes(alloc: Global, seq: u64, exception: Option<&str>) -> Option<Vec<
     }
 }
 
-/// Whether this is the frame of the answer to the request.
-fn is_answer(alloc: Global, frame: &[u8], seq: u64, body: &Body) -> bool {
-    match (answer_bytes(alloc, seq, exception_to(body)), frame) {
-        (Some(right), [b'\x82', length, bytes @ ..]) => {
-            bytes.len() == usize::from(*length) && bytes == right.as_slice()
-        }
+/// Whether this is the short frame of these bytes.
+fn is_frame_of(frame: &[u8], right: &[u8]) -> bool {
+    match frame {
+        [b'\x82', length, bytes @ ..] => bytes.len() == usize::from(*length) && bytes == right,
         _ => false,
     }
 }
 
+/// Whether this is the frame of the answer to the request.
+fn is_answer(alloc: Global, frame: &[u8], seq: u64, body: &Body) -> bool {
+    match answer_bytes(alloc, seq, exception_to(body)) {
+        Some(right) => is_frame_of(frame, &right),
+        None => false,
+    }
+}
+
 impl<Y: Yard, W: Wait + Drop> Desk<Y, W> {
-    /// A link is attached, and has started command 0; these frames come next.
-    fn is_live<R: Wait>(&mut self, rt: &R, frames: &[u8]) -> bool {
+    /// A link is attached, and has started command 0; this frame comes next.
+    fn is_live<R: Wait>(&mut self, rt: &R, frame: &[u8]) -> bool {
         self.is_ready()
-            && self.accepts(frames) == Answer::Done
-            && self.call(rt, Call::Login) == Answer::Place(1)
-            && self.call(rt, Call::Attach) == PLAIN
+            && self.is_attached(rt, &[AUTH, frame])
             && self.call(rt, Call::Start) == Answer::Started(0)
+    }
+
+    /// A link is attached, and has started command 0; the message with these bytes comes next.
+    fn is_given<R: Wait>(&mut self, rt: &R, alloc: Global, bytes: &[u8]) -> bool {
+        match binary(alloc, bytes) {
+            Ok(frame) => self.is_live(rt, &frame),
+            Err(_) => false,
+        }
     }
 
     /// What comes of the message with these bytes.
     pub fn comes<R: Wait>(&mut self, rt: &R, alloc: Global, bytes: &[u8]) -> Came {
-        let frames = match binary(alloc, bytes) {
-            Ok(frame) => super::joined(alloc, &[AUTH, frame.as_slice()]),
-            Err(error) => Err(error),
-        };
-        let is_live = match frames {
-            Ok(frames) => self.is_live(rt, &frames),
-            Err(_) => false,
-        };
-        if !is_live {
+        if !self.is_given(rt, alloc, bytes) {
             return Came::Wrong;
         }
         let answer = self.call(rt, Call::Turn);
         match event_of(alloc, bytes) {
-            Some(Event::In(seq, body)) => self.is_taken(alloc, answer, seq, &body),
-            Some(_) => Came::Wrong,
+            Some(event) => self.is_heard(alloc, answer, &event),
             None => self.is_bad(answer),
+        }
+    }
+
+    /// What comes of a message that is this event.
+    fn is_heard(&mut self, alloc: Global, answer: Answer, event: &Event) -> Came {
+        match event {
+            Event::In(seq, body) => self.is_taken(alloc, answer, *seq, body),
+            _ => Came::Wrong,
         }
     }
 
@@ -134,29 +144,59 @@ impl<Y: Yard, W: Wait + Drop> Desk<Y, W> {
         }
     }
 
-    /// The event was taken, and answered if it is a request.
-    fn is_taken(&mut self, alloc: Global, answer: Answer, seq: u64, body: &Body) -> Came {
-        let is_answered = match (body, self.answered()) {
-            (Body::Answered { .. }, Some(bytes)) => answer == NOTED && bytes.is_empty(),
-            (_, Some(bytes)) => answer == HEARD && is_answer(alloc, bytes, seq, body),
-            (_, None) => false,
+    /// The event was answered if it is a request.
+    fn is_answered(&self, alloc: Global, answer: Answer, seq: u64, body: &Body) -> bool {
+        let Some(bytes) = self.answered() else {
+            return false;
         };
-        let is_last = match self.trace() {
+        match body {
+            Body::Answered { .. } => answer == NOTED && bytes.is_empty(),
+            _ => answer == HEARD && is_answer(alloc, bytes, seq, body),
+        }
+    }
+
+    /// The lane's last event behind the start is one with this number.
+    fn is_last(&self, seq: u64) -> bool {
+        match self.trace() {
             [Event::Up, Event::Go, Event::In(number, _)] => *number == seq,
             _ => false,
-        };
-        let is_ended = self.ended() == ended_by(seq, body);
-        let lines = match body {
+        }
+    }
+
+    /// Whether the event added lines, where the logs are what it says.
+    fn lines_of(&mut self, alloc: Global, body: &Body) -> Option<bool> {
+        match body {
             Body::Update {
                 command: 0,
                 parcel,
                 ..
             } => self.has_logged(alloc, parcel),
             _ => self.has_no_line(),
-        };
-        match lines {
-            Some(lines) if is_answered && is_last && is_ended => Came::Event { lines },
+        }
+    }
+
+    /// The event was taken, and answered if it is a request.
+    fn is_taken(&mut self, alloc: Global, answer: Answer, seq: u64, body: &Body) -> Came {
+        let is_right = self.is_answered(alloc, answer, seq, body)
+            && self.is_last(seq)
+            && self.ended() == ended_by(seq, body);
+        match self.lines_of(alloc, body) {
+            Some(lines) if is_right => Came::Event { lines },
             _ => Came::Wrong,
+        }
+    }
+
+    /// Whether the part has a line, where the log of its name is what it has.
+    fn has_part(&mut self, alloc: Global, part: &Part) -> Option<bool> {
+        match content(alloc, part.block.lines()) {
+            Ok(text) => {
+                if self.logged(part.name.as_str(), text.as_str()) {
+                    Some(!text.is_empty())
+                } else {
+                    None
+                }
+            }
+            Err(_) => None,
         }
     }
 
@@ -167,11 +207,9 @@ impl<Y: Yard, W: Wait + Drop> Desk<Y, W> {
         }
         let mut lines = false;
         for part in parcel.parts() {
-            match content(alloc, part.block.lines()) {
-                Ok(text) if self.logged(part.name.as_str(), text.as_str()) => {
-                    lines |= !text.is_empty();
-                }
-                _ => return None,
+            match self.has_part(alloc, part) {
+                Some(has_line) => lines |= has_line,
+                None => return None,
             }
         }
         Some(lines)
@@ -249,6 +287,21 @@ impl Tally {
     }
 }
 
+/// Whether all is right where the byte at this place has this value.
+fn is_right_with<R: Wait>(
+    rt: &R,
+    alloc: Global,
+    bytes: &mut [u8],
+    (place, value): (usize, u8),
+    tally: &mut Tally,
+) -> bool {
+    match bytes.get_mut(place) {
+        Some(byte) => *byte = value,
+        None => return false,
+    }
+    tally.counts(come(rt, alloc, bytes))
+}
+
 /// Whether all is right where the byte at this place has each of its values.
 fn each_value<R: Wait>(
     rt: &R,
@@ -262,11 +315,7 @@ fn each_value<R: Wait>(
     };
     let mut is_right = true;
     for value in 0..=u8::MAX {
-        match changed.get_mut(place) {
-            Some(byte) => *byte = value,
-            None => return false,
-        }
-        is_right &= tally.counts(come(rt, alloc, &changed));
+        is_right &= is_right_with(rt, alloc, changed.as_mut_slice(), (place, value), tally);
     }
     is_right
 }
@@ -305,7 +354,7 @@ fn a_changed_response_is_an_event_or_a_bad_message(rt: HostRuntime) {
 
 /// No front of a message is one.
 #[test]
-fn a_message_that_was_cut_short_is_a_bad_one(rt: HostRuntime) -> Result<(), Fail> {
+fn a_message_that_was_cut_short_is_a_bad_one(rt: HostRuntime) {
     for frame in &WORKED {
         let bytes = payload(frame);
         for end in 0..bytes.len() {
@@ -314,7 +363,6 @@ fn a_message_that_was_cut_short_is_a_bad_one(rt: HostRuntime) -> Result<(), Fail
         }
         assert!(rt; come(&rt, rt.alloc(), bytes) != Came::Bad);
     }
-    Ok(())
 }
 
 /// Heads of values that claim 2^32 - 1 elements or bytes, and have none, alone and in a message.
@@ -332,9 +380,8 @@ static CLAIMS: [&[u8]; 10] = [
 ];
 
 #[test]
-fn a_claimed_length_is_a_bad_message(rt: HostRuntime) -> Result<(), Fail> {
+fn a_claimed_length_is_a_bad_message(rt: HostRuntime) {
     for bytes in &CLAIMS {
         assert!(rt; come(&rt, rt.alloc(), bytes) == Came::Bad, "{bytes:?}");
     }
-    Ok(())
 }

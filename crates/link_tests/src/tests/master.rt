@@ -6,12 +6,11 @@ use super::{
     UPDATE,
 };
 use bm_link::*;
-use std::test::Fail;
 
 /// A link whose lane is busy, and is interrupted: the turns after each drain. Each answer, order
 /// and request is one write to the stream.
 #[test]
-fn a_busy_lane_is_heard_after_a_drain(rt: HostRuntime) -> Result<(), Fail> {
+fn a_busy_lane_is_heard_after_a_drain(rt: HostRuntime) {
     static ROWS: [Row; 32] = [
         Row::Calls(Call::Accept(&[AUTH, UPDATE, TEXT, PING]), Answer::Done),
         Row::Calls(Call::Attach, CLOSED),
@@ -47,7 +46,6 @@ fn a_busy_lane_is_heard_after_a_drain(rt: HostRuntime) -> Result<(), Fail> {
         Row::Had(5),
     ];
     assert!(rt; plays(&rt, rt.alloc(), 1, false, &ROWS));
-    Ok(())
 }
 
 /// What a link writes when it is accepted ends so.
@@ -62,7 +60,7 @@ const FAILED: Answer = Answer::Fault(LinkFault::Stream);
 const QUIET: Answer = Answer::Turned(Turn::Quiet);
 
 #[test]
-fn logins_are_refused(rt: HostRuntime) -> Result<(), Fail> {
+fn logins_are_refused(rt: HostRuntime) {
     static ROWS: [Row; 35] = [
         Row::Knows("w1", "p"),
         Row::Calls(Call::Accept(&[AUTH]), Answer::Done),
@@ -101,12 +99,11 @@ fn logins_are_refused(rt: HostRuntime) -> Result<(), Fail> {
         Row::Wrote(&[ACCEPTED]),
     ];
     assert!(rt; plays(&rt, rt.alloc(), 1, false, &ROWS));
-    Ok(())
 }
 
 /// A lane that has had as many events as it may takes no login, which is told so.
 #[test]
-fn a_full_lane_takes_no_login(rt: HostRuntime) -> Result<(), Fail> {
+fn a_full_lane_takes_no_login(rt: HostRuntime) {
     static ROWS: [Row; 7] = [
         Row::Fills,
         Row::Calls(Call::Accept(&[AUTH]), Answer::Done),
@@ -117,12 +114,11 @@ fn a_full_lane_takes_no_login(rt: HostRuntime) -> Result<(), Fail> {
         Row::Had(1_000_000),
     ];
     assert!(rt; plays(&rt, rt.alloc(), 1, false, &ROWS));
-    Ok(())
 }
 
 /// An arena that can't be reset is a fault of its own.
 #[test]
-fn an_arena_is_not_reset(rt: HostRuntime) -> Result<(), Fail> {
+fn an_arena_is_not_reset(rt: HostRuntime) {
     static ROWS: [Row; 9] = [
         Row::Calls(Call::Accept(&[AUTH, UPDATE]), Answer::Done),
         Row::Calls(Call::Login, Answer::Place(1)),
@@ -135,12 +131,11 @@ fn an_arena_is_not_reset(rt: HostRuntime) -> Result<(), Fail> {
         Row::Calls(Call::Login, NOT_RESET),
     ];
     assert!(rt; plays(&rt, rt.alloc(), 1, false, &ROWS));
-    Ok(())
 }
 
 /// A stream that would block has failed at a login; after it nothing has come yet.
 #[test]
-fn a_stream_that_would_block_is_waited_for(rt: HostRuntime) -> Result<(), Fail> {
+fn a_stream_that_would_block_is_waited_for(rt: HostRuntime) {
     static ROWS: [Row; 10] = [
         Row::Calls(Call::AcceptWaiting(&[]), Answer::Done),
         Row::Calls(Call::Login, FAILED),
@@ -154,5 +149,4 @@ fn a_stream_that_would_block_is_waited_for(rt: HostRuntime) -> Result<(), Fail> 
         Row::Had(1),
     ];
     assert!(rt; plays(&rt, rt.alloc(), 1, false, &ROWS));
-    Ok(())
 }

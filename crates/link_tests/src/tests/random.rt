@@ -6,7 +6,6 @@ use super::hostile::{Tally, WORKED, come, payload};
 use std::alloc::{AllocError, Global};
 use std::process::Abort;
 use std::sync::Wait;
-use std::test::Fail;
 
 /// A source of words that are always the same for the same seed: a linear congruential generator,
 /// of whose states the high bits are given.
@@ -103,6 +102,14 @@ fn random_bytes(alloc: Global, words: &mut Words) -> Result<Vec<u8>, AllocError>
     Ok(bytes)
 }
 
+/// Appends so many random pieces.
+fn push_pieces(bytes: &mut Vec<u8>, words: &mut Words, count: usize) -> Result<(), AllocError> {
+    for _ in 0..count {
+        bytes.extend_from_slice(words.piece(&PIECES))?;
+    }
+    Ok(())
+}
+
 /// A map of random pairs. The number of pairs that it says is mostly that which it has.
 fn random_pairs(alloc: Global, words: &mut Words) -> Result<Vec<u8>, AllocError> {
     let count = words.below(8);
@@ -113,23 +120,21 @@ fn random_pairs(alloc: Global, words: &mut Words) -> Result<Vec<u8>, AllocError>
     };
     let mut bytes = Vec::new(alloc);
     bytes.push(0x80 | (said & 0x0f) as u8)?;
-    for _ in 0..count {
-        bytes.extend_from_slice(words.piece(&PIECES))?;
-    }
+    push_pieces(&mut bytes, words, count)?;
     Ok(bytes)
 }
+
+/// The pairs of an update.
+const PAIRS: &[u8] =
+    b"\xaaseq_number\0\xa2op\xa6update\xaacommand_id\xa10\xa4args\x91\x92\xa6stdout\xa2a\n";
 
 /// The update with some pairs more behind it, so that most are events.
 fn random_update(alloc: Global, words: &mut Words) -> Result<Vec<u8>, AllocError> {
     let count = words.below(4);
     let mut bytes = Vec::new(alloc);
     bytes.push(0x84 | (count & 0x03) as u8)?;
-    bytes.extend_from_slice(
-        b"\xaaseq_number\0\xa2op\xa6update\xaacommand_id\xa10\xa4args\x91\x92\xa6stdout\xa2a\n",
-    )?;
-    for _ in 0..count {
-        bytes.extend_from_slice(words.piece(&PIECES))?;
-    }
+    bytes.extend_from_slice(PAIRS)?;
+    push_pieces(&mut bytes, words, count)?;
     Ok(bytes)
 }
 
@@ -148,18 +153,23 @@ fn spliced(
     Ok(spliced)
 }
 
+/// These bytes, of which some are replaced, left out or added.
+fn changed(alloc: Global, words: &mut Words, bytes: &[u8]) -> Result<Vec<u8>, AllocError> {
+    let place = words.below(64).min(bytes.len());
+    let single = [words.byte()];
+    let piece = match words.below(4) {
+        0 | 1 => single.as_slice(),
+        2 => words.piece(&PIECES),
+        _ => b"",
+    };
+    spliced(alloc, bytes, place, words.below(3), piece)
+}
+
 /// A worked message, of which one to four times some bytes are replaced, left out or added.
 fn mutated(alloc: Global, words: &mut Words) -> Result<Vec<u8>, AllocError> {
     let mut bytes = payload(words.piece(&WORKED)).to_vec(alloc)?;
     for _ in 0..=words.below(4) {
-        let place = words.below(64).min(bytes.len());
-        let single = [words.byte()];
-        let piece = match words.below(4) {
-            0 | 1 => single.as_slice(),
-            2 => words.piece(&PIECES),
-            _ => b"",
-        };
-        bytes = spliced(alloc, &bytes, place, words.below(3), piece)?;
+        bytes = changed(alloc, words, &bytes)?;
     }
     Ok(bytes)
 }

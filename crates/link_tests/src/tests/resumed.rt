@@ -15,7 +15,9 @@ ghost use Rattle.std.specs.Prelude.{◌≡◌};
 use super::desk::{Answer, CLOSED, Call, Desk, HEARD, NOTED};
 use super::failing::ended_right;
 use super::watch::{End, Step, Watch};
-use super::{AUTH_S, AUTH_T, DONE, DONE_ONE, HEAD, NEW, ORDER, REQUESTS, RESUMED, STOP};
+use super::{
+    AUTH_S, AUTH_T, DONE, DONE_ONE, HEAD, NEW, ORDER, RESUMED, STOP, push_requests, requests_from,
+};
 use bm_lane::{Blank, Yard, open};
 use bm_link::*;
 use bm_session::{Body, Event, Results};
@@ -23,17 +25,45 @@ use std::alloc::{AllocError, Global};
 use std::marker::Brand;
 use std::process::Abort;
 use std::sync::Wait;
-use std::test::Fail;
 
 const BEGUN: Answer = Answer::Attached(Attached::New);
 
 const GOES_ON: Answer = Answer::Attached(Attached::Resumed);
 
-/// The master's orders: the call that gives one and its answer, what is sent, and the response.
-static ORDERS: [(Call, Answer, &[u8], &[u8]); 2] = [
+/// An order of the master: the call that gives it and its answer, what is sent, and the response.
+type Order = (Call, Answer, &'static [u8], &'static [u8]);
+
+static ORDERS: [Order; 2] = [
     (Call::Start, Answer::Started(0), ORDER, DONE),
     (Call::Interrupt, Answer::Done, STOP, DONE_ONE),
 ];
+
+/// The master's orders from this one on.
+fn orders_from(first: usize) -> &'static [Order] {
+    ORDERS.get(first..).unwrap_or_default()
+}
+
+fn push_orders(told: &mut Vec<u8>, first: usize) -> Result<(), AllocError> {
+    for (_, _, order, _) in orders_from(first) {
+        told.extend_from_slice(order)?;
+    }
+    Ok(())
+}
+
+fn push_responses(said: &mut Vec<u8>, first: usize) -> Result<(), AllocError> {
+    for (_, _, _, response) in orders_from(first) {
+        said.extend_from_slice(response)?;
+    }
+    Ok(())
+}
+
+/// Appends the answers to the worker's requests from this one on.
+fn push_answers(told: &mut Vec<u8>, first: usize) -> Result<(), AllocError> {
+    for (_, answer) in requests_from(first) {
+        told.extend_from_slice(answer)?;
+    }
+    Ok(())
+}
 
 /// How far a session has come when a link of it begins.
 #[derive(Clone, Copy)]
@@ -79,54 +109,37 @@ impl Standing {
     /// and says each request without an answer, again or for the first time.
     fn said(self, alloc: Global) -> Result<Vec<u8>, AllocError> {
         let mut said = AUTH_S.to_vec(alloc)?;
-        for (n, (_, _, _, response)) in ORDERS.iter().enumerate() {
-            if n >= self.responded {
-                said.extend_from_slice(response)?;
-            }
-        }
-        for (n, (request, _)) in REQUESTS.iter().enumerate() {
-            if n >= self.answered {
-                said.extend_from_slice(request)?;
-            }
-        }
+        push_responses(&mut said, self.responded)?;
+        push_requests(&mut said, self.answered)?;
         Ok(said)
     }
 
-    /// What the link answers to the login, and each order without a response: those that the lane
-    /// took before come first.
-    fn orders(self, alloc: Global) -> Result<Vec<u8>, AllocError> {
-        let login = if self.has_begun { RESUMED } else { NEW };
-        let mut orders = login.to_vec(alloc)?;
-        for (n, (_, _, order, _)) in ORDERS.iter().enumerate() {
-            if n >= self.responded {
-                orders.extend_from_slice(order)?;
-            }
-        }
-        Ok(orders)
+    /// What the link answers to the login.
+    fn login(self) -> &'static [u8] {
+        if self.has_begun { RESUMED } else { NEW }
     }
 
-    /// All that the link writes, behind the handshake.
+    /// All that the link writes behind the handshake: the answer to the login, each order without a
+    /// response, of which those that the lane took before come first, and each answer.
     fn told(self, alloc: Global) -> Result<Vec<u8>, AllocError> {
-        let mut told = self.orders(alloc)?;
-        for (n, (_, answer)) in REQUESTS.iter().enumerate() {
-            if n >= self.answered {
-                told.extend_from_slice(answer)?;
-            }
-        }
+        let mut told = self.login().to_vec(alloc)?;
+        push_orders(&mut told, self.responded)?;
+        push_answers(&mut told, self.answered)?;
         Ok(told)
     }
 
-    /// How many of its requests the worker has the answers to, once it has read so many bytes of
-    /// what the link writes.
-    fn answered_by(self, orders: usize, bytes: usize) -> usize {
-        let mut place = orders;
+    /// How many requests of the worker have their answers, once it has read so many bytes of what
+    /// the link writes.
+    fn answered_by(self, bytes: usize) -> usize {
+        let mut place = self.login().len();
+        for (_, _, order, _) in orders_from(self.responded) {
+            place = place.saturating_add(order.len());
+        }
         let mut answered = self.answered;
-        for (n, (_, answer)) in REQUESTS.iter().enumerate() {
-            if n >= self.answered {
-                place = place.saturating_add(answer.len());
-                if place <= bytes {
-                    answered = n.saturating_add(1);
-                }
+        for (_, answer) in requests_from(self.answered) {
+            place = place.saturating_add(answer.len());
+            if place <= bytes {
+                answered = answered.saturating_add(1);
             }
         }
         answered
@@ -174,20 +187,14 @@ impl<Y: Yard, W: Wait + Drop> Desk<Y, W> {
         let attached = if standing.has_begun { GOES_ON } else { BEGUN };
         self.sees(rt, &mut watch, Call::Login, Answer::Place(1), AUTH_S.len());
         self.sees(rt, &mut watch, Call::Attach, attached, 0);
-        for (n, (call, answer, _, _)) in ORDERS.iter().enumerate() {
-            if n >= standing.ordered {
-                self.sees(rt, &mut watch, *call, *answer, 0);
-            }
+        for (call, answer, _, _) in orders_from(standing.ordered) {
+            self.sees(rt, &mut watch, *call, *answer, 0);
         }
-        for (n, (_, _, _, response)) in ORDERS.iter().enumerate() {
-            if n >= standing.responded {
-                self.sees(rt, &mut watch, Call::Turn, NOTED, response.len());
-            }
+        for (_, _, _, response) in orders_from(standing.responded) {
+            self.sees(rt, &mut watch, Call::Turn, NOTED, response.len());
         }
-        for (n, (request, _)) in REQUESTS.iter().enumerate() {
-            if n >= standing.answered {
-                self.sees(rt, &mut watch, Call::Turn, HEARD, request.len());
-            }
+        for (request, _) in requests_from(standing.answered) {
+            self.sees(rt, &mut watch, Call::Turn, HEARD, request.len());
         }
         self.sees(rt, &mut watch, Call::Turn, CLOSED, 1);
         self.sees(rt, &mut watch, Call::Turn, CLOSED, 0);
@@ -196,6 +203,16 @@ impl<Y: Yard, W: Wait + Drop> Desk<Y, W> {
 }
 
 impl<Y: Yard, W: Wait + Drop> Desk<Y, W> {
+    /// Whether the link wrote what it has to, or a part from the front on where its stream came to
+    /// an end.
+    fn has_told(&self, alloc: Global, standing: Standing, has_ended: bool) -> bool {
+        let written = self.written();
+        match standing.told(alloc) {
+            Ok(told) => told.starts_with(written) && (has_ended || written.len() == told.len()),
+            Err(_) => false,
+        }
+    }
+
     /// One link of the session, and how far it has come then. What was written reached the worker,
     /// or none of it.
     fn link<R: Wait>(
@@ -206,20 +223,13 @@ impl<Y: Yard, W: Wait + Drop> Desk<Y, W> {
         standing: Standing,
         is_heard: bool,
     ) -> Option<(Watch, Standing)> {
-        let (said, orders, told) = match (
-            standing.said(alloc),
-            standing.orders(alloc),
-            standing.told(alloc),
-        ) {
-            (Ok(said), Ok(orders), Ok(told)) => (said, orders, told),
-            _ => return None,
+        let mut watch = match standing.said(alloc) {
+            Ok(said) => self.goes(rt, end, standing, &said),
+            Err(_) => return None,
         };
-        let mut watch = self.goes(rt, end, standing, &said);
-        let written = self.written().len();
-        watch.is_right &= told.starts_with(self.written());
-        watch.is_right &= watch.has_ended || written == told.len();
+        watch.is_right &= self.has_told(alloc, standing, watch.has_ended);
         let answered = if is_heard {
-            standing.answered_by(orders.len(), written)
+            standing.answered_by(self.written().len())
         } else {
             standing.answered
         };
@@ -245,12 +255,9 @@ impl<Y: Yard, W: Wait + Drop> Desk<Y, W> {
         Some(watch)
     }
 
-    /// The same, where a link that comes to the first end is followed by one that comes to the
-    /// other.
+    /// What is seen of a link that comes to the end, and of the whole one that follows, behind a
+    /// link that comes to the first end where there is one.
     fn keeps<R: Wait>(&mut self, rt: &R, alloc: Global, row: Case) -> Option<Watch> {
-        if !self.is_ready() {
-            return None;
-        }
         let Some(first) = row.first else {
             return self.keeps_from(rt, alloc, row.end, Standing::START, row.is_heard);
         };
@@ -283,22 +290,24 @@ impl<Y: Yard, W: Wait + Drop> Desk<Y, W> {
     /// What is seen of a link that comes to this end, and of one over which the worker names
     /// another session: the first is given up, and none of its orders is sent.
     fn is_followed<R: Wait>(&mut self, rt: &R, alloc: Global, end: End) -> Option<Watch> {
-        if !self.is_ready() {
-            return None;
-        }
         let Some((mut watch, _)) = self.link(rt, alloc, end, Standing::START, false) else {
             return None;
         };
         let events = self.trace().len();
         let commands = self.commands();
         let ended = self.ended();
+        watch.is_right &= self.begins_another(rt, commands)
+            && self.was_given_up(events, commands, ended);
+        Some(watch)
+    }
+
+    /// Whether a whole link takes up another session, and starts this command.
+    fn begins_another<R: Wait>(&mut self, rt: &R, command: u64) -> bool {
         self.ends_so(End::Whole);
-        watch.is_right &= self.accepts(AUTH_T) == Answer::Done
+        self.accepts(AUTH_T) == Answer::Done
             && self.call(rt, Call::Login) == Answer::Place(1)
             && self.call(rt, Call::Attach) == BEGUN
-            && self.call(rt, Call::Start) == Answer::Started(commands);
-        watch.is_right &= self.was_given_up(events, commands, ended);
-        Some(watch)
+            && self.call(rt, Call::Start) == Answer::Started(command)
     }
 
     /// What had so many events and commands was given up, if it had begun, and only what belongs to
@@ -317,6 +326,17 @@ impl<Y: Yard, W: Wait + Drop> Desk<Y, W> {
             (None, _) => Some(Results::Retry),
         };
         is_new && is_sent && self.ended() == right
+    }
+
+    /// What is seen of the links of this case, on a lane that had none.
+    fn goes_through<R: Wait>(&mut self, rt: &R, alloc: Global, row: Case) -> Option<Watch> {
+        if !self.is_ready() {
+            None
+        } else if row.is_followed {
+            self.is_followed(rt, alloc, row.end)
+        } else {
+            self.keeps(rt, alloc, row)
+        }
     }
 }
 
@@ -345,10 +365,7 @@ fn kept_row<Y: Yard, W: Wait + Drop, R: Wait>(
     requires { (blank.queue ≡ Y.queue 7) × (blank.copy ≡ Y.copy 7) }
 {
     match blank.ends::<Y>(alloc, 7) {
-        Ok(ends) if row.is_followed => {
-            Desk::new(alloc, ends, true).is_followed(rt, alloc, row.end)
-        }
-        Ok(ends) => Desk::new(alloc, ends, true).keeps(rt, alloc, row),
+        Ok(ends) => Desk::new(alloc, ends, true).goes_through(rt, alloc, row),
         Err(_) => None,
     }
 }
@@ -364,97 +381,93 @@ fn kept<R: Wait>(rt: &R, alloc: Global, row: Case) -> Option<Watch> {
 /// The stream ends behind the login, when all orders were given.
 const ORDERED: End = End::Cut(HEAD.len() + AUTH_S.len());
 
-/// What comes before the link that ends, and whether the worker has the answers.
+/// What comes before the link that ends, or behind it.
 #[derive(Clone, Copy)]
-enum Before {
+enum Beside {
     Nothing,
-    /// A link over which the orders were given.
+    /// A link over which the orders were given comes before it.
     Orders,
-    /// A link that comes to the same end.
+    /// A link that comes to the same end comes before it.
     Same,
+    /// A link over which the worker names another session comes behind it.
+    Another,
 }
 
-static CASES: [(Before, bool); 6] = [
-    (Before::Nothing, false),
-    (Before::Nothing, true),
-    (Before::Orders, false),
-    (Before::Orders, true),
-    (Before::Same, false),
-    (Before::Same, true),
+/// What comes before the link that ends, and whether the worker has the answers.
+static CASES: [(Beside, bool); 6] = [
+    (Beside::Nothing, false),
+    (Beside::Nothing, true),
+    (Beside::Orders, false),
+    (Beside::Orders, true),
+    (Beside::Same, false),
+    (Beside::Same, true),
 ];
 
-impl Before {
+impl Beside {
     fn case(self, end: End, is_heard: bool) -> Case {
         Case {
             first: match self {
-                Before::Nothing => None,
-                Before::Orders => Some(ORDERED),
-                Before::Same => Some(end),
+                Beside::Nothing | Beside::Another => None,
+                Beside::Orders => Some(ORDERED),
+                Beside::Same => Some(end),
             },
             end,
             is_heard,
-            is_followed: false,
+            is_followed: matches!(self, Beside::Another),
         }
     }
 }
 
-#[test]
-fn a_session_outlives_a_failing_stream(rt: HostRuntime) -> Result<(), Fail> {
-    for (before, is_heard) in &CASES {
-        let mut has_ended = true;
-        for calls in 0..1000 {
-            if has_ended {
-                let case = before.case(End::Fails(calls), *is_heard);
-                let ended = ended_right(kept(&rt, rt.alloc(), case));
-                assert!(rt; ended.is_some(), "after {calls} calls");
-                has_ended = ended == Some(true);
-            }
+/// Whether all is right at whichever call the stream fails, until it has no call more that could
+/// fail.
+fn outlives_each_call<R: Wait + Abort>(
+    rt: &R,
+    alloc: Global,
+    beside: Beside,
+    is_heard: bool,
+) -> bool {
+    for calls in 0..1000 {
+        let case = beside.case(End::Fails(calls), is_heard);
+        let ended = ended_right(kept(rt, alloc, case));
+        assert!(rt; ended.is_some(), "after {calls} calls");
+        if ended == Some(false) {
+            return true;
         }
-        assert!(rt; !has_ended);
     }
-    Ok(())
+    false
+}
+
+#[test]
+fn a_session_outlives_a_failing_stream(rt: HostRuntime) {
+    for (beside, is_heard) in &CASES {
+        assert!(rt; outlives_each_call(&rt, rt.alloc(), *beside, *is_heard));
+    }
 }
 
 /// All the bytes that the master reads over one link.
 fn most_bytes() -> usize {
     let mut bytes = HEAD.len() + AUTH_S.len();
-    for (_, _, _, response) in &ORDERS {
+    for (_, _, _, response) in orders_from(0) {
         bytes = bytes.saturating_add(response.len());
     }
-    for (request, _) in &REQUESTS {
+    for (request, _) in requests_from(0) {
         bytes = bytes.saturating_add(request.len());
     }
     bytes
 }
 
 #[test]
-fn a_session_outlives_an_end_of_the_stream(rt: HostRuntime) -> Result<(), Fail> {
-    for (before, is_heard) in &CASES {
+fn a_session_outlives_an_end_of_the_stream(rt: HostRuntime) {
+    for (beside, is_heard) in &CASES {
         for bytes in 0..=most_bytes() {
-            let case = before.case(End::Cut(bytes), *is_heard);
+            let case = beside.case(End::Cut(bytes), *is_heard);
             let ended = ended_right(kept(&rt, rt.alloc(), case));
             assert!(rt; ended.is_some(), "after {bytes} bytes");
         }
     }
-    Ok(())
 }
 
 #[test]
-fn another_session_gets_no_order_of_the_first(rt: HostRuntime) -> Result<(), Fail> {
-    let mut has_ended = true;
-    for calls in 0..1000 {
-        if has_ended {
-            let case = Case {
-                first: None,
-                end: End::Fails(calls),
-                is_heard: false,
-                is_followed: true,
-            };
-            let ended = ended_right(kept(&rt, rt.alloc(), case));
-            assert!(rt; ended.is_some(), "after {calls} calls");
-            has_ended = ended == Some(true);
-        }
-    }
-    assert!(rt; !has_ended);
-    Ok(())
+fn another_session_gets_no_order_of_the_first(rt: HostRuntime) {
+    assert!(rt; outlives_each_call(&rt, rt.alloc(), Beside::Another, false));
 }

@@ -8,7 +8,6 @@ use super::{
 use bm_lane::HearRefusal;
 use bm_link::*;
 use bm_session::Refusal;
-use std::test::Fail;
 
 const BEGUN: Answer = Answer::Attached(Attached::New);
 
@@ -20,7 +19,7 @@ const LANE_BUSY: Answer = Answer::Fault(LinkFault::Lane(HearRefusal::Busy));
 
 /// A session that is cut and resumed: its order is sent again, and the numbers go on.
 #[test]
-fn an_order_is_sent_again_to_a_resumed_session(rt: HostRuntime) -> Result<(), Fail> {
+fn an_order_is_sent_again_to_a_resumed_session(rt: HostRuntime) {
     static ROWS: [Row; 15] = [
         Row::Calls(Call::Accept(&[AUTH_S]), Answer::Done),
         Row::Calls(Call::Login, Answer::Place(1)),
@@ -39,13 +38,12 @@ fn an_order_is_sent_again_to_a_resumed_session(rt: HostRuntime) -> Result<(), Fa
         Row::Wrote(&[KEEPALIVE_ONE]),
     ];
     assert!(rt; plays(&rt, rt.alloc(), 8, true, &ROWS));
-    Ok(())
 }
 
 /// A login of another session on a cut lane: it is told `busy` until the lane has room, and then
 /// the first one is given up.
 #[test]
-fn another_session_waits_until_the_first_is_given_up(rt: HostRuntime) -> Result<(), Fail> {
+fn another_session_waits_until_the_first_is_given_up(rt: HostRuntime) {
     static ROWS: [Row; 22] = [
         Row::Calls(Call::Accept(&[AUTH_S]), Answer::Done),
         Row::Calls(Call::Login, Answer::Place(1)),
@@ -71,13 +69,12 @@ fn another_session_waits_until_the_first_is_given_up(rt: HostRuntime) -> Result<
         Row::IsGivenUp,
     ];
     assert!(rt; plays(&rt, rt.alloc(), 1, true, &ROWS));
-    Ok(())
 }
 
 /// A lane whose sessions are not resumed is never cut: each login begins one, and its end takes the
 /// lane down.
 #[test]
-fn a_session_that_is_not_resumed_is_new(rt: HostRuntime) -> Result<(), Fail> {
+fn a_session_that_is_not_resumed_is_new(rt: HostRuntime) {
     static ROWS: [Row; 18] = [
         Row::Calls(Call::Accept(&[AUTH]), Answer::Done),
         Row::Calls(Call::Login, Answer::Place(1)),
@@ -99,5 +96,4 @@ fn a_session_that_is_not_resumed_is_new(rt: HostRuntime) -> Result<(), Fail> {
         Row::IsDown,
     ];
     assert!(rt; plays(&rt, rt.alloc(), 8, false, &ROWS));
-    Ok(())
 }

@@ -1,12 +1,13 @@
 //! What is seen of the calls of a link whose stream comes to an end.
 
+use super::Script;
 use super::desk::{Answer, BAD, CLOSED};
 use bm_link::LinkFault;
 
 /// Where a stream comes to its end.
 #[derive(Clone, Copy)]
 pub(crate) enum End {
-    /// It fails once, behind so many of its calls.
+    /// It gives single bytes after the head, and fails once, behind so many of its calls.
     Fails(u32),
     /// It ends after so many bytes.
     Cut(usize),
@@ -14,6 +15,17 @@ pub(crate) enum End {
     Refused,
     /// It gives all that it has.
     Whole,
+}
+
+impl End {
+    /// The stream is to come to this end.
+    pub fn shapes(self, stream: &mut Script) {
+        match self {
+            End::Fails(calls) => stream.fails_after(calls),
+            End::Cut(bytes) => stream.input.truncate(bytes),
+            End::Refused | End::Whole => {}
+        }
+    }
 }
 
 /// A call of a link, as a script has it.

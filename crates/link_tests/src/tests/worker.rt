@@ -2,6 +2,7 @@
 
 mod failing;
 
+use super::desk::{Answer, BAD, CLOSED, DROPPED, NOTED};
 use super::{
     AGREED, AUTH, AUTH_S, BAD_LOGIN, CLOSE, DONE, NEW, ORDER, RESUMED, Script, TEXT, TRUE,
     script_of,
@@ -13,7 +14,6 @@ use bumpalo::Bump;
 use std::alloc::{AllocError, Global};
 use std::io;
 use std::random::RandomSource;
-use std::test::Fail;
 use tungstenite::RandomKeys;
 
 /// A source of zeros.
@@ -45,7 +45,7 @@ impl Bench {
         Bench::named(alloc, None, messages)
     }
 
-    /// The same of a worker that names this session.
+    /// A worker that names this session, whose link reads these messages after the handshake.
     fn named(alloc: Global, session: Option<&str>, messages: &[&[u8]]) -> Result<Bench, LinkFault> {
         match script_of(alloc, AGREED, messages) {
             Ok(stream) => Bench::over(alloc, session, stream),
@@ -53,7 +53,7 @@ impl Bench {
         }
     }
 
-    /// The same over this stream.
+    /// A worker that names this session, whose link is one over this stream.
     fn over(alloc: Global, session: Option<&str>, stream: Script) -> Result<Bench, LinkFault> {
         match WorkerLink::connect(alloc, Zeros {}, stream, "w0", "p", session) {
             Ok((link, attached)) => Ok(Bench {
@@ -76,20 +76,23 @@ impl Bench {
         self.link.get_ref().output.ends_with(bytes)
     }
 
+    /// The answer to a turn: the number of the command that its order runs, or what else it did.
+    fn turns(&mut self) -> Answer {
+        match self.link.turn(self.alloc, &mut self.arena, &mut self.core) {
+            Ok((Turn::Heard, WorkAct::Run { command, .. })) => Answer::Started(command),
+            Ok((turn, _)) => Answer::Turned(turn),
+            Err(fault) => Answer::Fault(fault),
+        }
+    }
+
     /// A turn whose order runs command 0.
     pub fn runs(&mut self) -> bool {
-        match self.link.turn(self.alloc, &mut self.arena, &mut self.core) {
-            Ok((Turn::Heard, WorkAct::Run { command: 0, .. })) => true,
-            _ => false,
-        }
+        self.turns() == Answer::Started(0)
     }
 
     /// A turn that says that the link is closed.
     fn ends(&mut self) -> bool {
-        match self.link.turn(self.alloc, &mut self.arena, &mut self.core) {
-            Err(LinkFault::Closed) => true,
-            _ => false,
-        }
+        self.turns() == CLOSED
     }
 
     /// The worker says a line of command 0.
@@ -115,7 +118,7 @@ fn refusal(alloc: Global, messages: &[&[u8]]) -> Option<LinkFault> {
 }
 
 #[test]
-fn answers_to_a_login(rt: HostRuntime) -> Result<(), Fail> {
+fn answers_to_a_login(rt: HostRuntime) {
     static ANSWERS: [(&[&[u8]], LinkFault); 5] = [
         (&[BAD_LOGIN], LinkFault::BadLogin),
         (&[TEXT], LinkFault::BadMessage),
@@ -126,7 +129,6 @@ fn answers_to_a_login(rt: HostRuntime) -> Result<(), Fail> {
     for (messages, fault) in &ANSWERS {
         assert!(rt; refusal(rt.alloc(), messages) == Some(*fault), "{fault}");
     }
-    Ok(())
 }
 
 /// Whether a worker that runs an order ends where these messages come last, and was told a close
@@ -155,44 +157,23 @@ impl Bench {
 const CLOSING: &[u8] = b"\x88\x80\0\0\0\0";
 
 #[test]
-fn a_close_frame_is_told(rt: HostRuntime) -> Result<(), Fail> {
+fn a_close_frame_is_told(rt: HostRuntime) {
     assert!(rt; is_closed_by(rt.alloc(), CLOSE, true));
     assert!(rt; is_closed_by(rt.alloc(), b"".as_slice(), false));
-    Ok(())
 }
 
-/// What a turn gives.
-#[derive(Clone, Copy, PartialEq)]
-enum Gives {
-    Turned(Turn),
-    Fault(LinkFault),
-}
-
-const DROPPED: Gives = Gives::Turned(Turn::Dropped);
-
-const BAD: Gives = Gives::Fault(LinkFault::BadMessage);
-
-impl Bench {
-    fn gives(&mut self) -> Gives {
-        match self.link.turn(self.alloc, &mut self.arena, &mut self.core) {
-            Ok((turn, _)) => Gives::Turned(turn),
-            Err(fault) => Gives::Fault(fault),
-        }
-    }
-}
-
-/// What the turn gives that reads these frames.
-fn given(alloc: Global, frames: &[u8]) -> Option<Gives> {
+/// Whether this is what the turn gives that reads these frames.
+fn is_given(alloc: Global, frames: &[u8], gives: Answer) -> bool {
     match Bench::new(alloc, &[TRUE, frames]) {
-        Ok(mut bench) => Some(bench.gives()),
-        Err(_) => None,
+        Ok(mut bench) => bench.turns() == gives,
+        Err(_) => false,
     }
 }
 
 /// Frames of a master, and what the turn gives that reads them.
-static FRAMES: [(&str, &[u8], Gives); 13] = [
-    ("an order", ORDER, Gives::Turned(Turn::Heard)),
-    ("a response", TRUE, Gives::Turned(Turn::Noted)),
+static FRAMES: [(&str, &[u8], Answer); 13] = [
+    ("an order", ORDER, Answer::Started(0)),
+    ("a response", TRUE, NOTED),
     ("a text", b"\x81\x01a", DROPPED),
     ("a ping", b"\x89\x01a", DROPPED),
     ("a pong", b"\x8a\x00", DROPPED),
@@ -211,30 +192,28 @@ static FRAMES: [(&str, &[u8], Gives); 13] = [
 ];
 
 #[test]
-fn frames_give_a_worker_their_turns(rt: HostRuntime) -> Result<(), Fail> {
+fn frames_give_a_worker_their_turns(rt: HostRuntime) {
     for (name, frames, gives) in &FRAMES {
-        assert!(rt; given(rt.alloc(), frames) == Some(*gives), "{name}");
+        assert!(rt; is_given(rt.alloc(), frames, *gives), "{name}");
     }
-    Ok(())
 }
 
-/// How a worker that named the session `s` is answered so.
-fn attached_by(alloc: Global, answer: &[u8]) -> Option<Attached> {
+/// Whether a worker that names the session `s`, and is answered so, logs in as that tells.
+fn is_attached_by(alloc: Global, answer: &[u8], attached: Attached) -> bool {
     match Bench::named(alloc, Some("s"), &[answer]) {
-        Ok(bench) if bench.wrote(AUTH_S) => Some(bench.attached),
-        _ => None,
+        Ok(bench) => bench.wrote(AUTH_S) && bench.attached == attached,
+        Err(_) => false,
     }
 }
 
 #[test]
-fn a_session_is_named(rt: HostRuntime) -> Result<(), Fail> {
+fn a_session_is_named(rt: HostRuntime) {
     static ANSWERS: [(&[u8], Attached); 3] = [
         (NEW, Attached::New),
         (RESUMED, Attached::Resumed),
         (TRUE, Attached::Plain),
     ];
     for (answer, attached) in &ANSWERS {
-        assert!(rt; attached_by(rt.alloc(), answer) == Some(*attached));
+        assert!(rt; is_attached_by(rt.alloc(), answer, *attached));
     }
-    Ok(())
 }

@@ -3,19 +3,19 @@
 
 use super::super::desk::{Answer, CLOSED, HEARD, NOTED};
 use super::super::failing::ended_right;
+use super::super::hostile::payload;
 use super::super::watch::{End, Step, Watch};
 use super::super::{
     AGREED, ANSWER, ANSWER_ONE, ANSWER_THREE, ANSWER_TWO, AUTH_S, CLOSE, DONE, NEW, ORDER,
-    REQUESTS, RESUMED, TRUE, script_of,
+    REQUESTS, RESUMED, Script, TRUE, push_requests, script_of,
 };
 use super::{Bench, Zeros};
 use bm_lines::Letter;
 use bm_link::*;
 use bm_value::Bytes;
-use bm_work::{Finish, Sent, WorkAct, WorkRefusal};
+use bm_work::{Finish, Sent, WorkRefusal};
 use std::alloc::{AllocError, Global};
 use std::process::Abort;
-use std::test::Fail;
 
 /// What a worker does.
 #[derive(Clone, Copy)]
@@ -45,12 +45,53 @@ static ACTS: [(Act, Answer, usize, bool); 9] = [
     (Act::Strays, CLOSED, 0, false),
 ];
 
+/// What a worker heard over a link.
+#[derive(Clone, Copy)]
+struct Heard {
+    /// It heard the order.
+    order: bool,
+    /// How many answers it heard.
+    answers: usize,
+}
+
+impl Heard {
+    const NOTHING: Heard = Heard {
+        order: false,
+        answers: 0,
+    };
+
+    fn note(&mut self, answer: Answer) {
+        match answer {
+            Answer::Started(0) => self.order = true,
+            Answer::Turned(Turn::Noted) => self.answers = self.answers.saturating_add(1),
+            _ => {}
+        }
+    }
+}
+
 /// The session that a worker names, or none, and how its login is answered.
 #[derive(Clone, Copy)]
 struct Login {
     session: Option<&'static str>,
     answer: &'static [u8],
     attached: Attached,
+}
+
+impl Login {
+    /// The handshake and the login, as they are to be answered.
+    fn step(&self) -> Step {
+        Step {
+            right: Answer::Attached(self.attached),
+            bytes: AGREED.len().saturating_add(self.answer.len()),
+            is_late: false,
+        }
+    }
+
+    /// All the bytes that the worker reads over its first link.
+    fn most_bytes(&self) -> usize {
+        let bytes = AGREED.len() + ORDER.len() + ANSWER.len() + ANSWER_ONE.len() + CLOSE.len();
+        bytes.saturating_add(self.answer.len())
+    }
 }
 
 static LOGINS: [Login; 2] = [
@@ -67,14 +108,6 @@ static LOGINS: [Login; 2] = [
 ];
 
 impl Bench {
-    fn turns(&mut self) -> Answer {
-        match self.link.turn(self.alloc, &mut self.arena, &mut self.core) {
-            Ok((Turn::Heard, WorkAct::Run { command, .. })) => Answer::Started(command),
-            Ok((turn, _)) => Answer::Turned(turn),
-            Err(fault) => Answer::Fault(fault),
-        }
-    }
-
     fn sends(&mut self, sent: &Sent) -> Answer {
         match self.link.send(self.alloc, sent) {
             Ok(()) => Answer::Done,
@@ -127,10 +160,9 @@ impl Bench {
         }
     }
 
-    /// What is seen of what the worker does. Nothing that was heard or said is lost from its core.
-    fn watched(&mut self, mut watch: Watch, is_named: bool) -> Watch {
-        let mut has_heard = false;
-        let mut answered = 0usize;
+    /// Sees the answers to what the worker does, and tells what it heard.
+    fn acts(&mut self, watch: &mut Watch, is_named: bool) -> Heard {
+        let mut heard = Heard::NOTHING;
         for (act, right, bytes, is_late) in &ACTS {
             let step = Step {
                 right: *right,
@@ -138,48 +170,43 @@ impl Bench {
                 is_late: *is_late && (is_named || *right == CLOSED),
             };
             let answer = self.does(*act);
-            has_heard |= answer == Answer::Started(0);
-            if answer == NOTED {
-                answered = answered.saturating_add(1);
-            }
+            heard.note(answer);
             watch.see(step, answer, self.link.get_ref().has_failed);
         }
-        watch.is_right &= if has_heard {
-            self.keeps(answered)
+        heard
+    }
+
+    /// Nothing that was heard or said is lost from the core: it has each request without an answer.
+    fn loses_nothing(&self, heard: Heard, is_named: bool) -> bool {
+        if heard.order {
+            self.keeps(heard.answers)
         } else {
             self.keeps(REQUESTS.len()) || (!is_named && self.keeps(0))
-        };
-        if is_named {
-            watch.is_right &= self.resumes(has_heard, answered);
         }
+    }
+
+    /// What is seen of a worker with a link, where its login is to be answered so.
+    fn watched(&mut self, login: &Login, end: End) -> Watch {
+        let is_named = login.session.is_some();
+        let mut watch = Watch::of(end);
+        let answer = Answer::Attached(self.attached);
+        watch.see(login.step(), answer, self.link.get_ref().has_failed);
+        watch.has_link = true;
+        let heard = self.acts(&mut watch, is_named);
+        watch.is_right &= self.loses_nothing(heard, is_named) && (!is_named || self.resumes(heard));
         watch
     }
 
     /// The core has the requests of command 0 from this one on, with their bytes, and no others.
     fn keeps(&self, first: usize) -> bool {
-        let Ok(kept) = self.core.resend() else {
-            return false;
-        };
-        let mut place = first;
-        let mut is_right = true;
-        for sent in &kept {
-            is_right &= match REQUESTS.get(place) {
-                Some((frame, _)) => {
-                    frame.get(6..) == Some(sent.bytes.as_slice()) && sent.seq == place as u64
-                }
-                None => false,
-            };
-            place = place.saturating_add(1);
+        match self.core.resend() {
+            Ok(kept) => are_requests(&kept, first),
+            Err(_) => false,
         }
-        is_right && place == REQUESTS.len()
     }
 
-    /// A second link takes the place of the first: the order comes again, and the four answers.
-    fn connects_again(&mut self) -> bool {
-        let messages: [&[u8]; 6] = [RESUMED, ORDER, ANSWER, ANSWER_ONE, ANSWER_TWO, ANSWER_THREE];
-        let Ok(stream) = script_of(self.alloc, AGREED, &messages) else {
-            return false;
-        };
+    /// A second link takes the place of the first.
+    fn connects_over(&mut self, stream: Script) -> bool {
         match WorkerLink::connect(self.alloc, Zeros {}, stream, "w0", "p", Some("s")) {
             Ok((link, attached)) => {
                 self.link = link;
@@ -189,35 +216,83 @@ impl Bench {
         }
     }
 
-    /// The order is heard, as a repeat if it was heard before. Then all that has no answer is said,
-    /// and sent with the same bytes as ever.
-    fn says_again(&mut self, has_heard: bool) -> bool {
-        if !has_heard {
-            return self.turns() == Answer::Started(0)
-                && self.does(Act::SaysFirst) == Answer::Done
-                && self.does(Act::SaysSecond) == Answer::Done
-                && self.does(Act::Ends) == Answer::Done;
-        }
-        let is_repeat = self.turns() == HEARD;
-        match self.core.resend() {
-            Ok(kept) => is_repeat && self.sends_all(kept.as_slice()) == Answer::Done,
+    /// A second link takes the place of the first: the order comes again, and the four answers.
+    fn connects_again(&mut self) -> bool {
+        match script_of(self.alloc, AGREED, &SECOND) {
+            Ok(stream) => self.connects_over(stream),
             Err(_) => false,
         }
     }
 
-    /// The session goes on over a second link: nothing was lost, and nothing is without an answer
-    /// in the end.
-    fn resumes(&mut self, has_heard: bool, answered: usize) -> bool {
-        let mut is_right = self.connects_again() && self.says_again(has_heard);
-        let wrote = match said_from(self.alloc, if has_heard { answered } else { 0 }) {
-            Ok(wrote) => self.wrote(&wrote),
+    /// All that has no answer is sent with the same bytes as ever.
+    fn sends_kept(&mut self) -> bool {
+        match self.core.resend() {
+            Ok(kept) => self.sends_all(kept.as_slice()) == Answer::Done,
             Err(_) => false,
-        };
+        }
+    }
+
+    /// The order is heard, as a repeat if it was heard before. Then all that has no answer is said,
+    /// and sent with the same bytes as ever.
+    fn says_again(&mut self, has_heard: bool) -> bool {
+        if has_heard {
+            self.turns() == HEARD && self.sends_kept()
+        } else {
+            self.turns() == Answer::Started(0)
+                && self.does(Act::SaysFirst) == Answer::Done
+                && self.does(Act::SaysSecond) == Answer::Done
+                && self.does(Act::Ends) == Answer::Done
+        }
+    }
+
+    /// This is the last that was written: a login, and the requests from this one on.
+    fn has_said_from(&self, first: usize) -> bool {
+        match said_from(self.alloc, first) {
+            Ok(said) => self.wrote(&said),
+            Err(_) => false,
+        }
+    }
+
+    /// Each of the four turns hears an answer.
+    fn hears_answers(&mut self) -> bool {
+        let mut is_right = true;
         for _ in 0..REQUESTS.len() {
             is_right &= self.turns() == NOTED;
         }
-        is_right && wrote && self.keeps(REQUESTS.len())
+        is_right
     }
+
+    /// The session goes on over a second link: nothing was lost, and nothing is without an answer
+    /// in the end.
+    fn resumes(&mut self, heard: Heard) -> bool {
+        let first = if heard.order { heard.answers } else { 0 };
+        self.connects_again()
+            && self.says_again(heard.order)
+            && self.has_said_from(first)
+            && self.hears_answers()
+            && self.keeps(REQUESTS.len())
+    }
+}
+
+/// What the second link reads behind its handshake.
+static SECOND: [&[u8]; 6] = [RESUMED, ORDER, ANSWER, ANSWER_ONE, ANSWER_TWO, ANSWER_THREE];
+
+fn is_request(sent: &Sent, place: usize) -> bool {
+    match REQUESTS.get(place) {
+        Some((frame, _)) => { payload(frame) == sent.bytes.as_slice() && sent.seq == place as u64 }
+        None => false,
+    }
+}
+
+/// Whether these are the requests of command 0 from this one on, and no others.
+fn are_requests(kept: &[Sent], first: usize) -> bool {
+    let mut place = first;
+    let mut is_right = true;
+    for sent in kept {
+        is_right &= is_request(sent, place);
+        place = place.saturating_add(1);
+    }
+    is_right && place == REQUESTS.len()
 }
 
 /// What a worker writes over its second link behind the handshake, where this is the first request
@@ -225,75 +300,60 @@ impl Bench {
 fn said_from(alloc: Global, first: usize) -> Result<Vec<u8>, AllocError> {
     let mut said = AUTH_S.to_vec(alloc)?;
     said.extend_from_slice(DONE)?;
-    for (n, (request, _)) in REQUESTS.iter().enumerate() {
-        if n >= first {
-            said.extend_from_slice(request)?;
-        }
-    }
+    push_requests(&mut said, first)?;
     Ok(said)
 }
 
-/// What is seen of a worker that logs in so, over a stream that comes to this end.
-fn seen(alloc: Global, login: Login, end: End) -> Option<Watch> {
-    let messages = [login.answer, ORDER, ANSWER, ANSWER_ONE, CLOSE];
-    let Ok(mut stream) = script_of(alloc, AGREED, &messages) else {
-        return None;
-    };
-    match end {
-        End::Fails(calls) => stream.fails_after(calls),
-        End::Cut(bytes) => stream.input.truncate(bytes),
-        End::Refused | End::Whole => {}
-    }
-    let step = Step {
-        right: Answer::Attached(login.attached),
-        bytes: AGREED.len().saturating_add(login.answer.len()),
-        is_late: false,
-    };
-    let mut watch = Watch::of(end);
+fn seen_over(alloc: Global, login: &Login, end: End, stream: Script) -> Watch {
     match Bench::over(alloc, login.session, stream) {
-        Ok(mut bench) => {
-            let has_failed = bench.link.get_ref().has_failed;
-            watch.see(step, Answer::Attached(bench.attached), has_failed);
-            watch.has_link = true;
-            Some(bench.watched(watch, login.session.is_some()))
-        }
+        Ok(mut bench) => bench.watched(login, end),
         Err(fault) => {
-            watch.see(step, Answer::Fault(fault), true);
-            Some(watch)
+            let mut watch = Watch::of(end);
+            watch.see(login.step(), Answer::Fault(fault), true);
+            watch
         }
     }
 }
 
-#[test]
-fn a_worker_loses_nothing_by_a_failing_stream(rt: HostRuntime) -> Result<(), Fail> {
-    for login in &LOGINS {
-        let mut has_ended = true;
-        for calls in 0..1000 {
-            if has_ended {
-                let ended = ended_right(seen(rt.alloc(), *login, End::Fails(calls)));
-                assert!(rt; ended.is_some(), "after {calls} calls");
-                has_ended = ended == Some(true);
-            }
+/// What is seen of a worker that logs in so, over a stream that comes to this end.
+fn seen(alloc: Global, login: &Login, end: End) -> Option<Watch> {
+    let messages = [login.answer, ORDER, ANSWER, ANSWER_ONE, CLOSE];
+    match script_of(alloc, AGREED, &messages) {
+        Ok(mut stream) => {
+            end.shapes(&mut stream);
+            Some(seen_over(alloc, login, end, stream))
         }
-        assert!(rt; !has_ended);
+        Err(_) => None,
     }
-    Ok(())
 }
 
-/// All the bytes that the worker reads over its first link, where its login has this answer.
-fn most_bytes(login: Login) -> usize {
-    let bytes = AGREED.len() + ORDER.len() + ANSWER.len() + ANSWER_ONE.len() + CLOSE.len();
-    bytes.saturating_add(login.answer.len())
+/// Whether nothing is lost at whichever call the stream fails, until it has no call more that could
+/// fail.
+fn loses_nothing_at_each_call(rt: &impl Abort, alloc: Global, login: &Login) -> bool {
+    for calls in 0..1000 {
+        let ended = ended_right(seen(alloc, login, End::Fails(calls)));
+        assert!(rt; ended.is_some(), "after {calls} calls");
+        if ended == Some(false) {
+            return true;
+        }
+    }
+    false
 }
 
 #[test]
-fn a_worker_loses_nothing_by_an_end_of_the_stream(rt: HostRuntime) -> Result<(), Fail> {
+fn a_worker_loses_nothing_by_a_failing_stream(rt: HostRuntime) {
     for login in &LOGINS {
-        for bytes in 0..=most_bytes(*login) {
-            let ended = ended_right(seen(rt.alloc(), *login, End::Cut(bytes)));
-            let is_whole = bytes == most_bytes(*login);
+        assert!(rt; loses_nothing_at_each_call(&rt, rt.alloc(), login));
+    }
+}
+
+#[test]
+fn a_worker_loses_nothing_by_an_end_of_the_stream(rt: HostRuntime) {
+    for login in &LOGINS {
+        for bytes in 0..=login.most_bytes() {
+            let ended = ended_right(seen(rt.alloc(), login, End::Cut(bytes)));
+            let is_whole = bytes == login.most_bytes();
             assert!(rt; ended == Some(!is_whole), "after {bytes} bytes");
         }
     }
-    Ok(())
 }
