@@ -12,7 +12,7 @@ use std::sync::Wait;
 use std::test::Fail;
 
 /// How often a call is made where one request for memory is refused.
-const CALLS: u32 = 2;
+pub const CALLS: u32 = 2;
 
 /// Whether there are two doors, each with its inbox.
 fn are_two(doors: &Doors<TcpStream>) -> bool {

@@ -9,3 +9,5 @@
 mod ends;
 #[cfg(test)]
 mod lists;
+#[cfg(test)]
+mod settling;
