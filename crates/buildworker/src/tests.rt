@@ -20,24 +20,33 @@ use std::thread;
 use std::thread::Threads;
 use std::time::{Clock, Duration};
 
+/// Whether small messages leave the stream at once, and a read of it waits so many milliseconds at
+/// the most.
+fn is_set(stream: &TcpStream, wait: u64) -> bool {
+    stream.set_nodelay(true).is_ok()
+        && stream
+            .set_read_timeout(Some(Duration::from_millis(wait)))
+            .is_ok()
+}
+
 /// A connection with the address. Small messages leave at once, and a read waits for 5 ms.
 fn dial<R: Net<Stream = TcpStream>>(rt: &R, address: SocketAddr) -> Option<TcpStream> {
     let stream = TcpStream::connect(rt, address).ok()?;
-    stream.set_nodelay(true).ok()?;
-    stream
-        .set_read_timeout(Some(Duration::from_millis(5)))
-        .ok()?;
-    Some(stream)
+    if is_set(&stream, 5) {
+        Some(stream)
+    } else {
+        None
+    }
 }
 
 /// The master's end of a stream, whose reads wait for 20 seconds at the most.
 fn waiting(alloc: Global, stream: TcpStream) -> Option<Patient<TcpStream>> {
-    let wait = Duration::from_millis(20_000);
-    if stream.set_nodelay(true).is_err() || stream.set_read_timeout(Some(wait)).is_err() {
-        return None;
-    }
     let is_patient = Arc::new(alloc, AtomicBool::new(false)).ok()?;
-    Some(Patient::new(stream, is_patient))
+    if is_set(&stream, 20_000) {
+        Some(Patient::new(stream, is_patient))
+    } else {
+        None
+    }
 }
 
 /// What became of the script, played to the worker that connects next.

@@ -1,7 +1,7 @@
 //! The worker against a master's link and its lane, through cuts of its connections.
 ghost use Rattle.std.specs.Prelude.{◌≡◌};
 
-use super::cut::Cut;
+use super::cut::{Cut, Unit};
 use super::{dial, waiting};
 use crate::patient::Patient;
 use crate::run::work_run;
@@ -48,28 +48,30 @@ impl Task {
     }
 }
 
-/// How many bytes go over a connection that isn't cut.
+/// After how much a connection is cut that isn't cut.
 const UNCUT: usize = usize::MAX;
 
 /// How many connections are cut near their beginnings, and how many after them further on.
 const IN_A_ROW: usize = 4;
 
-/// After how many bytes the first connections of a worker are cut: one after the other a byte
+/// After how many bytes or calls the first connections of a worker are cut: one after the other one
 /// later, from each of two places.
 #[derive(Clone, Copy)]
 struct Cuts {
+    unit: Unit,
     early: usize,
     late: usize,
 }
 
 /// No connection is cut.
 const NO_CUTS: Cuts = Cuts {
+    unit: Unit::Byte,
     early: UNCUT,
     late: UNCUT,
 };
 
 impl Cuts {
-    /// How many bytes go over a connection, after so many others.
+    /// After how much a connection is cut, behind so many others.
     fn left(self, made: usize) -> usize {
         if made < IN_A_ROW {
             self.early.saturating_add(made)
@@ -129,11 +131,14 @@ impl<Y: Yard, W: Wait + Drop> Desk<Y, W> {
 
     /// From now on it knows the worker, and starts this line of a shell.
     fn is_ready(&mut self, line: &str) -> bool {
-        let is_known = match user_of(self.alloc) {
+        self.knows() && self.orders("sh") && self.orders("-c") && self.orders(line)
+    }
+
+    fn knows(&mut self) -> bool {
+        match user_of(self.alloc) {
             Ok(user) => self.users.push(user).is_ok(),
             Err(_) => false,
-        };
-        is_known && self.orders("sh") && self.orders("-c") && self.orders(line)
+        }
     }
 
     fn orders(&mut self, word: &str) -> bool {
@@ -165,7 +170,11 @@ impl<Y: Yard, W: Wait + Drop> Desk<Y, W> {
     /// Whether the command has ended, and its worker left, by the end of a connection.
     fn serves<R: Wait>(&mut self, rt: &R, stream: TcpStream) -> bool {
         match link_over(self.alloc, stream) {
-            Some(mut link) => self.serves_over(rt, &mut link),
+            Some(mut link) => {
+                let is_served = self.serves_over(rt, &mut link);
+                drop(link);
+                is_served
+            }
             None => false,
         }
     }
@@ -196,15 +205,7 @@ impl<Y: Yard, W: Wait + Drop> Desk<Y, W> {
             if !self.turns(rt, arena, link) {
                 break;
             }
-            if !is_told && self.is_ended() {
-                if link
-                    .ask(self.alloc, &mut self.carry, Ask::Shutdown)
-                    .is_err()
-                {
-                    return false;
-                }
-                is_told = true;
-            }
+            is_told = is_told || self.is_ended() && self.asks(link);
         }
         is_told
     }
@@ -214,6 +215,11 @@ impl<Y: Yard, W: Wait + Drop> Desk<Y, W> {
         link.turn(rt, self.alloc, arena, reader, carry).is_ok()
     }
 
+    /// Whether the worker was asked to leave.
+    fn asks(&mut self, link: &mut Link) -> bool {
+        link.ask(self.alloc, &mut self.carry, Ask::Shutdown).is_ok()
+    }
+
     /// Whether the command has ended, once all that was heard is shown.
     fn is_ended(&mut self) -> bool {
         for _ in 0..CAPACITY {
@@ -221,23 +227,26 @@ impl<Y: Yard, W: Wait + Drop> Desk<Y, W> {
                 break;
             }
         }
-        match self.ends.viewers.first_mut() {
-            Some(viewer) => match viewer.state(0, STDIO) {
-                Ok(state) => state.ended.is_some(),
-                Err(_) => false,
-            },
-            None => false,
+        self.ended().is_some()
+    }
+
+    /// How the command has ended, by what is shown.
+    fn ended(&mut self) -> Option<Results> {
+        match self.ends.viewers.first_mut()?.state(0, STDIO) {
+            Ok(state) => state.ended,
+            Err(_) => None,
         }
     }
 
     fn log(&mut self) -> Option<Log> {
-        let viewer = self.ends.viewers.first_mut()?;
-        let ended = viewer.state(0, STDIO).ok()?.ended;
-        let chunk = viewer.chunk(0, STDIO, 0, u64::MAX).ok()?;
-        Some(Log {
-            content: chunk.content,
-            ended,
-        })
+        let ended = self.ended();
+        match self.ends.viewers.first_mut()?.chunk(0, STDIO, 0, u64::MAX) {
+            Ok(chunk) => Some(Log {
+                content: chunk.content,
+                ended,
+            }),
+            Err(_) => None,
+        }
     }
 }
 
@@ -263,7 +272,7 @@ where
             let left = cuts.left(made);
             made = made.saturating_add(1);
             match dial(&rt, address) {
-                Some(stream) => Some(Cut::new(stream, left)),
+                Some(stream) => Some(Cut::new(stream, cuts.unit, left)),
                 None => None,
             }
         };
@@ -299,7 +308,7 @@ where
 /// What the lane of a new desk has of a command of a worker whose first connections are cut so.
 fn log_at<Y: Yard, W: Wait + Drop, R>(
     rt: R,
-    desk: &mut Desk<Y, W>,
+    mut desk: Desk<Y, W>,
     task: Task,
     cuts: Cuts,
 ) -> Option<Log>
@@ -317,11 +326,10 @@ where
         + Sync
         + 'static,
 {
-    if desk.is_ready(task.line()) && has_served(rt, desk, cuts) == Some(true) {
-        desk.log()
-    } else {
-        None
-    }
+    let is_served = desk.is_ready(task.line()) && has_served(rt, &mut desk, cuts) == Some(true);
+    let log = if is_served { desk.log() } else { None };
+    drop(desk);
+    log
 }
 
 /// What a lane has of a command of a worker whose first connections are cut so.
@@ -346,10 +354,8 @@ where
         + 'static,
     requires { (blank.queue ≡ Y.queue 0) × (blank.copy ≡ Y.copy 0) }
 {
-    match blank.ends::<Y>(rt.alloc(), 0) {
-        Ok(ends) => log_at(rt, &mut Desk::new(rt.alloc(), ends), task, cuts),
-        Err(_) => None,
-    }
+    let ends = blank.ends::<Y>(rt.alloc(), 0).ok()?;
+    log_at(rt, Desk::new(rt.alloc(), ends), task, cuts)
 }
 
 /// What a new lane has of a command of a worker whose first connections are cut so.
@@ -407,10 +413,24 @@ fn is_once(log: Option<Log>) -> bool {
 fn each_line_comes_once_through_cuts(rt: HostRuntime) {
     // At each of a connection's first 200 bytes, which are its handshake, and at as many about its
     // login and behind it.
+    let unit = Unit::Byte;
     for run in 0..50usize {
         let early = IN_A_ROW * run;
         let late = 400 + early;
-        let log = log_of(rt, Task::Count, Cuts { early, late });
+        let log = log_of(rt, Task::Count, Cuts { unit, early, late });
         assert!(rt; is_once(log), "at byte {early}");
+    }
+}
+
+#[test]
+fn each_line_comes_once_through_failing_calls(rt: HostRuntime) {
+    // At each of a connection's first 80 calls, of which the handshake and the login have a dozen,
+    // and the command's updates less than the rest.
+    let unit = Unit::Call;
+    for run in 0..10usize {
+        let early = IN_A_ROW * run;
+        let late = 40 + early;
+        let log = log_of(rt, Task::Count, Cuts { unit, early, late });
+        assert!(rt; is_once(log), "at call {early}");
     }
 }

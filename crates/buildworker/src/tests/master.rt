@@ -15,6 +15,9 @@ use tungstenite::{Message as Frame, NoMask, WebSocket};
 /// The most messages that a script waits for.
 const MOST_MESSAGES: u32 = 10_000;
 
+/// The most orders of a script.
+const MOST_ORDERS: u64 = 1_000;
+
 /// How the login is answered: true to request 0.
 const TRUE: &[u8] = b"\x83\xaaseq_number\0\xa2op\xa8response\xa6result\xc3";
 
@@ -63,11 +66,9 @@ impl Master {
 
     fn log_in(&mut self) -> Option<()> {
         let message = self.read()?;
-        if is_login(&message) {
-            self.send(TRUE)
-        } else {
-            None
-        }
+        let is_login = is_login(&message);
+        drop(message);
+        if is_login { self.send(TRUE) } else { None }
     }
 
     fn send(&mut self, bytes: &[u8]) -> Option<()> {
@@ -76,27 +77,22 @@ impl Master {
     }
 
     fn read(&mut self) -> Option<Message> {
-        let alloc = self.alloc;
-        match self.socket.read() {
-            Ok(Frame::Binary(bytes)) => {
-                let tree = decode_whole(alloc, bytes.as_slice()).ok()?;
-                read(alloc, &tree).ok()
-            }
+        match self.socket.read().ok()? {
+            Frame::Binary(bytes) => message_of(self.alloc, bytes.as_slice()),
             _ => None,
         }
     }
 
     /// Orders what the request asks.
     fn order(&mut self, request: Request) -> Option<()> {
-        let seq = self.orders;
-        if seq >= 1_000 {
-            return None;
-        }
+        let seq = MOST_ORDERS.min(self.orders);
         self.orders = seq + 1;
         let order = Numbered { seq, request };
-        match write_request(self.alloc, &order) {
-            Ok(bytes) => self.send(bytes.as_slice()),
-            Err(_) => None,
+        let bytes = write_request(self.alloc, &order);
+        drop(order);
+        match bytes {
+            Ok(bytes) if seq < MOST_ORDERS => self.send(bytes.as_slice()),
+            _ => None,
         }
     }
 
@@ -150,10 +146,10 @@ impl Master {
 
     /// Hears a message, and tells the number of a request, which isn't answered yet.
     pub fn hear_only(&mut self) -> Option<Option<u64>> {
-        match self.read() {
-            Some(message) => self.note(&message),
-            None => None,
-        }
+        let message = self.read()?;
+        let noted = self.note(&message);
+        drop(message);
+        noted
     }
 
     /// Keeps what a message tells, and tells the number of a request.
@@ -249,24 +245,27 @@ impl Master {
     }
 }
 
+fn message_of(alloc: Global, bytes: &[u8]) -> Option<Message> {
+    match decode_whole(alloc, bytes) {
+        Ok(tree) => read(alloc, &tree).ok(),
+        Err(_) => None,
+    }
+}
+
 /// The words of a command that is one word.
 fn words_of(alloc: Global, word: &str) -> Option<Value<Global>> {
     let word = Value::from_str(alloc, word).ok()?;
     let mut vec = Vec::new(alloc);
-    match vec.push(word) {
-        Ok(()) => Some(Value::Array(Items { vec })),
-        Err(_) => None,
-    }
+    vec.push(word).ok()?;
+    Some(Value::Array(Items { vec }))
 }
 
 /// The arguments of a command that is this value.
 fn args_of(alloc: Global, value: Value<Global>) -> Option<Value<Global>> {
     let key = Value::from_str(alloc, "command").ok()?;
     let mut vec = Vec::new(alloc);
-    match vec.push(Pair { key, value }) {
-        Ok(()) => Some(Value::Map(Pairs { vec })),
-        Err(_) => None,
-    }
+    vec.push(Pair { key, value }).ok()?;
+    Some(Value::Map(Pairs { vec }))
 }
 
 fn is_login(message: &Message) -> bool {

@@ -40,11 +40,20 @@ fn session_again<R: RandomSource + AllocGlobal>(rt: &R) -> Option<String> {
     }
 }
 
+/// Whether this is a session's name: 32 hex digits.
+fn is_name(session: &str) -> bool {
+    for digit in session.as_bytes() {
+        if !digit.is_ascii_hexdigit() {
+            return false;
+        }
+    }
+    session.len() == 32
+}
+
 #[test]
 fn refused_session_is_named_again(rt: HostRuntime) -> Result<(), Fail> {
     let session = session_again(&rt).ok_or("no session")?;
-    let digits = session.as_str().as_bytes();
-    assert!(rt; digits.len() == 32 && digits.iter().all(|digit| digit.is_ascii_hexdigit()));
+    assert!(rt; is_name(session.as_str()));
     Ok(())
 }
 
@@ -63,22 +72,26 @@ enum Outcome {
     Wrongly,
 }
 
-/// What was told, after the texts up to this place.
-fn outcome_after<R: Wait>(rt: &R, pieces: &Receiver<Piece>) -> Outcome {
-    let mut texts = TEXTS.iter();
-    for _ in 0..=TEXTS.len() {
-        let Ok(piece) = pieces.try_recv(rt) else {
-            return Outcome::Wrongly;
+/// How a pipe was told to its end by this piece, after so many of its texts. None where the piece is
+/// the next of them.
+fn outcome_by(piece: &Piece, told: usize) -> Option<Outcome> {
+    match &piece.part {
+        Part::Text(said) if TEXTS.get(told) == Some(&said.text.as_str()) => None,
+        Part::End if told == TEXTS.len() => Some(Outcome::Ended),
+        Part::NoMemory => Some(Outcome::NoMemory),
+        _ => Some(Outcome::Wrongly),
+    }
+}
+
+/// How a pipe was told by these pieces.
+fn outcome_of<R: Wait>(rt: &R, pieces: &Receiver<Piece>) -> Outcome {
+    for told in 0..=TEXTS.len() {
+        let outcome = match pieces.try_recv(rt) {
+            Ok(piece) => outcome_by(&piece, told),
+            Err(_) => Some(Outcome::Wrongly),
         };
-        match piece.part {
-            Part::Text(said) => {
-                if texts.next() != Some(&said.text.as_str()) {
-                    return Outcome::Wrongly;
-                }
-            }
-            Part::End if texts.next().is_none() => return Outcome::Ended,
-            Part::NoMemory => return Outcome::NoMemory,
-            Part::End => return Outcome::Wrongly,
+        if let Some(outcome) = outcome {
+            return outcome;
         }
     }
     Outcome::Wrongly
@@ -93,7 +106,7 @@ fn pumped<R: Wait>(rt: &R, alloc: Global) -> Option<Outcome> {
         owner,
     };
     pump.run(rt, alloc, BYTES, &AtomicBool::new(false));
-    let outcome = outcome_after(rt, &pieces);
+    let outcome = outcome_of(rt, &pieces);
     if pieces.try_recv(rt).is_ok() {
         return Some(Outcome::Wrongly);
     }

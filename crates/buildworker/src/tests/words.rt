@@ -3,39 +3,42 @@
 use crate::arguments::read_job;
 use std::alloc::{AllocError, Global};
 
-/// Whether the words ask for work.
-fn asks(alloc: Global, words: &[&str]) -> Result<bool, AllocError> {
+fn words_of(alloc: Global, words: &[&str]) -> Result<Vec<String>, AllocError> {
     let mut all = Vec::new(alloc);
     for word in words {
         all.push(String::from_str(alloc, word)?)?;
     }
-    Ok(read_job(all.as_slice()).is_some())
+    Ok(all)
 }
 
-const TAKEN: [&str; 4] = ["host:1", "127.0.0.1:65535", "[::1]:080", "a:b:9"];
+/// Whether it is as wanted whether the words ask for work.
+fn asks(alloc: Global, words: &[&str], want: bool) -> bool {
+    match words_of(alloc, words) {
+        Ok(words) => read_job(words.as_slice()).is_some() == want,
+        Err(_) => false,
+    }
+}
 
-const REFUSED: [&str; 7] = [
-    "host",
-    "host:",
-    "host:0",
-    "host:65536",
-    "host:+1",
-    "host:x",
-    "host: 1",
+/// Words for an address, and whether they are one.
+static ADDRESSES: [(&str, bool); 11] = [
+    ("host:1", true),
+    ("127.0.0.1:65535", true),
+    ("[::1]:080", true),
+    ("a:b:9", true),
+    ("host", false),
+    ("host:", false),
+    ("host:0", false),
+    ("host:65536", false),
+    ("host:+1", false),
+    ("host:x", false),
+    ("host: 1", false),
 ];
 
 #[test]
 fn addresses_are_read(rt: HostRuntime) {
-    let alloc = rt.alloc();
-    for address in &TAKEN {
+    for (address, want) in &ADDRESSES {
         assert!(rt;
-            asks(alloc, &["buildworker", *address, "w0", "p"]) == Ok(true),
-            "{address}"
-        );
-    }
-    for address in &REFUSED {
-        assert!(rt;
-            asks(alloc, &["buildworker", *address, "w0", "p"]) == Ok(false),
+            asks(rt.alloc(), &["buildworker", *address, "w0", "p"], *want),
             "{address}"
         );
     }
@@ -44,7 +47,9 @@ fn addresses_are_read(rt: HostRuntime) {
 #[test]
 fn three_words_are_wanted(rt: HostRuntime) {
     let alloc = rt.alloc();
-    assert!(rt; asks(alloc, &["buildworker"]) == Ok(false));
-    assert!(rt; asks(alloc, &["buildworker", "host:1", "w0"]) == Ok(false));
-    assert!(rt; asks(alloc, &["buildworker", "host:1", "w0", "p", "x"]) == Ok(false));
+    assert!(rt;
+        asks(alloc, &["buildworker"], false)
+            && asks(alloc, &["buildworker", "host:1", "w0"], false)
+            && asks(alloc, &["buildworker", "host:1", "w0", "p", "x"], false)
+    );
 }
