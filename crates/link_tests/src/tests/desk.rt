@@ -2,10 +2,12 @@
 ghost use Rattle.std.specs.Prelude.{◌≡◌, ◌<◌, ◌≤◌};
 
 use super::both::worker_stream;
+use super::hostile::Came;
 use super::lengths::Long;
-use super::watch::End;
+use super::resumed::Case;
+use super::watch::{End, Watch};
 use super::{AGREED, AUTH, HEAD, Script, joined, script_of};
-use bm_lane::{Blank, Drained, Ends, Yard, open};
+use bm_lane::{Blank, Drained, Ends, ReaderEnd, Viewer, Yard, open};
 use bm_lines::Text;
 use bm_link::*;
 use bm_session::{Body, Event, Results};
@@ -109,17 +111,16 @@ pub(crate) enum Row {
     IsGivenUp,
 }
 
-/// A lane, a link of it and one that is set aside, and all that their calls are given.
+/// A link of a lane and one that is set aside, and all that their calls are given but the lane.
 #[derive(Drop)]
-pub(crate) struct Desk<Y: Yard, W: Wait + Drop> {
+pub(crate) struct Links {
     alloc: Global,
-    ends: Ends<Y, W>,
     carry: Carry,
     arena: Bump,
     users: Vec<User>,
     argv: Vec<Text>,
     /// The end that the stream of a link comes to.
-    end: End,
+    pub end: End,
     link: Option<MasterLink<Script>>,
     aside: Option<MasterLink<Script>>,
 }
@@ -131,12 +132,11 @@ fn user_of(alloc: Global, name: &str, password: &str) -> Result<User, AllocError
     })
 }
 
-impl<Y: Yard, W: Wait + Drop> Desk<Y, W> {
-    /// A lane without a link. No user is known, and there is no command to start.
-    pub fn new(alloc: Global, ends: Ends<Y, W>, resumable: bool) -> Desk<Y, W> {
-        Desk {
+impl Links {
+    /// No user is known, and there is no command to start.
+    fn new(alloc: Global, resumable: bool) -> Links {
+        Links {
             alloc,
-            ends,
             carry: Carry::new(alloc, resumable),
             arena: Bump::new(alloc),
             users: Vec::new(alloc),
@@ -147,8 +147,8 @@ impl<Y: Yard, W: Wait + Drop> Desk<Y, W> {
         }
     }
 
-    /// From now on it knows the user `w0` with the password `p`, and starts the command `true`.
-    pub fn is_ready(&mut self) -> bool {
+    /// From now on the user `w0` with the password `p` is known, and the command is `true`.
+    pub fn are_ready(&mut self) -> bool {
         self.orders("true") && self.knows("w0", "p")
     }
 
@@ -171,25 +171,20 @@ impl<Y: Yard, W: Wait + Drop> Desk<Y, W> {
         }
     }
 
-    /// From now on a link's stream comes to this end.
-    pub fn ends_so(&mut self, end: End) {
-        self.end = end;
-    }
-
-    /// A link over this stream takes the place of the one before.
+    /// The link before is let go, and one over this stream takes its place where it is accepted.
     fn accept(&mut self, stream: Script) -> Answer {
-        match MasterLink::accept(self.alloc, stream) {
-            Ok(link) => {
-                self.link = Some(link);
-                Answer::Done
-            }
-            Err(fault) => Answer::Fault(fault),
-        }
+        let accepted = MasterLink::accept(self.alloc, stream);
+        let answer = match &accepted {
+            Ok(_) => Answer::Done,
+            Err(fault) => Answer::Fault(*fault),
+        };
+        self.link = accepted.ok();
+        answer
     }
 
     /// A link over a stream that gives the head in pieces of so many bytes, and then these
     /// messages, takes the place of the one before.
-    fn accept_from(&mut self, messages: &[&[u8]], piece: usize) -> Answer {
+    pub fn accept_from(&mut self, messages: &[&[u8]], piece: usize) -> Answer {
         match script_of(self.alloc, HEAD, messages) {
             Ok(mut stream) => {
                 stream.piece = piece;
@@ -198,13 +193,6 @@ impl<Y: Yard, W: Wait + Drop> Desk<Y, W> {
             }
             Err(_) => Answer::Nothing,
         }
-    }
-
-    /// The link before is let go, and one takes its place over a stream that gives these bytes
-    /// after the head.
-    pub fn accepts(&mut self, said: &[u8]) -> Answer {
-        self.link = None;
-        self.accept_from(&[said], usize::MAX)
     }
 
     /// A link over a stream that gives a head of these pieces takes the place of the one before.
@@ -245,49 +233,42 @@ impl<Y: Yard, W: Wait + Drop> Desk<Y, W> {
         }
     }
 
-    fn attach<R: Wait>(&mut self, rt: &R) -> Answer {
+    fn attach<Y: Yard, R: Wait>(&mut self, rt: &R, reader: &mut ReaderEnd<Y>) -> Answer {
         let Some(link) = &mut self.link else {
             return Answer::Nothing;
         };
-        match link.attach(rt, self.alloc, &mut self.ends.reader, &mut self.carry) {
+        match link.attach(rt, self.alloc, reader, &mut self.carry) {
             Ok(attached) => Answer::Attached(attached),
             Err(fault) => Answer::Fault(fault),
         }
     }
 
-    fn turn<R: Wait>(&mut self, rt: &R) -> Answer {
+    fn turn<Y: Yard, R: Wait>(&mut self, rt: &R, reader: &mut ReaderEnd<Y>) -> Answer {
         let Some(link) = &mut self.link else {
             return Answer::Nothing;
         };
-        let reader = &mut self.ends.reader;
         match link.turn(rt, self.alloc, &mut self.arena, reader, &mut self.carry) {
             Ok(turn) => Answer::Turned(turn),
             Err(fault) => Answer::Fault(fault),
         }
     }
 
-    fn start<R: Wait>(&mut self, rt: &R) -> Answer {
+    fn start<Y: Yard, R: Wait>(&mut self, rt: &R, reader: &mut ReaderEnd<Y>) -> Answer {
         let Some(link) = &mut self.link else {
             return Answer::Nothing;
         };
-        let reader = &mut self.ends.reader;
-        match link.start(
-            rt,
-            self.alloc,
-            reader,
-            &mut self.carry,
-            self.argv.as_slice(),
-        ) {
+        let argv = self.argv.as_slice();
+        match link.start(rt, self.alloc, reader, &mut self.carry, argv) {
             Ok(command) => Answer::Started(command),
             Err(fault) => Answer::Fault(fault),
         }
     }
 
-    fn interrupt<R: Wait>(&mut self, rt: &R) -> Answer {
+    fn interrupt<Y: Yard, R: Wait>(&mut self, rt: &R, reader: &mut ReaderEnd<Y>) -> Answer {
         let Some(link) = &mut self.link else {
             return Answer::Nothing;
         };
-        match link.interrupt(rt, self.alloc, &mut self.ends.reader, &mut self.carry, 0) {
+        match link.interrupt(rt, self.alloc, reader, &mut self.carry, 0) {
             Ok(()) => Answer::Done,
             Err(fault) => Answer::Fault(fault),
         }
@@ -304,7 +285,12 @@ impl<Y: Yard, W: Wait + Drop> Desk<Y, W> {
     }
 
     /// The answer to a call.
-    pub fn call<R: Wait>(&mut self, rt: &R, call: Call) -> Answer {
+    pub fn call<Y: Yard, R: Wait>(
+        &mut self,
+        rt: &R,
+        reader: &mut ReaderEnd<Y>,
+        call: Call,
+    ) -> Answer {
         match call {
             Call::Accept(messages) => self.accept_from(messages, usize::MAX),
             Call::AcceptHead(pieces) => self.accept_head(pieces),
@@ -313,32 +299,49 @@ impl<Y: Yard, W: Wait + Drop> Desk<Y, W> {
             Call::AcceptInPieces(piece, messages) => self.accept_from(messages, piece),
             Call::AcceptWorker => self.accept_worker(),
             Call::Login => self.login(),
-            Call::Attach => self.attach(rt),
-            Call::Turn => self.turn(rt),
-            Call::Start => self.start(rt),
-            Call::Interrupt => self.interrupt(rt),
+            Call::Attach => self.attach(rt, reader),
+            Call::Turn => self.turn(rt, reader),
+            Call::Start => self.start(rt, reader),
+            Call::Interrupt => self.interrupt(rt, reader),
             Call::Keepalive => self.keepalive(),
         }
     }
 
     /// Whether a link over a stream that gives these messages takes its lane up plainly.
-    pub fn is_attached<R: Wait>(&mut self, rt: &R, messages: &[&[u8]]) -> bool {
+    pub fn is_attached<Y: Yard, R: Wait>(
+        &mut self,
+        rt: &R,
+        reader: &mut ReaderEnd<Y>,
+        messages: &[&[u8]],
+    ) -> bool {
         self.accept_from(messages, usize::MAX) == Answer::Done
             && self.login() == Answer::Place(1)
-            && self.attach(rt) == PLAIN
+            && self.attach(rt, reader) == PLAIN
     }
 
-    fn gives_so<R: Wait>(&mut self, rt: &R, frames: &[u8], gives: Answer) -> bool {
+    fn gives_so<Y: Yard, R: Wait>(
+        &mut self,
+        rt: &R,
+        reader: &mut ReaderEnd<Y>,
+        frames: &[u8],
+        gives: Answer,
+    ) -> bool {
         let is_up = matches!(gives, Answer::Turned(_));
-        self.is_attached(rt, &[AUTH, frames])
-            && self.turn(rt) == gives
-            && self.ends.reader.is_up() == is_up
-            && (!is_up || self.ends.reader.down(rt).is_ok())
+        self.is_attached(rt, reader, &[AUTH, frames])
+            && self.turn(rt, reader) == gives
+            && reader.is_up() == is_up
+            && (!is_up || goes_down(rt, reader))
     }
 
-    fn gives_long<R: Wait>(&mut self, rt: &R, long: Long, gives: Answer) -> bool {
+    fn gives_long<Y: Yard, R: Wait>(
+        &mut self,
+        rt: &R,
+        reader: &mut ReaderEnd<Y>,
+        long: Long,
+        gives: Answer,
+    ) -> bool {
         match long.frames(self.alloc) {
-            Ok(frames) => self.gives_so(rt, frames.as_slice(), gives),
+            Ok(frames) => self.gives_so(rt, reader, frames.as_slice(), gives),
             Err(_) => false,
         }
     }
@@ -381,16 +384,6 @@ impl<Y: Yard, W: Wait + Drop> Desk<Y, W> {
         }
     }
 
-    fn fills<R: Wait>(&mut self, rt: &R) -> bool {
-        let reader = &mut self.ends.reader;
-        let mut takes = reader.up(rt).is_ok();
-        for _ in 0..999_998 {
-            let noted = Event::In(0, Body::Answered { fault: false });
-            takes &= reader.hear(rt, noted).is_ok();
-        }
-        takes && reader.down(rt).is_ok()
-    }
-
     pub fn has_link(&self) -> bool {
         self.link.is_some()
     }
@@ -415,18 +408,71 @@ impl<Y: Yard, W: Wait + Drop> Desk<Y, W> {
             None => b"",
         }
     }
+}
 
-    pub fn trace(&self) -> &[Event] {
-        self.ends.reader.trace()
+fn goes_down<Y: Yard, R: Wait>(rt: &R, reader: &mut ReaderEnd<Y>) -> bool {
+    reader.down(rt).is_ok()
+}
+
+fn is_noted<Y: Yard, R: Wait>(rt: &R, reader: &mut ReaderEnd<Y>) -> bool {
+    let noted = Event::In(0, Body::Answered { fault: false });
+    reader.hear(rt, noted).is_ok()
+}
+
+fn fills<Y: Yard, R: Wait>(rt: &R, reader: &mut ReaderEnd<Y>) -> bool {
+    let mut takes = reader.up(rt).is_ok();
+    for _ in 0..999_998 {
+        takes &= is_noted(rt, reader);
     }
+    takes && goes_down(rt, reader)
+}
 
-    pub fn is_cut(&self) -> bool {
-        self.ends.reader.is_cut()
+/// Whether the last of these events is a Down, where there is one.
+pub(crate) fn is_down(trace: &[Event]) -> Option<bool> {
+    match trace.last() {
+        Some(Event::Down) => Some(true),
+        Some(_) => Some(false),
+        None => None,
     }
+}
 
-    /// How many commands were started.
-    pub fn commands(&self) -> u64 {
-        self.ends.reader.next_command()
+fn is_given_up(trace: &[Event]) -> bool {
+    matches!(
+        trace,
+        [Event::Up, Event::Go, Event::Cut, Event::Down, Event::Up]
+    )
+}
+
+/// How command 0 ended, as the viewer sees it.
+fn ended_for<Y: Yard>(viewer: &mut Viewer<Y>) -> Option<Results> {
+    match viewer.state(0, "stdio") {
+        Ok(state) => state.ended,
+        Err(_) => None,
+    }
+}
+
+/// Whether this is the whole log of command 0 under that name, as the viewer sees it.
+fn is_logged_for<Y: Yard>(viewer: &mut Viewer<Y>, name: &str, content: &str) -> bool {
+    match viewer.chunk(0, name, 0, u64::MAX) {
+        Ok(chunk) => chunk.content.as_str() == content,
+        Err(_) => false,
+    }
+}
+
+/// A lane, and the links over it.
+#[derive(Drop)]
+pub(crate) struct Desk<Y: Yard, W: Wait + Drop> {
+    pub ends: Ends<Y, W>,
+    pub links: Links,
+}
+
+impl<Y: Yard, W: Wait + Drop> Desk<Y, W> {
+    /// A lane without a link.
+    pub fn new(alloc: Global, ends: Ends<Y, W>, resumable: bool) -> Desk<Y, W> {
+        Desk {
+            ends,
+            links: Links::new(alloc, resumable),
+        }
     }
 
     /// Shows the viewer all that is in the queue. Where memory is wanting for an item it is tried
@@ -443,10 +489,7 @@ impl<Y: Yard, W: Wait + Drop> Desk<Y, W> {
     pub fn ended(&mut self) -> Option<Results> {
         self.shows();
         match self.ends.viewers.first_mut() {
-            Some(viewer) => match viewer.state(0, "stdio") {
-                Ok(state) => state.ended,
-                Err(_) => None,
-            },
+            Some(viewer) => ended_for(viewer),
             None => None,
         }
     }
@@ -455,80 +498,117 @@ impl<Y: Yard, W: Wait + Drop> Desk<Y, W> {
     pub fn logged(&mut self, name: &str, content: &str) -> bool {
         self.shows();
         match self.ends.viewers.first_mut() {
-            Some(viewer) => match viewer.chunk(0, name, 0, u64::MAX) {
-                Ok(chunk) => chunk.content.as_str() == content,
-                Err(_) => false,
-            },
+            Some(viewer) => is_logged_for(viewer, name, content),
             None => false,
         }
     }
 
-    /// The lane had its Down last, or had no event.
-    pub fn is_down(&self) -> Option<bool> {
-        match self.ends.reader.trace().last() {
-            Some(Event::Down) => Some(true),
-            Some(_) => Some(false),
-            None => None,
-        }
-    }
-
-    fn is_given_up(&self) -> bool {
-        matches!(
-            self.ends.reader.trace(),
-            [Event::Up, Event::Go, Event::Cut, Event::Down, Event::Up]
-        )
-    }
-
-    fn drains(&mut self) -> bool {
-        matches!(self.ends.writer.drain(), Ok(Drained::Took))
-    }
-
     /// Whether this comes of the row.
     fn fits<R: Wait>(&mut self, rt: &R, row: Row) -> bool {
+        let reader = &mut self.ends.reader;
+        let links = &mut self.links;
         match row {
-            Row::Calls(call, answer) => self.call(rt, call) == answer,
+            Row::Calls(call, answer) => links.call(rt, reader, call) == answer,
             Row::Changes => {
-                swap(&mut self.link, &mut self.aside);
+                swap(&mut links.link, &mut links.aside);
                 true
             }
-            Row::Reads(_, frames, gives) => self.gives_so(rt, frames, gives),
-            Row::ReadsLong(long, gives) => self.gives_long(rt, long, gives),
-            Row::Knows(name, password) => self.knows(name, password),
-            Row::Names(name) => self.has_refused(name),
-            Row::Drains => self.drains(),
-            Row::Wrote(pieces) => self.wrote(pieces),
-            Row::WroteTimes(times) => self.wrote_times(times),
-            Row::Leaks => self.leaks(),
-            Row::Fills => self.fills(rt),
-            Row::Had(events) => self.ends.reader.trace().len() == events,
-            Row::IsDown => self.is_down() == Some(true),
-            Row::IsCut => self.ends.reader.is_cut(),
-            Row::IsGivenUp => self.is_given_up(),
+            Row::Reads(_, frames, gives) => links.gives_so(rt, reader, frames, gives),
+            Row::ReadsLong(long, gives) => links.gives_long(rt, reader, long, gives),
+            Row::Knows(name, password) => links.knows(name, password),
+            Row::Names(name) => links.has_refused(name),
+            Row::Drains => matches!(self.ends.writer.drain(), Ok(Drained::Took)),
+            Row::Wrote(pieces) => links.wrote(pieces),
+            Row::WroteTimes(times) => links.wrote_times(times),
+            Row::Leaks => links.leaks(),
+            Row::Fills => fills(rt, reader),
+            Row::Had(events) => reader.trace().len() == events,
+            Row::IsDown => is_down(reader.trace()) == Some(true),
+            Row::IsCut => reader.is_cut(),
+            Row::IsGivenUp => is_given_up(reader.trace()),
         }
     }
 
     /// Goes through the rows, which count from 0, once it is ready.
     fn plays<R: Wait + Abort>(&mut self, rt: &R, rows: &[Row]) -> bool {
-        let is_ready = self.is_ready();
+        let is_ready = self.links.are_ready();
         for (n, row) in rows.iter().enumerate() {
             assert!(rt; self.fits(rt, *row), "row {n}");
         }
         is_ready
     }
+
+    fn tries<R: Wait + Abort>(&mut self, rt: &R, alloc: Global, trial: Trial<'_>) -> Outcome {
+        match trial {
+            Trial::Plays(rows) => Outcome::Played(self.plays(rt, rows)),
+            Trial::Ends(end) => Outcome::Seen(self.ends(rt, end)),
+            Trial::Goes(case) => Outcome::Seen(self.goes_through(rt, alloc, case)),
+            Trial::Comes(bytes) => Outcome::Came(self.comes(rt, alloc, bytes)),
+        }
+    }
 }
 
-fn plays_on<Y: Yard, W: Wait + Drop, R: Wait + Abort>(
+/// What is tried over a lane.
+#[derive(Clone, Copy)]
+pub(crate) enum Trial<'a> {
+    /// The rows are gone through.
+    Plays(&'a [Row]),
+    /// The stream of a link comes to this end.
+    Ends(End),
+    /// The links of a session come and go.
+    Goes(Case),
+    /// A message with these bytes comes.
+    Comes(&'a [u8]),
+}
+
+/// What came of a trial.
+#[derive(Clone, Copy)]
+pub(crate) enum Outcome {
+    Played(bool),
+    Seen(Option<Watch>),
+    Came(Came),
+    /// There was no lane.
+    Nothing,
+}
+
+fn tried_at<Y: Yard, W: Wait + Drop, R: Wait + Abort>(
+    rt: &R,
+    alloc: Global,
+    ends: Ends<Y, W>,
+    resumable: bool,
+    trial: Trial<'_>,
+) -> Outcome {
+    Desk::new(alloc, ends, resumable).tries(rt, alloc, trial)
+}
+
+fn tried_on<Y: Yard, W: Wait + Drop, R: Wait + Abort>(
     rt: &R,
     alloc: Global,
     blank: Blank<W>,
     resumable: bool,
-    rows: &[Row],
-) -> bool
+    trial: Trial<'_>,
+) -> Outcome
     requires { (blank.queue ≡ Y.queue 7) × (blank.copy ≡ Y.copy 7) }
 {
     match blank.ends::<Y>(alloc, 7) {
-        Ok(ends) => Desk::new(alloc, ends, resumable).plays(rt, rows),
-        Err(_) => false,
+        Ok(ends) => tried_at(rt, alloc, ends, resumable, trial),
+        Err(_) => Outcome::Nothing,
+    }
+}
+
+/// What comes of the trial on a lane of its own, whose queue takes so many items.
+pub(crate) fn tried<R: Wait + Abort>(
+    rt: &R,
+    alloc: Global,
+    capacity: usize,
+    resumable: bool,
+    trial: Trial<'_>,
+) -> Outcome
+    requires { (0 < capacity) × (capacity ≤ 65536) }
+{
+    match open(rt, alloc, capacity, 1) {
+        Ok(blank) => tried_on::<Brand, _, _>(rt, alloc, blank, resumable, trial),
+        Err(_) => Outcome::Nothing,
     }
 }
 
@@ -542,8 +622,8 @@ pub(crate) fn plays<R: Wait + Abort>(
 ) -> bool
     requires { (0 < capacity) × (capacity ≤ 65536) }
 {
-    match open(rt, alloc, capacity, 1) {
-        Ok(blank) => plays_on::<Brand, _, _>(rt, alloc, blank, resumable, rows),
-        Err(_) => false,
-    }
+    matches!(
+        tried(rt, alloc, capacity, resumable, Trial::Plays(rows)),
+        Outcome::Played(true)
+    )
 }

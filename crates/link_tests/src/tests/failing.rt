@@ -1,15 +1,15 @@
 //! A stream that fails at one of its calls, at each in turn, or ends after one of its bytes; and a
 //! refused request for memory.
-ghost use Rattle.std.specs.Prelude.{◌≡◌};
 
-use super::desk::{Answer, CLOSED, Call, DROPPED, Desk, HEARD, PLAIN};
+use super::desk::{
+    Answer, CLOSED, Call, DROPPED, Desk, HEARD, Links, Outcome, PLAIN, Trial, is_down, tried,
+};
 use super::watch::{End, Step, Watch};
 use super::{AUTH, HEAD, TEXT, UPDATE};
-use bm_lane::{Blank, HearRefusal, Yard, open};
+use bm_lane::{HearRefusal, ReaderEnd, Yard};
 use bm_link::*;
 use bm_session::{Refusal, Results};
 use std::alloc::Global;
-use std::marker::Brand;
 use std::process::Abort;
 use std::sync::Wait;
 
@@ -32,29 +32,24 @@ static CALLS: [(Call, Answer, usize); 8] = [
 /// Memory is wanting for an order, and the link stays good.
 const WANTING: Answer = Answer::Fault(LinkFault::Lane(HearRefusal::Session(Refusal::Mem)));
 
-impl<Y: Yard, W: Wait + Drop> Desk<Y, W> {
-    /// What is seen where the stream comes to this end.
-    fn ends<R: Wait>(&mut self, rt: &R, end: End) -> Option<Watch> {
-        self.ends_so(end);
-        if self.is_ready() {
-            Some(self.watched(rt, end))
-        } else {
-            None
-        }
-    }
-
+impl Links {
     /// The answer to a call. One that has changed nothing for want of memory is made again.
-    fn answer<R: Wait>(&mut self, rt: &R, call: Call) -> Answer {
-        let answer = self.call(rt, call);
+    fn answer<Y: Yard, R: Wait>(
+        &mut self,
+        rt: &R,
+        reader: &mut ReaderEnd<Y>,
+        call: Call,
+    ) -> Answer {
+        let answer = self.call(rt, reader, call);
         if answer == Answer::Nothing || answer == WANTING {
-            self.call(rt, call)
+            self.call(rt, reader, call)
         } else {
             answer
         }
     }
 
     /// What is seen of the calls. Where no link was accepted none is called.
-    fn watched<R: Wait>(&mut self, rt: &R, end: End) -> Watch {
+    fn watched<Y: Yard, R: Wait>(&mut self, rt: &R, reader: &mut ReaderEnd<Y>, end: End) -> Watch {
         let mut watch = Watch::of(end);
         for (call, right, bytes) in &CALLS {
             let step = Step {
@@ -62,24 +57,36 @@ impl<Y: Yard, W: Wait + Drop> Desk<Y, W> {
                 bytes: *bytes,
                 is_late: false,
             };
-            watch.see(step, self.answer(rt, *call), self.has_failed());
+            watch.see(step, self.answer(rt, reader, *call), self.has_failed());
             watch.has_link = self.has_link();
             if !watch.has_link {
                 break;
             }
         }
-        watch.is_right &= self.is_over(watch.has_ended);
         watch
+    }
+}
+
+impl<Y: Yard, W: Wait + Drop> Desk<Y, W> {
+    /// What is seen where the stream comes to this end.
+    pub fn ends<R: Wait>(&mut self, rt: &R, end: End) -> Option<Watch> {
+        self.links.end = end;
+        if !self.links.are_ready() {
+            return None;
+        }
+        let mut watch = self.links.watched(rt, &mut self.ends.reader, end);
+        watch.is_right &= self.is_over(watch.has_ended);
+        Some(watch)
     }
 
     /// The lane had its Down last, or had no event, which is right where the link failed. A command
     /// that was started ended so that it is tried again.
     fn is_over(&mut self, has_failed: bool) -> bool {
-        let is_down = match self.is_down() {
+        let is_down = match is_down(self.ends.reader.trace()) {
             Some(is_down) => is_down,
             None => has_failed,
         };
-        let ended = if self.commands() == 0 {
+        let ended = if self.ends.reader.next_command() == 0 {
             None
         } else {
             Some(Results::Retry)
@@ -88,26 +95,11 @@ impl<Y: Yard, W: Wait + Drop> Desk<Y, W> {
     }
 }
 
-fn failing_row<Y: Yard, W: Wait + Drop, R: Wait>(
-    rt: &R,
-    alloc: Global,
-    blank: Blank<W>,
-    resumable: bool,
-    end: End,
-) -> Option<Watch>
-    requires { (blank.queue ≡ Y.queue 7) × (blank.copy ≡ Y.copy 7) }
-{
-    match blank.ends::<Y>(alloc, 7) {
-        Ok(ends) => Desk::new(alloc, ends, resumable).ends(rt, end),
-        Err(_) => None,
-    }
-}
-
 /// What is seen where the stream comes to this end, of a lane whose sessions are resumed, or not.
-fn watched<R: Wait>(rt: &R, alloc: Global, resumable: bool, end: End) -> Option<Watch> {
-    match open(rt, alloc, 8, 1) {
-        Ok(blank) => failing_row::<Brand, _, _>(rt, alloc, blank, resumable, end),
-        Err(_) => None,
+fn watched<R: Wait + Abort>(rt: &R, alloc: Global, resumable: bool, end: End) -> Option<Watch> {
+    match tried(rt, alloc, 8, resumable, Trial::Ends(end)) {
+        Outcome::Seen(watch) => watch,
+        _ => None,
     }
 }
 

@@ -4,19 +4,17 @@
 //! Whether bytes are an event is what the readings of `bm_value` and `bm_session` say; all that
 //! comes of it is told here: an event is taken and answered as the protocol has it, and any other
 //! message is a bad one, after which the lane is down and its log is as it was.
-ghost use Rattle.std.specs.Prelude.{◌≡◌};
 
-use super::desk::{Answer, BAD, Call, Desk, HEARD, NOTED};
+use super::desk::{Answer, BAD, Call, Desk, HEARD, Links, NOTED, Outcome, Trial, tried};
 use super::lengths::binary;
 use super::{AUTH, COMPLETE_THREE, DONE, ORDER, TRUE, UPDATE};
-use bm_lane::{Blank, Yard, open};
-use bm_lines::{Parcel, Part, STDIO, content};
+use bm_lane::{ReaderEnd, Yard};
+use bm_lines::{Parcel, STDIO, content};
 use bm_link::*;
 use bm_msg::{NUMBER_LIMIT, write_answer};
 use bm_session::{Body, Event, Results};
 use bm_value::decode_whole;
 use std::alloc::Global;
-use std::marker::Brand;
 use std::process::Abort;
 use std::sync::Wait;
 
@@ -80,7 +78,6 @@ fn is_frame_of(frame: &[u8], right: &[u8]) -> bool {
     }
 }
 
-/// Whether this is the frame of the answer to the request.
 fn is_answer(alloc: Global, frame: &[u8], seq: u64, body: &Body) -> bool {
     match answer_bytes(alloc, seq, exception_to(body)) {
         Some(right) => is_frame_of(frame, &right),
@@ -88,78 +85,100 @@ fn is_answer(alloc: Global, frame: &[u8], seq: u64, body: &Body) -> bool {
     }
 }
 
-impl<Y: Yard, W: Wait + Drop> Desk<Y, W> {
+/// What was written behind the order.
+fn behind_the_order(written: &[u8]) -> Option<&[u8]> {
+    match written.strip_prefix(TRUE) {
+        Some(rest) => rest.strip_prefix(ORDER),
+        None => None,
+    }
+}
+
+/// Whether the event was taken, and answered if it is a request, where this was written.
+fn is_answered(alloc: Global, written: &[u8], answer: Answer, seq: u64, body: &Body) -> bool {
+    let Some(bytes) = behind_the_order(written) else {
+        return false;
+    };
+    match body {
+        Body::Answered { .. } => answer == NOTED && bytes.is_empty(),
+        _ => answer == HEARD && is_answer(alloc, bytes, seq, body),
+    }
+}
+
+/// Whether the one event behind the start has this number.
+fn is_last(trace: &[Event], seq: u64) -> bool {
+    match trace {
+        [Event::Up, Event::Go, Event::In(number, _)] => *number == seq,
+        _ => false,
+    }
+}
+
+impl Links {
     /// A link is attached, and has started command 0; this frame comes next.
-    fn is_live<R: Wait>(&mut self, rt: &R, frame: &[u8]) -> bool {
-        self.is_ready()
-            && self.is_attached(rt, &[AUTH, frame])
-            && self.call(rt, Call::Start) == Answer::Started(0)
+    fn is_live<Y: Yard, R: Wait>(
+        &mut self,
+        rt: &R,
+        reader: &mut ReaderEnd<Y>,
+        frame: &[u8],
+    ) -> bool {
+        self.are_ready()
+            && self.is_attached(rt, reader, &[AUTH, frame])
+            && self.call(rt, reader, Call::Start) == Answer::Started(0)
     }
 
-    /// A link is attached, and has started command 0; the message with these bytes comes next.
-    fn is_given<R: Wait>(&mut self, rt: &R, alloc: Global, bytes: &[u8]) -> bool {
-        match binary(alloc, bytes) {
-            Ok(frame) => self.is_live(rt, &frame),
+    /// The answer to the turn that reads the message with these bytes, once command 0 is started.
+    fn heard<Y: Yard, R: Wait>(
+        &mut self,
+        rt: &R,
+        alloc: Global,
+        reader: &mut ReaderEnd<Y>,
+        bytes: &[u8],
+    ) -> Option<Answer> {
+        let is_live = match binary(alloc, bytes) {
+            Ok(frame) => self.is_live(rt, reader, &frame),
             Err(_) => false,
+        };
+        if is_live {
+            Some(self.call(rt, reader, Call::Turn))
+        } else {
+            None
         }
     }
+}
 
+impl<Y: Yard, W: Wait + Drop> Desk<Y, W> {
     /// What comes of the message with these bytes.
     pub fn comes<R: Wait>(&mut self, rt: &R, alloc: Global, bytes: &[u8]) -> Came {
-        if !self.is_given(rt, alloc, bytes) {
+        let Some(answer) = self.links.heard(rt, alloc, &mut self.ends.reader, bytes) else {
             return Came::Wrong;
-        }
-        let answer = self.call(rt, Call::Turn);
-        match event_of(alloc, bytes) {
-            Some(event) => self.is_heard(alloc, answer, &event),
+        };
+        match &event_of(alloc, bytes) {
+            Some(Event::In(seq, body)) => self.is_taken(alloc, answer, *seq, body),
+            Some(_) => Came::Wrong,
             None => self.is_bad(answer),
-        }
-    }
-
-    /// What comes of a message that is this event.
-    fn is_heard(&mut self, alloc: Global, answer: Answer, event: &Event) -> Came {
-        match event {
-            Event::In(seq, body) => self.is_taken(alloc, answer, *seq, body),
-            _ => Came::Wrong,
         }
     }
 
     /// The message was none: nothing was answered, and the lane is down, with no line in its log.
     fn is_bad(&mut self, answer: Answer) -> Came {
-        let is_down = matches!(self.trace(), [Event::Up, Event::Go, Event::Down]);
-        let is_silent = self.answered() == Some(b"");
-        let is_over = self.ended() == Some(Results::Retry) && self.logged(STDIO, "");
-        if answer == BAD && is_down && is_silent && is_over {
+        let trace = self.ends.reader.trace();
+        let is_right = answer == BAD
+            && matches!(trace, [Event::Up, Event::Go, Event::Down])
+            && behind_the_order(self.links.written()) == Some(b"");
+        if is_right && self.ended() == Some(Results::Retry) && self.logged(STDIO, "") {
             Came::Bad
         } else {
             Came::Wrong
         }
     }
 
-    /// What was written behind the order.
-    fn answered(&self) -> Option<&[u8]> {
-        match self.written().strip_prefix(TRUE) {
-            Some(rest) => rest.strip_prefix(ORDER),
-            None => None,
-        }
-    }
-
-    /// The event was answered if it is a request.
-    fn is_answered(&self, alloc: Global, answer: Answer, seq: u64, body: &Body) -> bool {
-        let Some(bytes) = self.answered() else {
-            return false;
-        };
-        match body {
-            Body::Answered { .. } => answer == NOTED && bytes.is_empty(),
-            _ => answer == HEARD && is_answer(alloc, bytes, seq, body),
-        }
-    }
-
-    /// The lane's last event behind the start is one with this number.
-    fn is_last(&self, seq: u64) -> bool {
-        match self.trace() {
-            [Event::Up, Event::Go, Event::In(number, _)] => *number == seq,
-            _ => false,
+    /// The event was taken, and answered if it is a request.
+    fn is_taken(&mut self, alloc: Global, answer: Answer, seq: u64, body: &Body) -> Came {
+        let is_right = is_answered(alloc, self.links.written(), answer, seq, body)
+            && is_last(self.ends.reader.trace(), seq)
+            && self.ended() == ended_by(seq, body);
+        match self.lines_of(alloc, body) {
+            Some(lines) if is_right => Came::Event { lines },
+            _ => Came::Wrong,
         }
     }
 
@@ -171,32 +190,8 @@ impl<Y: Yard, W: Wait + Drop> Desk<Y, W> {
                 parcel,
                 ..
             } => self.has_logged(alloc, parcel),
-            _ => self.has_no_line(),
-        }
-    }
-
-    /// The event was taken, and answered if it is a request.
-    fn is_taken(&mut self, alloc: Global, answer: Answer, seq: u64, body: &Body) -> Came {
-        let is_right = self.is_answered(alloc, answer, seq, body)
-            && self.is_last(seq)
-            && self.ended() == ended_by(seq, body);
-        match self.lines_of(alloc, body) {
-            Some(lines) if is_right => Came::Event { lines },
-            _ => Came::Wrong,
-        }
-    }
-
-    /// Whether the part has a line, where the log of its name is what it has.
-    fn has_part(&mut self, alloc: Global, part: &Part) -> Option<bool> {
-        match content(alloc, part.block.lines()) {
-            Ok(text) => {
-                if self.logged(part.name.as_str(), text.as_str()) {
-                    Some(!text.is_empty())
-                } else {
-                    None
-                }
-            }
-            Err(_) => None,
+            _ if self.logged(STDIO, "") => Some(false),
+            _ => None,
         }
     }
 
@@ -207,42 +202,26 @@ impl<Y: Yard, W: Wait + Drop> Desk<Y, W> {
         }
         let mut lines = false;
         for part in parcel.parts() {
-            match self.has_part(alloc, part) {
-                Some(has_line) => lines |= has_line,
-                None => return None,
+            let is_logged = match content(alloc, part.block.lines()) {
+                Ok(text) => {
+                    lines |= !text.is_empty();
+                    self.logged(part.name.as_str(), text.as_str())
+                }
+                Err(_) => false,
+            };
+            if !is_logged {
+                return None;
             }
         }
         Some(lines)
     }
-
-    fn has_no_line(&mut self) -> Option<bool> {
-        if self.logged(STDIO, "") {
-            Some(false)
-        } else {
-            None
-        }
-    }
-}
-
-fn come_row<Y: Yard, W: Wait + Drop, R: Wait>(
-    rt: &R,
-    alloc: Global,
-    blank: Blank<W>,
-    bytes: &[u8],
-) -> Came
-    requires { (blank.queue ≡ Y.queue 7) × (blank.copy ≡ Y.copy 7) }
-{
-    match blank.ends::<Y>(alloc, 7) {
-        Ok(ends) => Desk::new(alloc, ends, false).comes(rt, alloc, bytes),
-        Err(_) => Came::Wrong,
-    }
 }
 
 /// What comes of a message with these bytes, to a link of a lane of its own.
-pub(crate) fn come<R: Wait>(rt: &R, alloc: Global, bytes: &[u8]) -> Came {
-    match open(rt, alloc, 4, 1) {
-        Ok(blank) => come_row::<Brand, _, _>(rt, alloc, blank, bytes),
-        Err(_) => Came::Wrong,
+pub(crate) fn come<R: Wait + Abort>(rt: &R, alloc: Global, bytes: &[u8]) -> Came {
+    match tried(rt, alloc, 4, false, Trial::Comes(bytes)) {
+        Outcome::Came(came) => came,
+        _ => Came::Wrong,
     }
 }
 
@@ -288,7 +267,7 @@ impl Tally {
 }
 
 /// Whether all is right where the byte at this place has this value.
-fn is_right_with<R: Wait>(
+fn is_right_with<R: Wait + Abort>(
     rt: &R,
     alloc: Global,
     bytes: &mut [u8],
@@ -303,7 +282,7 @@ fn is_right_with<R: Wait>(
 }
 
 /// Whether all is right where the byte at this place has each of its values.
-fn each_value<R: Wait>(
+fn each_value<R: Wait + Abort>(
     rt: &R,
     alloc: Global,
     bytes: &[u8],

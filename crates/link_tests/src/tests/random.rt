@@ -184,7 +184,13 @@ fn random_message(alloc: Global, words: &mut Words) -> Result<Vec<u8>, AllocErro
 }
 
 /// Whether what comes of so many random messages is right.
-fn are_right<R: Wait>(rt: &R, alloc: Global, seed: u64, count: u64, tally: &mut Tally) -> bool {
+fn are_right<R: Wait + Abort>(
+    rt: &R,
+    alloc: Global,
+    seed: u64,
+    count: u64,
+    tally: &mut Tally,
+) -> bool {
     let mut words = Words::of(seed);
     let mut is_right = true;
     for _ in 0..count {

@@ -10,19 +10,18 @@
 //! - A response was taken: its order is not sent again.
 //! - An update was taken, and its answer sent or not: a worker without the answer says it again,
 //!   and gets the same answer. It adds no line.
-ghost use Rattle.std.specs.Prelude.{◌≡◌};
 
-use super::desk::{Answer, CLOSED, Call, Desk, HEARD, NOTED};
+use super::desk::{Answer, CLOSED, Call, Desk, HEARD, Links, NOTED, Outcome, Trial, tried};
 use super::failing::ended_right;
 use super::watch::{End, Step, Watch};
 use super::{
-    AUTH_S, AUTH_T, DONE, DONE_ONE, HEAD, NEW, ORDER, RESUMED, STOP, push_requests, requests_from,
+    ANSWERS, AUTH_S, AUTH_T, DONE, DONE_ONE, HEAD, NEW, ORDER, REQUESTS, RESUMED, STOP, bytes_in,
+    pieces_from, push_all,
 };
-use bm_lane::{Blank, Yard, open};
+use bm_lane::{ReaderEnd, Yard};
 use bm_link::*;
 use bm_session::{Body, Event, Results};
 use std::alloc::{AllocError, Global};
-use std::marker::Brand;
 use std::process::Abort;
 use std::sync::Wait;
 
@@ -30,40 +29,17 @@ const BEGUN: Answer = Answer::Attached(Attached::New);
 
 const GOES_ON: Answer = Answer::Attached(Attached::Resumed);
 
-/// An order of the master: the call that gives it and its answer, what is sent, and the response.
-type Order = (Call, Answer, &'static [u8], &'static [u8]);
-
-static ORDERS: [Order; 2] = [
-    (Call::Start, Answer::Started(0), ORDER, DONE),
-    (Call::Interrupt, Answer::Done, STOP, DONE_ONE),
+/// The calls that give the master's orders, and their answers.
+static CALLS: [(Call, Answer); 2] = [
+    (Call::Start, Answer::Started(0)),
+    (Call::Interrupt, Answer::Done),
 ];
 
-/// The master's orders from this one on.
-fn orders_from(first: usize) -> &'static [Order] {
-    ORDERS.get(first..).unwrap_or_default()
-}
+/// The master's orders, as they are sent.
+static ORDERS: [&[u8]; 2] = [ORDER, STOP];
 
-fn push_orders(told: &mut Vec<u8>, first: usize) -> Result<(), AllocError> {
-    for (_, _, order, _) in orders_from(first) {
-        told.extend_from_slice(order)?;
-    }
-    Ok(())
-}
-
-fn push_responses(said: &mut Vec<u8>, first: usize) -> Result<(), AllocError> {
-    for (_, _, _, response) in orders_from(first) {
-        said.extend_from_slice(response)?;
-    }
-    Ok(())
-}
-
-/// Appends the answers to the worker's requests from this one on.
-fn push_answers(told: &mut Vec<u8>, first: usize) -> Result<(), AllocError> {
-    for (_, answer) in requests_from(first) {
-        told.extend_from_slice(answer)?;
-    }
-    Ok(())
-}
+/// The worker's responses to them.
+static RESPONSES: [&[u8]; 2] = [DONE, DONE_ONE];
 
 /// How far a session has come when a link of it begins.
 #[derive(Clone, Copy)]
@@ -109,8 +85,8 @@ impl Standing {
     /// and says each request without an answer, again or for the first time.
     fn said(self, alloc: Global) -> Result<Vec<u8>, AllocError> {
         let mut said = AUTH_S.to_vec(alloc)?;
-        push_responses(&mut said, self.responded)?;
-        push_requests(&mut said, self.answered)?;
+        push_all(&mut said, pieces_from(&RESPONSES, self.responded))?;
+        push_all(&mut said, pieces_from(&REQUESTS, self.answered))?;
         Ok(said)
     }
 
@@ -123,20 +99,18 @@ impl Standing {
     /// response, of which those that the lane took before come first, and each answer.
     fn told(self, alloc: Global) -> Result<Vec<u8>, AllocError> {
         let mut told = self.login().to_vec(alloc)?;
-        push_orders(&mut told, self.responded)?;
-        push_answers(&mut told, self.answered)?;
+        push_all(&mut told, pieces_from(&ORDERS, self.responded))?;
+        push_all(&mut told, pieces_from(&ANSWERS, self.answered))?;
         Ok(told)
     }
 
     /// How many requests of the worker have their answers, once it has read so many bytes of what
     /// the link writes.
     fn answered_by(self, bytes: usize) -> usize {
-        let mut place = self.login().len();
-        for (_, _, order, _) in orders_from(self.responded) {
-            place = place.saturating_add(order.len());
-        }
+        let orders = bytes_in(pieces_from(&ORDERS, self.responded));
+        let mut place = self.login().len().saturating_add(orders);
         let mut answered = self.answered;
-        for (_, answer) in requests_from(self.answered) {
+        for answer in pieces_from(&ANSWERS, self.answered) {
             place = place.saturating_add(answer.len());
             if place <= bytes {
                 answered = answered.saturating_add(1);
@@ -146,13 +120,22 @@ impl Standing {
     }
 }
 
-impl<Y: Yard, W: Wait + Drop> Desk<Y, W> {
-    fn sees<R: Wait>(
+/// Whether the link wrote what it has to, or a part from the front on where its stream came to an
+/// end.
+fn has_told(alloc: Global, written: &[u8], standing: Standing, has_ended: bool) -> bool {
+    match standing.told(alloc) {
+        Ok(told) => told.starts_with(written) && (has_ended || written.len() == told.len()),
+        Err(_) => false,
+    }
+}
+
+impl Links {
+    fn sees<Y: Yard, R: Wait>(
         &mut self,
         rt: &R,
+        reader: &mut ReaderEnd<Y>,
         watch: &mut Watch,
-        call: Call,
-        right: Answer,
+        (call, right): (Call, Answer),
         bytes: usize,
     ) {
         if !watch.has_link {
@@ -164,7 +147,7 @@ impl<Y: Yard, W: Wait + Drop> Desk<Y, W> {
             // An order that the lane took before it was cut is sent again, so it is given.
             is_late: matches!(call, Call::Start),
         };
-        watch.see(step, self.call(rt, call), self.has_failed());
+        watch.see(step, self.call(rt, reader, call), self.has_failed());
     }
 
     /// What is seen of a handshake, after which the worker says this.
@@ -175,168 +158,198 @@ impl<Y: Yard, W: Wait + Drop> Desk<Y, W> {
             bytes: HEAD.len(),
             is_late: false,
         };
-        self.ends_so(end);
-        watch.see(step, self.accepts(said), self.has_failed());
+        self.end = end;
+        let answer = self.accept_from(&[said], usize::MAX);
+        watch.see(step, answer, self.has_failed());
         watch.has_link = self.has_link();
         watch
     }
 
     /// What is seen of a link that comes to this end, and of what was to be done over it.
-    fn goes<R: Wait>(&mut self, rt: &R, end: End, standing: Standing, said: &[u8]) -> Watch {
+    fn goes<Y: Yard, R: Wait>(
+        &mut self,
+        rt: &R,
+        reader: &mut ReaderEnd<Y>,
+        end: End,
+        standing: Standing,
+        said: &[u8],
+    ) -> Watch {
         let mut watch = self.accepted(end, said);
         let attached = if standing.has_begun { GOES_ON } else { BEGUN };
-        self.sees(rt, &mut watch, Call::Login, Answer::Place(1), AUTH_S.len());
-        self.sees(rt, &mut watch, Call::Attach, attached, 0);
-        for (call, answer, _, _) in orders_from(standing.ordered) {
-            self.sees(rt, &mut watch, *call, *answer, 0);
+        let login = (Call::Login, Answer::Place(1));
+        self.sees(rt, reader, &mut watch, login, AUTH_S.len());
+        self.sees(rt, reader, &mut watch, (Call::Attach, attached), 0);
+        for (call, answer) in CALLS.get(standing.ordered..).unwrap_or_default() {
+            self.sees(rt, reader, &mut watch, (*call, *answer), 0);
         }
-        for (_, _, _, response) in orders_from(standing.responded) {
-            self.sees(rt, &mut watch, Call::Turn, NOTED, response.len());
+        for response in pieces_from(&RESPONSES, standing.responded) {
+            self.sees(rt, reader, &mut watch, (Call::Turn, NOTED), response.len());
         }
-        for (request, _) in requests_from(standing.answered) {
-            self.sees(rt, &mut watch, Call::Turn, HEARD, request.len());
+        for request in pieces_from(&REQUESTS, standing.answered) {
+            self.sees(rt, reader, &mut watch, (Call::Turn, HEARD), request.len());
         }
-        self.sees(rt, &mut watch, Call::Turn, CLOSED, 1);
-        self.sees(rt, &mut watch, Call::Turn, CLOSED, 0);
+        self.sees(rt, reader, &mut watch, (Call::Turn, CLOSED), 1);
+        self.sees(rt, reader, &mut watch, (Call::Turn, CLOSED), 0);
         watch
-    }
-}
-
-impl<Y: Yard, W: Wait + Drop> Desk<Y, W> {
-    /// Whether the link wrote what it has to, or a part from the front on where its stream came to
-    /// an end.
-    fn has_told(&self, alloc: Global, standing: Standing, has_ended: bool) -> bool {
-        let written = self.written();
-        match standing.told(alloc) {
-            Ok(told) => told.starts_with(written) && (has_ended || written.len() == told.len()),
-            Err(_) => false,
-        }
     }
 
     /// One link of the session, and how far it has come then. What was written reached the worker,
     /// or none of it.
-    fn link<R: Wait>(
+    fn link<Y: Yard, R: Wait>(
         &mut self,
         rt: &R,
         alloc: Global,
-        end: End,
+        reader: &mut ReaderEnd<Y>,
+        (end, is_heard): (End, bool),
         standing: Standing,
-        is_heard: bool,
     ) -> Option<(Watch, Standing)> {
         let mut watch = match standing.said(alloc) {
-            Ok(said) => self.goes(rt, end, standing, &said),
+            Ok(said) => self.goes(rt, reader, end, standing, &said),
             Err(_) => return None,
         };
-        watch.is_right &= self.has_told(alloc, standing, watch.has_ended);
+        let written = self.written();
+        watch.is_right &= has_told(alloc, written, standing, watch.has_ended);
         let answered = if is_heard {
-            standing.answered_by(self.written().len())
+            standing.answered_by(written.len())
         } else {
             standing.answered
         };
-        Some((watch, Standing::after(self.trace(), answered)))
+        Some((watch, Standing::after(reader.trace(), answered)))
     }
 
     /// What is seen of a link that comes to this end, and of the whole one that follows.
-    fn keeps_from<R: Wait>(
+    fn keep_from<Y: Yard, R: Wait>(
         &mut self,
         rt: &R,
         alloc: Global,
-        end: End,
+        reader: &mut ReaderEnd<Y>,
+        (end, is_heard): (End, bool),
         standing: Standing,
-        is_heard: bool,
     ) -> Option<Watch> {
-        let Some((mut watch, next)) = self.link(rt, alloc, end, standing, is_heard) else {
+        let Some((mut watch, next)) = self.link(rt, alloc, reader, (end, is_heard), standing) else {
             return None;
         };
-        let Some((last, _)) = self.link(rt, alloc, End::Whole, next, is_heard) else {
+        let Some((last, _)) = self.link(rt, alloc, reader, (End::Whole, is_heard), next) else {
             return None;
         };
-        watch.is_right &= last.is_right && self.is_through();
+        watch.is_right &= last.is_right;
         Some(watch)
     }
 
     /// What is seen of a link that comes to the end, and of the whole one that follows, behind a
     /// link that comes to the first end where there is one.
-    fn keeps<R: Wait>(&mut self, rt: &R, alloc: Global, row: Case) -> Option<Watch> {
+    fn keep<Y: Yard, R: Wait>(
+        &mut self,
+        rt: &R,
+        alloc: Global,
+        reader: &mut ReaderEnd<Y>,
+        row: Case,
+    ) -> Option<Watch> {
+        let end = (row.end, row.is_heard);
         let Some(first) = row.first else {
-            return self.keeps_from(rt, alloc, row.end, Standing::START, row.is_heard);
+            return self.keep_from(rt, alloc, reader, end, Standing::START);
         };
-        let Some((before, next)) = self.link(rt, alloc, first, Standing::START, row.is_heard) else {
+        let before = (first, row.is_heard);
+        let Some((before, next)) = self.link(rt, alloc, reader, before, Standing::START) else {
             return None;
         };
-        let Some(mut watch) = self.keeps_from(rt, alloc, row.end, next, row.is_heard) else {
+        let Some(mut watch) = self.keep_from(rt, alloc, reader, end, next) else {
             return None;
         };
         watch.is_right &= before.is_right;
         Some(watch)
     }
 
+    /// Whether a whole link takes up another session, and starts this command.
+    fn begin_another<Y: Yard, R: Wait>(
+        &mut self,
+        rt: &R,
+        reader: &mut ReaderEnd<Y>,
+        command: u64,
+    ) -> bool {
+        self.end = End::Whole;
+        self.call(rt, reader, Call::Accept(&[AUTH_T])) == Answer::Done
+            && self.call(rt, reader, Call::Login) == Answer::Place(1)
+            && self.call(rt, reader, Call::Attach) == BEGUN
+            && self.call(rt, reader, Call::Start) == Answer::Started(command)
+    }
+}
+
+fn has_down(trace: &[Event]) -> bool {
+    for event in trace {
+        if matches!(event, Event::Down) {
+            return true;
+        }
+    }
+    false
+}
+
+/// Whether only what belongs to a session was sent that is new and starts this command.
+fn is_sent(written: &[u8], command: u64) -> bool {
+    let order = if command == 0 { ORDER } else { ORDER_OF_ONE };
+    match written.strip_prefix(NEW) {
+        Some(rest) => rest == order,
+        None => false,
+    }
+}
+
+/// How command 0 ends that is given up, where so many commands were started and it ended so before:
+/// it is tried again, unless it had ended.
+fn given_up(ended: Option<Results>, commands: u64) -> Option<Results> {
+    match (ended, commands) {
+        (Some(ended), _) => Some(ended),
+        (None, 0) => None,
+        (None, _) => Some(Results::Retry),
+    }
+}
+
+impl<Y: Yard, W: Wait + Drop> Desk<Y, W> {
     /// The log of the command is whole, each line once; it ended as it was told to, once; and the
     /// session is there to be resumed.
     fn is_through(&mut self) -> bool {
-        let mut downs = 0u64;
-        for event in self.trace() {
-            if matches!(event, Event::Down) {
-                downs = downs.saturating_add(1);
-            }
-        }
-        downs == 0
-            && self.is_cut()
-            && self.commands() == 1
+        let reader = &self.ends.reader;
+        !has_down(reader.trace())
+            && reader.is_cut()
+            && reader.next_command() == 1
             && self.logged("stdio", "oa\nob\n")
             && self.ended() == Some(Results::Cancelled)
     }
 
     /// What is seen of a link that comes to this end, and of one over which the worker names
-    /// another session: the first is given up, and none of its orders is sent.
+    /// another session: the first is given up, if it had begun, and none of its orders is sent.
     fn is_followed<R: Wait>(&mut self, rt: &R, alloc: Global, end: End) -> Option<Watch> {
-        let Some((mut watch, _)) = self.link(rt, alloc, end, Standing::START, false) else {
+        let reader = &mut self.ends.reader;
+        let first = self
+            .links
+            .link(rt, alloc, reader, (end, false), Standing::START);
+        let Some((mut watch, _)) = first else {
             return None;
         };
-        let events = self.trace().len();
-        let commands = self.commands();
         let ended = self.ended();
-        watch.is_right &= self.begins_another(rt, commands)
-            && self.was_given_up(events, commands, ended);
+        let reader = &mut self.ends.reader;
+        let commands = reader.next_command();
+        let events = reader.trace().len();
+        let more = if events == 0 { 2 } else { 3 };
+        watch.is_right &= self.links.begin_another(rt, reader, commands)
+            && reader.trace().len() == events.saturating_add(more)
+            && is_sent(self.links.written(), commands)
+            && self.ended() == given_up(ended, commands);
         Some(watch)
     }
 
-    /// Whether a whole link takes up another session, and starts this command.
-    fn begins_another<R: Wait>(&mut self, rt: &R, command: u64) -> bool {
-        self.ends_so(End::Whole);
-        self.accepts(AUTH_T) == Answer::Done
-            && self.call(rt, Call::Login) == Answer::Place(1)
-            && self.call(rt, Call::Attach) == BEGUN
-            && self.call(rt, Call::Start) == Answer::Started(command)
-    }
-
-    /// What had so many events and commands was given up, if it had begun, and only what belongs to
-    /// the next session was sent. Command 0 is tried again, unless it had ended.
-    fn was_given_up(&mut self, events: usize, commands: u64, ended: Option<Results>) -> bool {
-        let more = if events == 0 { 2 } else { 3 };
-        let order = if commands == 0 { ORDER } else { ORDER_OF_ONE };
-        let is_new = self.trace().len() == events.saturating_add(more);
-        let is_sent = match self.written().strip_prefix(NEW) {
-            Some(rest) => rest == order,
-            None => false,
-        };
-        let right = match (ended, commands) {
-            (Some(ended), _) => Some(ended),
-            (None, 0) => None,
-            (None, _) => Some(Results::Retry),
-        };
-        is_new && is_sent && self.ended() == right
-    }
-
     /// What is seen of the links of this case, on a lane that had none.
-    fn goes_through<R: Wait>(&mut self, rt: &R, alloc: Global, row: Case) -> Option<Watch> {
-        if !self.is_ready() {
-            None
-        } else if row.is_followed {
-            self.is_followed(rt, alloc, row.end)
-        } else {
-            self.keeps(rt, alloc, row)
+    pub fn goes_through<R: Wait>(&mut self, rt: &R, alloc: Global, row: Case) -> Option<Watch> {
+        if !self.links.are_ready() {
+            return None;
         }
+        if row.is_followed {
+            return self.is_followed(rt, alloc, row.end);
+        }
+        let Some(mut watch) = self.links.keep(rt, alloc, &mut self.ends.reader, row) else {
+            return None;
+        };
+        watch.is_right &= self.is_through();
+        Some(watch)
     }
 }
 
@@ -346,7 +359,7 @@ const ORDER_OF_ONE: &[u8] =
 
 /// What becomes of the links of a session before the last one.
 #[derive(Clone, Copy)]
-struct Case {
+pub(crate) struct Case {
     /// The end of a link that comes before, if there is one.
     first: Option<End>,
     end: End,
@@ -356,25 +369,11 @@ struct Case {
     is_followed: bool,
 }
 
-fn kept_row<Y: Yard, W: Wait + Drop, R: Wait>(
-    rt: &R,
-    alloc: Global,
-    blank: Blank<W>,
-    row: Case,
-) -> Option<Watch>
-    requires { (blank.queue ≡ Y.queue 7) × (blank.copy ≡ Y.copy 7) }
-{
-    match blank.ends::<Y>(alloc, 7) {
-        Ok(ends) => Desk::new(alloc, ends, true).goes_through(rt, alloc, row),
-        Err(_) => None,
-    }
-}
-
 /// What is seen of such links.
-fn kept<R: Wait>(rt: &R, alloc: Global, row: Case) -> Option<Watch> {
-    match open(rt, alloc, 8, 1) {
-        Ok(blank) => kept_row::<Brand, _, _>(rt, alloc, blank, row),
-        Err(_) => None,
+fn kept<R: Wait + Abort>(rt: &R, alloc: Global, row: Case) -> Option<Watch> {
+    match tried(rt, alloc, 8, true, Trial::Goes(row)) {
+        Outcome::Seen(watch) => watch,
+        _ => None,
     }
 }
 
@@ -446,14 +445,11 @@ fn a_session_outlives_a_failing_stream(rt: HostRuntime) {
 
 /// All the bytes that the master reads over one link.
 fn most_bytes() -> usize {
-    let mut bytes = HEAD.len() + AUTH_S.len();
-    for (_, _, _, response) in orders_from(0) {
-        bytes = bytes.saturating_add(response.len());
-    }
-    for (request, _) in requests_from(0) {
-        bytes = bytes.saturating_add(request.len());
-    }
+    let responses = bytes_in(&RESPONSES);
+    let bytes = HEAD.len() + AUTH_S.len();
     bytes
+        .saturating_add(responses)
+        .saturating_add(bytes_in(&REQUESTS))
 }
 
 #[test]

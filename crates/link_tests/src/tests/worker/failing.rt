@@ -7,7 +7,7 @@ use super::super::hostile::payload;
 use super::super::watch::{End, Step, Watch};
 use super::super::{
     AGREED, ANSWER, ANSWER_ONE, ANSWER_THREE, ANSWER_TWO, AUTH_S, CLOSE, DONE, NEW, ORDER,
-    REQUESTS, RESUMED, Script, TRUE, push_requests, script_of,
+    REQUESTS, RESUMED, Script, TRUE, joined, pieces_from, push_all, script_of,
 };
 use super::{Bench, Zeros};
 use bm_lines::Letter;
@@ -279,7 +279,7 @@ static SECOND: [&[u8]; 6] = [RESUMED, ORDER, ANSWER, ANSWER_ONE, ANSWER_TWO, ANS
 
 fn is_request(sent: &Sent, place: usize) -> bool {
     match REQUESTS.get(place) {
-        Some((frame, _)) => { payload(frame) == sent.bytes.as_slice() && sent.seq == place as u64 }
+        Some(frame) => { payload(frame) == sent.bytes.as_slice() && sent.seq == place as u64 }
         None => false,
     }
 }
@@ -298,9 +298,8 @@ fn are_requests(kept: &[Sent], first: usize) -> bool {
 /// What a worker writes over its second link behind the handshake, where this is the first request
 /// without an answer.
 fn said_from(alloc: Global, first: usize) -> Result<Vec<u8>, AllocError> {
-    let mut said = AUTH_S.to_vec(alloc)?;
-    said.extend_from_slice(DONE)?;
-    push_requests(&mut said, first)?;
+    let mut said = joined(alloc, &[AUTH_S, DONE])?;
+    push_all(&mut said, pieces_from(&REQUESTS, first))?;
     Ok(said)
 }
 
