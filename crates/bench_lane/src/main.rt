@@ -6,13 +6,12 @@
 mod drains;
 mod flow;
 mod polling;
+mod timed;
 mod updates;
 mod words;
 
 use bm_lane::open;
-use drains::drains;
-use flow::flow;
-use polling::{POLLING, Timing};
+use polling::POLLING;
 use std::marker::Brand;
 use std::process::ExitCode;
 use std::rt::Env;
@@ -20,7 +19,8 @@ use std::sync::Wait;
 use std::thread::Threads;
 use std::time::Clock;
 use std::{env, io};
-use words::{Job, USAGE, read_job};
+use timed::{Timing, timed};
+use words::{Job, USAGE, Work, read_job};
 
 /// How many items a lane's queue takes where they flow.
 const CAPACITY: usize = 64;
@@ -36,16 +36,10 @@ fn main(rt: HostRuntime) -> io::Result<ExitCode> {
         eprintln!(rt; "{USAGE}")?;
         return Ok(ExitCode::from(WRONG_WORDS));
     };
-    let timing = match job {
-        Job::Show { items } => timed_flow(&rt, items, 0),
-        Job::Flow { items, polling } => timed_flow(&rt, items, polling),
-        Job::Drain { items, polling } => timed_drains(&rt, items, polling),
+    let Some(timing) = over_lane(&rt, job) else {
+        return Ok(ExitCode::FAILURE);
     };
-    match (job, timing) {
-        (_, None) => return Ok(ExitCode::FAILURE),
-        (Job::Show { items }, Some(_)) => println!(rt; "{items} lines")?,
-        (_, Some(timing)) => println!(rt; "{} {}", timing.spent.as_nanos(), timing.looks)?,
-    }
+    tell(&rt, job, timing)?;
     Ok(ExitCode::SUCCESS)
 }
 
@@ -55,22 +49,24 @@ fn asked<R: Env + AllocGlobal>(rt: &R) -> Option<Job> {
     read_job(words.as_slice())
 }
 
-// Items from the reader's end to a viewer.
-fn timed_flow<R: Threads + Wait + Clock + AllocGlobal + Sync + Send + Copy + Drop>(
+/// What the work comes to over a lane of its own.
+fn over_lane<R: Threads + Wait + Clock + AllocGlobal + Sync + Send + Copy + Drop>(
     rt: &R,
-    items: u64,
-    polling: usize,
+    job: Job,
 ) -> Option<Timing> {
-    let blank = open(*rt, rt.alloc(), CAPACITY, 1 + POLLING).ok()?;
-    flow::<Brand, R, R>(rt, rt.alloc(), blank, items, polling)
+    let blank = match job.work {
+        Work::Show | Work::Flow => open(*rt, rt.alloc(), CAPACITY, 1 + POLLING),
+        Work::Drain => open(*rt, rt.alloc(), ROOM, POLLING),
+    };
+    match blank {
+        Ok(blank) => timed::<Brand, R>(rt, rt.alloc(), blank, job),
+        Err(_) => None,
+    }
 }
 
-// Drains of items that lie ready.
-fn timed_drains<R: Threads + Wait + Clock + AllocGlobal + Sync + Send + Copy + Drop>(
-    rt: &R,
-    items: u64,
-    polling: usize,
-) -> Option<Timing> {
-    let blank = open(*rt, rt.alloc(), ROOM, POLLING).ok()?;
-    drains::<Brand, R, R>(rt, rt.alloc(), blank, items, polling)
+fn tell<R: Print>(rt: &R, job: Job, timing: Timing) -> io::Result<()> {
+    match job.work {
+        Work::Show => println!(rt; "{} lines", job.items),
+        Work::Flow | Work::Drain => println!(rt; "{} {}", timing.spent.as_nanos(), timing.looks),
+    }
 }

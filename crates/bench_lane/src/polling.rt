@@ -5,21 +5,13 @@ use bm_lane::{Viewer, Yard};
 use std::sync::Wait;
 use std::sync::atomic::{AtomicBool, AtomicU64, Ordering};
 use std::thread;
-use std::time::Duration;
+use std::thread::Threads;
 
 /// How many viewers of a lane may read all the time.
 pub const POLLING: usize = 2;
 
 /// How many lines a viewer asks for at once.
 pub const LINES: u64 = 100;
-
-/// What work came to.
-#[derive(Clone, Copy)]
-pub struct Timing {
-    pub spent: Duration,
-    /// How often the viewers that read all the time have looked.
-    pub looks: u64,
-}
 
 /// What the threads tell each other.
 #[derive(Drop)]
@@ -48,14 +40,15 @@ impl Marks {
         self.ended.load(Ordering::SeqCst)
     }
 
+    /// How often the viewers that read all the time have looked.
     pub fn looks(&self) -> u64 {
         self.looks.load(Ordering::SeqCst)
     }
 
     /// Waits until so many viewers read.
-    pub fn wait_for<R: Wait>(&self, rt: &R, viewers: u64) {
+    pub fn wait_for<R: Wait>(&self, rt: &R, viewers: usize) {
         for _ in rt.forever() {
-            if self.begun.load(Ordering::SeqCst) >= viewers {
+            if self.begun.load(Ordering::SeqCst) >= viewers as u64 {
                 return;
             }
             thread::yield_now();
@@ -63,9 +56,8 @@ impl Marks {
     }
 }
 
-/// Reads on from what was read, again and again, until all threads are to end.
-pub fn poll<Y: Yard, R: Wait>(rt: &R, viewer: Viewer<Y>, marks: &Marks) {
-    let mut viewer = viewer;
+// Reads on from what was read, again and again, until all threads are to end.
+fn poll<Y: Yard, R: Wait>(rt: &R, viewer: &mut Viewer<Y>, marks: &Marks) {
     let mut lines: u64 = 0;
     let mut looks: u64 = 0;
     marks.begun.fetch_add(1, Ordering::SeqCst);
@@ -79,4 +71,13 @@ pub fn poll<Y: Yard, R: Wait>(rt: &R, viewer: Viewer<Y>, marks: &Marks) {
         looks = looks.saturating_add(1);
     }
     marks.looks.fetch_add(looks, Ordering::SeqCst);
+}
+
+/// Lets the viewers read until all threads are to end, each in a thread of its own.
+pub fn poll_all<Y: Yard + Send + Sync, R: Threads + Wait + Sync>(
+    rt: &R,
+    viewers: &mut [Viewer<Y>],
+    marks: &Marks,
+) {
+    thread::for_each_mut(rt, viewers, POLLING, &|_, viewer| poll(rt, viewer, marks));
 }

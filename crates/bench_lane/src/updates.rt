@@ -10,13 +10,8 @@ use std::thread;
 /// The log of all updates.
 pub const LOG: &str = STDIO;
 
-fn update(alloc: Global, seq: u64) -> Result<Event, AllocError> {
-    let mut parcel = Parcel::new(alloc);
-    let Some(name) = LogName::new(alloc, LOG)? else {
-        return Err(AllocError);
-    };
-    let text = format!(in alloc; "line {seq} of the work\n")?;
-    parcel.add(&name, Letter::O, text.as_str())?;
+fn update(alloc: Global, seq: u64, line: &str) -> Result<Event, AllocError> {
+    let parcel = Parcel::of_str(alloc, LogName::stdio(), Letter::O, line)?;
     Ok(Event::In(
         seq,
         Body::Update {
@@ -25,6 +20,12 @@ fn update(alloc: Global, seq: u64) -> Result<Event, AllocError> {
             rc: None,
         },
     ))
+}
+
+// An update by a line that has its number.
+fn numbered(alloc: Global, seq: u64) -> Result<Event, AllocError> {
+    let line = format!(in alloc; "line {seq} of the work\n")?;
+    update(alloc, seq, line.as_str())
 }
 
 // Hears the event, again as long as the lane is busy.
@@ -41,6 +42,14 @@ fn hear_at_last<Y: Yard, R: Wait>(rt: &R, reader: &mut ReaderEnd<Y>, event: Even
     unreachable!()
 }
 
+// Hears the update with the number.
+fn hear<Y: Yard, R: Wait>(rt: &R, alloc: Global, reader: &mut ReaderEnd<Y>, seq: u64) -> bool {
+    match numbered(alloc, seq) {
+        Ok(event) => hear_at_last(rt, reader, event),
+        Err(_) => false,
+    }
+}
+
 /// Starts a command, and hears an update of it for each item. It answers whether all were taken.
 pub fn hear_all<Y: Yard, R: Wait>(
     rt: &R,
@@ -52,10 +61,7 @@ pub fn hear_all<Y: Yard, R: Wait>(
         return false;
     }
     for seq in 0..items {
-        let Ok(event) = update(alloc, seq) else {
-            return false;
-        };
-        if !hear_at_last(rt, reader, event) {
+        if !hear(rt, alloc, reader, seq) {
             return false;
         }
     }

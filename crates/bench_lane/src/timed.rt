@@ -1,0 +1,96 @@
+//! The work that is timed, beside viewers that read all the time.
+ghost use Rattle.std.specs.Prelude.{◌≡◌};
+
+use crate::drains::drains;
+use crate::flow::flow;
+use crate::polling::{Marks, poll_all};
+use crate::updates::hear_all;
+use crate::words::{Job, Work};
+use bm_lane::{Blank, Ends, ReaderEnd, Viewer, WriterEnd, Yard};
+use std::alloc::Global;
+use std::sync::Wait;
+use std::thread::{Threads, join};
+use std::time::{Clock, Duration};
+
+/// What work came to.
+#[derive(Clone, Copy)]
+pub struct Timing {
+    pub spent: Duration,
+    /// How often the viewers that read all the time have looked.
+    pub looks: u64,
+}
+
+// The time of the work, once the other viewers read. All threads are to end then.
+fn work<Y: Yard + Send + Sync, R: Threads + Wait + Clock + Sync + Send + Drop>(
+    rt: &R,
+    alloc: Global,
+    reader: &mut ReaderEnd<Y>,
+    writer: &mut WriterEnd<Y, R>,
+    viewers: &mut [Viewer<Y>],
+    job: Job,
+    marks: &Marks,
+) -> Option<Duration> {
+    marks.wait_for(rt, job.polling);
+    let spent = match (job.work, viewers.first_mut()) {
+        (Work::Drain, _) => drains(rt, writer),
+        (_, Some(viewer)) => flow(rt, alloc, reader, writer, viewer, job.items, marks),
+        (_, None) => None,
+    };
+    marks.end();
+    spent
+}
+
+fn beside<Y: Yard + Send + Sync, R: Threads + Wait + Clock + Sync + Send + Drop>(
+    rt: &R,
+    alloc: Global,
+    ends: &mut Ends<Y, R>,
+    job: Job,
+) -> Option<Timing> {
+    let Ends {
+        reader,
+        writer,
+        viewers,
+    } = ends;
+    let (polling, others) = viewers.as_mut_slice().split_at_mut_checked(job.polling)?;
+    let marks = Marks::new();
+    let shared = &marks;
+    let ((), spent) = join(
+        rt,
+        || poll_all(rt, polling, shared),
+        || work(rt, alloc, reader, writer, others, job, shared),
+    );
+    match spent {
+        Some(spent) => Some(Timing {
+            spent,
+            looks: marks.looks(),
+        }),
+        None => None,
+    }
+}
+
+// Whether the items lie ready, where they are to.
+fn is_ready<Y: Yard, R: Wait>(rt: &R, alloc: Global, reader: &mut ReaderEnd<Y>, job: Job) -> bool {
+    match job.work {
+        Work::Drain => hear_all(rt, alloc, reader, job.items),
+        Work::Show | Work::Flow => true,
+    }
+}
+
+/// What the work comes to over a lane, or None where something was refused.
+pub fn timed<Y: Yard + Send + Sync, R: Threads + Wait + Clock + Sync + Send + Drop>(
+    rt: &R,
+    alloc: Global,
+    blank: Blank<R>,
+    job: Job,
+) -> Option<Timing>
+    requires { (blank.queue ≡ Y.queue 0) × (blank.copy ≡ Y.copy 0) }
+{
+    let Ok(mut ends) = blank.ends::<Y>(alloc, 0) else {
+        return None;
+    };
+    if is_ready(rt, alloc, &mut ends.reader, job) {
+        beside(rt, alloc, &mut ends, job)
+    } else {
+        None
+    }
+}
