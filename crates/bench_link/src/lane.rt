@@ -1,20 +1,36 @@
 //! Updates through a lane alone: from the bytes of each to those of its answer.
-ghost use Rattle.std.specs.Prelude.{◌≡◌};
 
-use crate::messages::push_update;
-use bm_lane::{Blank, Drained, Ends, ReaderEnd, WriterEnd, Yard};
+use crate::messages::{UPDATE_BYTES, updates_alone};
+use bm_lane::{Drained, Ends, HearRefusal, ReaderEnd, Yard};
 use bm_msg::NUMBER_LIMIT;
 use bm_session::{Event, Reply};
 use bm_value::decode_whole;
 use bumpalo::Bump;
-use std::alloc::{AllocError, Global};
+use std::alloc::Global;
 use std::sync::Wait;
 use std::time::{Clock, Duration, Instant};
 
 /// The event that bytes are, by a tree in the arena that is gone when the call returns.
 fn event_from(alloc: Global, arena: &Bump, bytes: &[u8]) -> Option<Event> {
-    let tree = decode_whole(arena, bytes).ok()?;
-    Event::of_value(alloc, &tree).ok()
+    match decode_whole(arena, bytes) {
+        Ok(tree) => Event::of_value(alloc, &tree).ok(),
+        Err(_) => None,
+    }
+}
+
+/// Whether the event was taken, and answered.
+fn is_answered<Y: Yard, R: Wait>(
+    rt: &R,
+    alloc: Global,
+    reader: &mut ReaderEnd<Y>,
+    event: Event,
+) -> bool {
+    match reader.hear(rt, event) {
+        Ok(Reply::Answer(seq, verdict)) => {
+            seq < NUMBER_LIMIT && verdict.answer(alloc, seq).is_ok()
+        }
+        _ => false,
+    }
 }
 
 /// Hears an update. Whether it was taken, and answered.
@@ -25,76 +41,66 @@ fn is_heard<Y: Yard, R: Wait>(
     reader: &mut ReaderEnd<Y>,
     bytes: &[u8],
 ) -> bool {
-    let Some(event) = event_from(alloc, arena, bytes) else {
-        return false;
-    };
-    if arena.reset().is_err() {
-        return false;
-    }
-    match reader.hear(rt, event) {
-        Ok(Reply::Answer(seq, verdict)) => {
-            seq < NUMBER_LIMIT && verdict.answer(alloc, seq).is_ok()
-        }
-        _ => false,
+    match event_from(alloc, arena, bytes) {
+        Some(event) => arena.reset().is_ok() && is_answered(rt, alloc, reader, event),
+        None => false,
     }
 }
 
 /// Hears all these updates, each of which is drained. Whether all were taken.
-fn hears<Y: Yard, W: Wait + Drop, R: Wait>(
+fn hears<Y: Yard, R: Wait + Drop>(
     rt: &R,
     alloc: Global,
-    reader: &mut ReaderEnd<Y>,
-    writer: &mut WriterEnd<Y, W>,
-    updates: &[Vec<u8>],
+    arena: &mut Bump,
+    ends: &mut Ends<Y, R>,
+    updates: &[u8],
 ) -> bool {
-    let mut arena = Bump::new(alloc);
-    for bytes in updates {
-        let is_heard = is_heard(rt, alloc, &mut arena, reader, bytes.as_slice());
-        if !is_heard || !matches!(writer.drain(), Ok(Drained::Took)) {
+    for bytes in updates.chunks_exact(UPDATE_BYTES) {
+        if !is_heard(rt, alloc, arena, &mut ends.reader, bytes)
+            || !matches!(ends.writer.drain(), Ok(Drained::Took))
+        {
             return false;
         }
     }
     true
 }
 
-/// The bytes of so many updates.
-fn updates_of(alloc: Global, count: u32) -> Result<Vec<Vec<u8>>, AllocError> {
-    let mut updates = Vec::new(alloc);
-    for seq in 0..count {
-        let mut bytes = Vec::new(alloc);
-        push_update(&mut bytes, seq)?;
-        updates.push(bytes)?;
+fn is_taken(reply: Result<Reply, (Event, HearRefusal)>) -> bool {
+    reply.is_ok()
+}
+
+/// Takes the lane up, and starts a command.
+fn starts<Y: Yard, R: Wait + Drop>(rt: &R, ends: &mut Ends<Y, R>) -> bool {
+    is_taken(ends.reader.up(rt)) && is_taken(ends.reader.go(rt)) && ends.writer.drain().is_ok()
+}
+
+fn time<Y: Yard, R: Wait + Clock + Drop>(
+    rt: &R,
+    alloc: Global,
+    ends: &mut Ends<Y, R>,
+    updates: &[u8],
+) -> Option<Duration> {
+    let start = Instant::now(rt).ok()?;
+    let mut arena = Bump::new(alloc);
+    if hears(rt, alloc, &mut arena, ends, updates) {
+        start.elapsed(rt).ok()
+    } else {
+        None
     }
-    Ok(updates)
 }
 
 /// The time of so many updates that a lane takes, answers and drains, or None where it didn't.
-pub fn through_lane<Y: Yard, W: Wait + Drop, R: Wait + Clock>(
+pub fn through_lane<Y: Yard, R: Wait + Clock + Drop>(
     rt: &R,
     alloc: Global,
-    blank: Blank<W>,
-    count: u32,
-) -> Option<Duration>
-    requires { (blank.queue ≡ Y.queue 0) × (blank.copy ≡ Y.copy 0) }
-{
-    let Ok(
-        Ends {
-            mut reader,
-            mut writer,
-            viewers: _,
-        },
-    ) = blank.ends::<Y>(alloc, 0)
-    else {
-        return None;
-    };
-    let updates = updates_of(alloc, count).ok()?;
-    if reader.up(rt).is_err() || reader.go(rt).is_err() {
+    ends: &mut Ends<Y, R>,
+    updates: u32,
+) -> Option<Duration> {
+    if !starts(rt, ends) {
         return None;
     }
-    // The item of the start.
-    writer.drain().ok()?;
-    let start = Instant::now(rt).ok()?;
-    let is_heard = hears(rt, alloc, &mut reader, &mut writer, updates.as_slice());
-    let spent = start.elapsed(rt).ok()?;
-    if is_heard { Some(spent) } else { None }
+    match updates_alone(alloc, updates) {
+        Ok(updates) => time(rt, alloc, ends, updates.as_slice()),
+        Err(_) => None,
+    }
 }

@@ -1,9 +1,8 @@
 //! Updates through a master's link into a lane.
-ghost use Rattle.std.specs.Prelude.{◌≡◌};
 
 use crate::messages::login_and_updates;
 use crate::tape::Tape;
-use bm_lane::{Blank, Drained, Ends, ReaderEnd, WriterEnd, Yard};
+use bm_lane::{Drained, Ends, Yard};
 use bm_lines::Text;
 use bm_link::{Carry, MasterLink, Turn, User};
 use bumpalo::Bump;
@@ -11,7 +10,7 @@ use std::alloc::{AllocError, Global};
 use std::sync::Wait;
 use std::time::{Clock, Duration, Instant};
 
-/// A link that is up, and what its calls are given.
+/// A link, and what its calls are given.
 #[derive(Drop)]
 struct Desk {
     link: MasterLink<Tape>,
@@ -20,77 +19,95 @@ struct Desk {
 }
 
 fn user(alloc: Global) -> Result<User, AllocError> {
-    Ok(User {
-        name: Text::from_str(alloc, "w0")?,
-        password: Text::from_str(alloc, "p")?,
-    })
+    let name = Text::from_str(alloc, "w0")?;
+    let password = Text::from_str(alloc, "p")?;
+    Ok(User { name, password })
 }
 
 impl Desk {
-    /// A link over the stream that took this lane up, and started a command.
-    fn new<Y: Yard, R: Wait>(
-        rt: &R,
-        alloc: Global,
-        tape: Tape,
-        reader: &mut ReaderEnd<Y>,
-    ) -> Option<Desk> {
-        let user = user(alloc).ok()?;
-        let mut arena = Bump::new(alloc);
-        let mut carry = Carry::new(alloc, false);
-        let mut link = MasterLink::accept(alloc, tape).ok()?;
-        link.login(alloc, &mut arena, &[user]).ok()?;
-        link.attach(rt, alloc, reader, &mut carry).ok()?;
-        link.start(rt, alloc, reader, &mut carry, &[]).ok()?;
-        Some(Desk { link, carry, arena })
+    /// Whether the worker logs in.
+    fn logs_in(&mut self, alloc: Global) -> bool {
+        match user(alloc) {
+            Ok(user) => self.link.login(alloc, &mut self.arena, &[user]).is_ok(),
+            Err(_) => false,
+        }
     }
 
-    /// Hears so many updates, each of which is drained. Whether all were heard.
-    fn hears<Y: Yard, W: Wait + Drop, R: Wait>(
+    /// Takes the lane up, and starts a command.
+    fn starts<Y: Yard, R: Wait + Drop>(
         &mut self,
         rt: &R,
         alloc: Global,
-        reader: &mut ReaderEnd<Y>,
-        writer: &mut WriterEnd<Y, W>,
+        ends: &mut Ends<Y, R>,
+    ) -> bool {
+        let Desk { link, carry, .. } = self;
+        let reader = &mut ends.reader;
+        link.attach(rt, alloc, reader, carry).is_ok()
+            && link.start(rt, alloc, reader, carry, &[]).is_ok()
+            && ends.writer.drain().is_ok()
+    }
+
+    /// Hears so many updates, each of which is drained. Whether all were heard.
+    fn hears<Y: Yard, R: Wait + Drop>(
+        &mut self,
+        rt: &R,
+        alloc: Global,
+        ends: &mut Ends<Y, R>,
         updates: u32,
     ) -> bool {
+        let Desk { link, carry, arena } = self;
         for _ in 0..updates {
-            let turn = self
-                .link
-                .turn(rt, alloc, &mut self.arena, reader, &mut self.carry);
-            if !matches!(turn, Ok(Turn::Heard)) || !matches!(writer.drain(), Ok(Drained::Took)) {
+            let turn = link.turn(rt, alloc, arena, &mut ends.reader, carry);
+            if !matches!(turn, Ok(Turn::Heard))
+                || !matches!(ends.writer.drain(), Ok(Drained::Took))
+            {
                 return false;
             }
         }
         true
     }
+
+    fn time<Y: Yard, R: Wait + Clock + Drop>(
+        &mut self,
+        rt: &R,
+        alloc: Global,
+        ends: &mut Ends<Y, R>,
+        updates: u32,
+    ) -> Option<Duration> {
+        let start = Instant::now(rt).ok()?;
+        if self.hears(rt, alloc, ends, updates) {
+            start.elapsed(rt).ok()
+        } else {
+            None
+        }
+    }
+}
+
+/// A link over a stream that gives a login and so many updates.
+fn desk_of(alloc: Global, updates: u32) -> Option<Desk> {
+    let tape = login_and_updates(alloc, updates).ok()?;
+    match MasterLink::accept(alloc, tape) {
+        Ok(link) => Some(Desk {
+            link,
+            carry: Carry::new(alloc, false),
+            arena: Bump::new(alloc),
+        }),
+        Err(_) => None,
+    }
 }
 
 /// The time of so many updates that come to a link, are taken by its lane, answered and drained, or
 /// None where one wasn't.
-pub fn through_link<Y: Yard, W: Wait + Drop, R: Wait + Clock>(
+pub fn through_link<Y: Yard, R: Wait + Clock + Drop>(
     rt: &R,
     alloc: Global,
-    blank: Blank<W>,
+    ends: &mut Ends<Y, R>,
     updates: u32,
-) -> Option<Duration>
-    requires { (blank.queue ≡ Y.queue 0) × (blank.copy ≡ Y.copy 0) }
-{
-    let Ok(
-        Ends {
-            mut reader,
-            mut writer,
-            viewers: _,
-        },
-    ) = blank.ends::<Y>(alloc, 0)
-    else {
-        return None;
-    };
-    let tape = login_and_updates(alloc, updates).ok()?;
-    let mut desk = Desk::new(rt, alloc, tape, &mut reader)?;
-    // The item of the start.
-    writer.drain().ok()?;
-    let start = Instant::now(rt).ok()?;
-    let is_heard = desk.hears(rt, alloc, &mut reader, &mut writer, updates);
-    let spent = start.elapsed(rt).ok()?;
-    if is_heard { Some(spent) } else { None }
+) -> Option<Duration> {
+    let mut desk = desk_of(alloc, updates)?;
+    if desk.logs_in(alloc) && desk.starts(rt, alloc, ends) {
+        desk.time(rt, alloc, ends, updates)
+    } else {
+        None
+    }
 }

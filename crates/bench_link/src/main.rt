@@ -3,6 +3,8 @@
 //! the link answered.
 #![tactic(auto)]
 
+ghost use Rattle.std.specs.Prelude.{◌≡◌};
+
 mod lane;
 mod link;
 mod messages;
@@ -10,10 +12,11 @@ mod plain;
 mod tape;
 mod words;
 
-use bm_lane::open;
+use bm_lane::{Blank, Ends, Yard, open};
 use lane::through_lane;
 use link::through_link;
 use plain::through_socket;
+use std::alloc::Global;
 use std::marker::Brand;
 use std::process::ExitCode;
 use std::rt::Env;
@@ -33,29 +36,65 @@ fn main(rt: HostRuntime) -> io::Result<ExitCode> {
         eprintln!(rt; "{USAGE}")?;
         return Ok(ExitCode::from(WRONG_WORDS));
     };
-    let spent = match job.work {
-        Work::Plain => through_socket(&rt, rt.alloc(), job.updates),
-        Work::Show | Work::Link | Work::Lane => over_lane(&rt, job),
+    let Some(spent) = time(&rt, job) else {
+        return Ok(ExitCode::FAILURE);
     };
-    match (job.work, spent) {
-        (_, None) => return Ok(ExitCode::FAILURE),
-        (Work::Show, Some(_)) => println!(rt; "{} answered", job.updates)?,
-        (_, Some(spent)) => println!(rt; "{}", spent.as_nanos())?,
-    }
+    tell(&rt, job, spent)?;
     Ok(ExitCode::SUCCESS)
 }
 
 /// What the command line asks for.
 fn asked<R: Env + AllocGlobal>(rt: &R) -> Option<Job> {
-    let words: Vec<String> = env::args(rt).ok()?.collect(rt.alloc()).ok()?;
-    read_job(words.as_slice())
+    match env::args(rt) {
+        Ok(words) => match words.collect::<Vec<String>>(rt.alloc()) {
+            Ok(words) => read_job(words.as_slice()),
+            Err(_) => None,
+        },
+        Err(_) => None,
+    }
+}
+
+/// The time of the work.
+fn time<R: Wait + Clock + AllocGlobal + Copy + Drop>(rt: &R, job: Job) -> Option<Duration> {
+    match job.work {
+        Work::Plain => through_socket(rt, rt.alloc(), job.updates),
+        Work::Show | Work::Link | Work::Lane => over_lane(rt, job),
+    }
 }
 
 /// The time of work that needs a lane.
 fn over_lane<R: Wait + Clock + AllocGlobal + Copy + Drop>(rt: &R, job: Job) -> Option<Duration> {
-    let blank = open(*rt, rt.alloc(), CAPACITY, 1).ok()?;
+    match open(*rt, rt.alloc(), CAPACITY, 1) {
+        Ok(blank) => between_ends::<Brand, R>(rt, rt.alloc(), blank, job),
+        Err(_) => None,
+    }
+}
+
+fn ends_of<Y: Yard, R: Wait + Drop>(alloc: Global, blank: Blank<R>) -> Option<Ends<Y, R>>
+    requires { (blank.queue ≡ Y.queue 0) × (blank.copy ≡ Y.copy 0) }
+{
+    blank.ends::<Y>(alloc, 0).ok()
+}
+
+/// The time of work between the ends of a lane.
+fn between_ends<Y: Yard, R: Wait + Clock + Drop>(
+    rt: &R,
+    alloc: Global,
+    blank: Blank<R>,
+    job: Job,
+) -> Option<Duration>
+    requires { (blank.queue ≡ Y.queue 0) × (blank.copy ≡ Y.copy 0) }
+{
+    let mut ends = ends_of::<Y, R>(alloc, blank)?;
     match job.work {
-        Work::Lane => through_lane::<Brand, R, R>(rt, rt.alloc(), blank, job.updates),
-        _ => through_link::<Brand, R, R>(rt, rt.alloc(), blank, job.updates),
+        Work::Lane => through_lane(rt, alloc, &mut ends, job.updates),
+        _ => through_link(rt, alloc, &mut ends, job.updates),
+    }
+}
+
+fn tell<R: Print>(rt: &R, job: Job, spent: Duration) -> io::Result<()> {
+    match job.work {
+        Work::Show => println!(rt; "{} answered", job.updates),
+        Work::Link | Work::Plain | Work::Lane => println!(rt; "{}", spent.as_nanos()),
     }
 }
