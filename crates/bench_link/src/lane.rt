@@ -25,8 +25,8 @@ fn is_answered<Y: Yard, R: Wait>(
     reader: &mut ReaderEnd<Y>,
     event: Event,
 ) -> bool {
-    match reader.hear(rt, event) {
-        Ok(Reply::Answer(seq, verdict)) => {
+    match reader.hear(rt, event).ok() {
+        Some(Reply::Answer(seq, verdict)) => {
             seq < NUMBER_LIMIT && verdict.answer(alloc, seq).is_ok()
         }
         _ => false,
@@ -41,10 +41,11 @@ fn is_heard<Y: Yard, R: Wait>(
     reader: &mut ReaderEnd<Y>,
     bytes: &[u8],
 ) -> bool {
-    match event_from(alloc, arena, bytes) {
-        Some(event) => arena.reset().is_ok() && is_answered(rt, alloc, reader, event),
+    let is_heard = match event_from(alloc, arena, bytes) {
+        Some(event) => is_answered(rt, alloc, reader, event),
         None => false,
-    }
+    };
+    arena.reset().is_ok() && is_heard
 }
 
 /// Hears all these updates, each of which is drained. Whether all were taken.
@@ -66,7 +67,7 @@ fn hears<Y: Yard, R: Wait + Drop>(
 }
 
 fn is_taken(reply: Result<Reply, (Event, HearRefusal)>) -> bool {
-    reply.is_ok()
+    reply.ok().is_some()
 }
 
 /// Takes the lane up, and starts a command.

@@ -81,18 +81,34 @@ impl Desk {
             None
         }
     }
+
+    /// Logs the worker in, takes the lane up and starts a command, and then answers the time of so
+    /// many updates, or None where something was refused.
+    fn run<Y: Yard, R: Wait + Clock + Drop>(
+        &mut self,
+        rt: &R,
+        alloc: Global,
+        ends: &mut Ends<Y, R>,
+        updates: u32,
+    ) -> Option<Duration> {
+        if self.logs_in(alloc) && self.starts(rt, alloc, ends) {
+            self.time(rt, alloc, ends, updates)
+        } else {
+            None
+        }
+    }
 }
 
 /// A link over a stream that gives a login and so many updates.
 fn desk_of(alloc: Global, updates: u32) -> Option<Desk> {
     let tape = login_and_updates(alloc, updates).ok()?;
-    match MasterLink::accept(alloc, tape) {
-        Ok(link) => Some(Desk {
+    match MasterLink::accept(alloc, tape).ok() {
+        Some(link) => Some(Desk {
             link,
             carry: Carry::new(alloc, false),
             arena: Bump::new(alloc),
         }),
-        Err(_) => None,
+        None => None,
     }
 }
 
@@ -104,10 +120,8 @@ pub fn through_link<Y: Yard, R: Wait + Clock + Drop>(
     ends: &mut Ends<Y, R>,
     updates: u32,
 ) -> Option<Duration> {
-    let mut desk = desk_of(alloc, updates)?;
-    if desk.logs_in(alloc) && desk.starts(rt, alloc, ends) {
-        desk.time(rt, alloc, ends, updates)
-    } else {
-        None
+    match desk_of(alloc, updates) {
+        Some(mut desk) => desk.run(rt, alloc, ends, updates),
+        None => None,
     }
 }

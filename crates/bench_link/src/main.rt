@@ -65,7 +65,7 @@ fn time<R: Wait + Clock + AllocGlobal + Copy + Drop>(rt: &R, job: Job) -> Option
 /// The time of work that needs a lane.
 fn over_lane<R: Wait + Clock + AllocGlobal + Copy + Drop>(rt: &R, job: Job) -> Option<Duration> {
     match open(*rt, rt.alloc(), CAPACITY, 1) {
-        Ok(blank) => between_ends::<Brand, R>(rt, rt.alloc(), blank, job),
+        Ok(blank) => over_blank::<Brand, R>(rt, rt.alloc(), blank, job),
         Err(_) => None,
     }
 }
@@ -80,15 +80,26 @@ fn ends_of<Y: Yard, R: Wait + Drop>(alloc: Global, blank: Blank<R>) -> Option<En
 fn between_ends<Y: Yard, R: Wait + Clock + Drop>(
     rt: &R,
     alloc: Global,
+    ends: &mut Ends<Y, R>,
+    job: Job,
+) -> Option<Duration> {
+    match job.work {
+        Work::Lane => through_lane(rt, alloc, ends, job.updates),
+        Work::Show | Work::Link | Work::Plain => through_link(rt, alloc, ends, job.updates),
+    }
+}
+
+fn over_blank<Y: Yard, R: Wait + Clock + Drop>(
+    rt: &R,
+    alloc: Global,
     blank: Blank<R>,
     job: Job,
 ) -> Option<Duration>
     requires { (blank.queue ≡ Y.queue 0) × (blank.copy ≡ Y.copy 0) }
 {
-    let mut ends = ends_of::<Y, R>(alloc, blank)?;
-    match job.work {
-        Work::Lane => through_lane(rt, alloc, &mut ends, job.updates),
-        _ => through_link(rt, alloc, &mut ends, job.updates),
+    match ends_of::<Y, R>(alloc, blank) {
+        Some(mut ends) => between_ends(rt, alloc, &mut ends, job),
+        None => None,
     }
 }
 

@@ -10,7 +10,7 @@ use tungstenite::{Message, NoMask, WebSocket, accept};
 const ANSWER: &[u8] = b"\x83\xaaseq_number\0\xa2op\xa8response\xa6result\xc0";
 
 fn reads(socket: &mut WebSocket<Tape, NoMask>) -> bool {
-    matches!(socket.read(), Ok(Message::Binary(_)))
+    matches!(socket.read().ok(), Some(Message::Binary(_)))
 }
 
 fn answers(alloc: Global, socket: &mut WebSocket<Tape, NoMask>) -> bool {
