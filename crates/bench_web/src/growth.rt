@@ -1,10 +1,10 @@
 //! A writer that drains all the time.
 
-use crate::updates::{MOST_UPDATES, line, shows};
-use bm_lane::{ReaderEnd, WriterEnd, Yard};
+use crate::updates::{MOST_UPDATES, show_lines};
+use bm_lane::{Ends, Yard};
 use std::alloc::Global;
 use std::sync::Wait;
-use std::sync::atomic::{AtomicBool, Ordering};
+use std::sync::atomic::AtomicBool;
 use std::time::{Clock, Duration, Instant};
 
 /// What a writer did.
@@ -16,25 +16,17 @@ pub struct Growth {
 
 /// Hears updates of command 0, numbered from `first` on, and drains each, until the flag is set or
 /// the lane has no room for more. None where something was refused.
-pub fn grow<Y: Yard, W: Wait + Drop, R: Wait + Clock>(
+pub fn grow<Y: Yard, R: Wait + Clock + Drop>(
     rt: &R,
     alloc: Global,
-    reader: &mut ReaderEnd<Y>,
-    writer: &mut WriterEnd<Y, W>,
+    ends: &mut Ends<Y, R>,
     first: u64,
     is_ended: &AtomicBool,
 ) -> Option<Growth> {
     let start = Instant::now(rt).ok()?;
-    let mut drains: u64 = 0;
-    for seq in first..MOST_UPDATES {
-        if is_ended.load(Ordering::SeqCst) {
-            break;
-        }
-        if !shows(rt, reader, writer, line(alloc, seq)) {
-            return None;
-        }
-        drains = drains.saturating_add(1);
+    let drains = show_lines(rt, alloc, ends, first, MOST_UPDATES, is_ended)?;
+    match start.elapsed(rt) {
+        Ok(spent) => Some(Growth { drains, spent }),
+        Err(_) => None,
     }
-    let spent = start.elapsed(rt).ok()?;
-    Some(Growth { drains, spent })
 }

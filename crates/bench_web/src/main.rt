@@ -5,18 +5,24 @@
 #![tactic(auto)]
 
 mod growth;
-mod same;
+mod served;
 mod serving;
 mod updates;
 mod words;
 
 use bm_lane::open;
+use growth::Growth;
 use serving::{Edges, work};
 use std::marker::Brand;
-use std::net::TcpListener;
+use std::net::{Net, TcpListener};
 use std::process::ExitCode;
+use std::random::RandomSource;
 use std::rt::Env;
+use std::sync::Wait;
+use std::thread::Threads;
+use std::time::Clock;
 use std::{env, io};
+use tokio::sync::oneshot;
 use words::{Job, USAGE, read_job};
 
 /// How many items the lane's queue takes.
@@ -30,22 +36,54 @@ fn main(rt: HostRuntime) -> io::Result<ExitCode> {
         eprintln!(rt; "{USAGE}")?;
         return Ok(ExitCode::from(WRONG_WORDS));
     };
+    let Ok((stop, stopped)) = oneshot::channel(rt.alloc()) else {
+        return Ok(ExitCode::FAILURE);
+    };
     let listener = TcpListener::bind(&rt, "127.0.0.1:0")?;
-    println!(rt; "listening {}", listener.local_addr()?)?;
-    let Ok(blank) = open(rt, rt.alloc(), CAPACITY, 1) else {
-        return Ok(ExitCode::FAILURE);
+    tell_address(&rt, &listener)?;
+    let edges = Edges {
+        listener,
+        input: rt.stdin(),
+        stop,
+        stopped,
     };
-    let input = rt.stdin();
-    let edges = Edges { listener, input };
-    let Some(growth) = work::<Brand, _>(rt, blank, edges, job) else {
-        return Ok(ExitCode::FAILURE);
-    };
-    println!(rt; "{} {}", growth.drains, growth.spent.as_nanos())?;
-    Ok(ExitCode::SUCCESS)
+    tell(&rt, over_lane(rt, edges, job))
 }
 
 /// What the command line asks for.
 fn asked<R: Env + AllocGlobal>(rt: &R) -> Option<Job> {
-    let words: Vec<String> = env::args(rt).ok()?.collect(rt.alloc()).ok()?;
-    read_job(words.as_slice())
+    match env::args(rt) {
+        Ok(words) => match words.collect::<Vec<String>>(rt.alloc()) {
+            Ok(words) => read_job(words.as_slice()),
+            Err(_) => None,
+        },
+        Err(_) => None,
+    }
+}
+
+fn tell_address<R: Print>(rt: &R, listener: &TcpListener) -> io::Result<()> {
+    let address = listener.local_addr()?;
+    println!(rt; "listening {address}")
+}
+
+/// Does what is asked over a lane.
+fn over_lane<R>(rt: R, edges: Edges, job: Job) -> Option<Growth>
+where
+    R: Wait + Threads + Clock + RandomSource + AllocGlobal + Net + Copy + Drop + Send + Sync,
+{
+    match open(rt, rt.alloc(), CAPACITY, 1) {
+        Ok(blank) => work::<Brand, R>(rt, blank, edges, job),
+        Err(_) => None,
+    }
+}
+
+// Prints what a lane's writer did, if that went well.
+fn tell<R: Print>(rt: &R, growth: Option<Growth>) -> io::Result<ExitCode> {
+    match growth {
+        Some(growth) => {
+            println!(rt; "{} {}", growth.drains, growth.spent.as_nanos())?;
+            Ok(ExitCode::SUCCESS)
+        }
+        None => Ok(ExitCode::FAILURE),
+    }
 }

@@ -1,15 +1,13 @@
 //! A lane or its bytes, served until there is no more input.
-ghost use Rattle.std.specs.Prelude.{◌≡◌, ◌<◌, length};
+ghost use Rattle.std.specs.Prelude.{◌≡◌, ◌<◌};
 
 use crate::growth::{Growth, grow};
-use crate::same::Same;
+use crate::served::{Served, served_by};
 use crate::updates::fill;
 use crate::words::{Job, Kind};
-use bm_http::Routes;
-use bm_lane::{Blank, Ends, ReaderEnd, Viewer, WriterEnd, Yard};
+use bm_lane::{Blank, Ends, Yard};
 use bm_serve::{Limits, Site, serve};
 use std::alloc::{AllocGlobal, Global};
-use std::io;
 use std::io::Stdin;
 use std::net::{Net, TcpListener};
 use std::random::RandomSource;
@@ -17,6 +15,7 @@ use std::sync::atomic::{AtomicBool, Ordering};
 use std::sync::{Arc, Wait};
 use std::thread::{Threads, join};
 use std::time::{Clock, Duration};
+use std::{io, mem};
 use tokio::sync::oneshot;
 
 /// How many threads serve connections.
@@ -25,23 +24,13 @@ const WORKERS: usize = 2;
 /// How many connections are open at once.
 const PLACES: usize = 64;
 
-/// The whole log of command 0.
-const TARGET: &str = "/api/v2/logs/0/contents";
-
-/// Where the server listens, and what says when it is to stop, by its end.
+/// Where the server listens, what says when it is to stop, by its end, and what stops it.
 #[derive(Drop)]
 pub struct Edges {
     pub listener: TcpListener,
     pub input: Stdin,
-}
-
-/// What is served.
-#[derive(Drop)]
-enum Served<Y: Yard> {
-    /// What viewers see.
-    Lane(Arc<Site<Y>>),
-    /// Bytes that are the same for each request.
-    Same(Arc<Same>),
+    pub stop: oneshot::Sender<()>,
+    pub stopped: oneshot::Receiver<()>,
 }
 
 fn limits() -> Limits
@@ -55,7 +44,7 @@ fn limits() -> Limits
 }
 
 // Whether serving what viewers see could begin.
-fn serve_lane<Y: Yard + Send + Sync, R>(
+fn serves_lane<Y: Yard + Send + Sync, R>(
     rt: R,
     listener: TcpListener,
     site: Arc<Site<Y>>,
@@ -67,31 +56,19 @@ where
     serve(rt, limits(), listener, site, stopped).is_ok()
 }
 
-/// What is served over a listener, until when.
-#[derive(Drop)]
-struct Serving<R, Y: Yard> {
+// Whether serving could begin.
+fn serves<Y: Yard + Send + Sync, R>(
     rt: R,
     listener: TcpListener,
     served: Served<Y>,
     stopped: oneshot::Receiver<()>,
-}
-
-impl<R, Y: Yard + Send + Sync> Serving<R, Y>
+) -> bool
 where
     R: Wait + Threads + Clock + RandomSource + AllocGlobal + Net + Copy + Send + Sync,
 {
-    // Whether serving could begin.
-    fn serve(self) -> bool {
-        let Serving {
-            rt,
-            listener,
-            served,
-            stopped,
-        } = self;
-        match served {
-            Served::Lane(site) => serve_lane(rt, listener, site, stopped),
-            Served::Same(site) => serve(rt, limits(), listener, site, stopped).is_ok(),
-        }
+    match served {
+        Served::Lane(site) => serves_lane(rt, listener, site, stopped),
+        Served::Same(same) => serve(rt, limits(), listener, same, stopped).is_ok(),
     }
 }
 
@@ -113,21 +90,16 @@ where
     R: Wait + Threads + Clock + RandomSource + AllocGlobal + Net + Copy + Send + Sync,
 {
     let alloc = rt.alloc();
-    let Edges { listener, input } = edges;
-    let Ok((stop, stopped)) = oneshot::channel(alloc) else {
-        is_ended.store(true, Ordering::SeqCst);
-        return false;
-    };
-    let serving = Serving {
-        rt,
+    let Edges {
         listener,
-        served,
+        input,
+        stop,
         stopped,
-    };
-    let (_, is_served) = join(
+    } = edges;
+    let ((), is_served) = join(
         &rt,
         move || stop_after(alloc, input, stop, is_ended),
-        move || serving.serve(),
+        move || serves(rt, listener, served, stopped),
     );
     is_served
 }
@@ -137,47 +109,57 @@ fn serve_beside<Y: Yard + Send + Sync, R>(
     rt: R,
     edges: Edges,
     served: Served<Y>,
-    reader: &mut ReaderEnd<Y>,
-    writer: &mut WriterEnd<Y, R>,
+    ends: &mut Ends<Y, R>,
     job: Job,
 ) -> Option<Growth>
 where
     R: Wait + Threads + Clock + RandomSource + AllocGlobal + Net + Copy + Drop + Send + Sync,
 {
-    let flag = AtomicBool::new(job.kind != Kind::Drain);
+    let flag = AtomicBool::new(!matches!(job.kind, Kind::Drain));
     let is_ended = &flag;
     let alloc = rt.alloc();
     let (growth, is_served) = join(
         &rt,
-        || grow(&rt, alloc, reader, writer, job.lines, is_ended),
+        || grow(&rt, alloc, ends, job.lines, is_ended),
         move || serve_until(rt, edges, served, is_ended),
     );
     if is_served { growth } else { None }
 }
 
-// The body with the whole log.
-fn body_of<Y: Yard>(alloc: Global, viewers: &mut [Viewer<Y>]) -> Option<Vec<u8>>
-    requires { 0 < length viewers.old }
+// Fills the lane, and makes what is served of it.
+fn filled<Y: Yard, R: Wait + Drop>(
+    rt: &R,
+    alloc: Global,
+    ends: &mut Ends<Y, R>,
+    job: Job,
+) -> Option<Served<Y>> {
+    if !fill(rt, alloc, ends, job.lines) {
+        return None;
+    }
+    let viewers = mem::replace(&mut ends.viewers, Vec::new(alloc));
+    served_by(rt, alloc, viewers, job.kind)
+}
+
+// Does what is asked, between the ends of a lane.
+fn serve_job<Y: Yard + Send + Sync, R>(
+    rt: R,
+    ends: &mut Ends<Y, R>,
+    edges: Edges,
+    job: Job,
+) -> Option<Growth>
+where
+    R: Wait + Threads + Clock + RandomSource + AllocGlobal + Net + Copy + Drop + Send + Sync,
 {
-    let routes = Routes::new(alloc).ok()?;
-    let answer = routes.answer(alloc, "GET", TARGET, viewers);
-    if answer.status == 200 {
-        Some(answer.body)
-    } else {
-        None
+    match filled(&rt, rt.alloc(), ends, job) {
+        Some(served) => serve_beside(rt, edges, served, ends, job),
+        None => None,
     }
 }
 
-// What viewers see, or, where that is asked, the bytes of their whole log.
-fn served_by<Y: Yard>(alloc: Global, mut viewers: Vec<Viewer<Y>>, kind: Kind) -> Option<Served<Y>>
-    requires { 0 < length viewers.items }
+fn ends_of<Y: Yard, R: Wait + Drop>(alloc: Global, blank: Blank<R>) -> Option<Ends<Y, R>>
+    requires { (blank.queue ≡ Y.queue 0) × (blank.copy ≡ Y.copy 0) }
 {
-    if kind == Kind::Same {
-        let body = body_of(alloc, viewers.as_mut_slice())?;
-        return Some(Served::Same(Arc::new(alloc, Same { body }).ok()?));
-    }
-    let site = Site::new(alloc, viewers).ok()?;
-    Some(Served::Lane(Arc::new(alloc, site).ok()?))
+    blank.ends::<Y>(alloc, 0).ok()
 }
 
 /// Does what is asked, over a lane, until the input ends: what its writer did meanwhile, or None
@@ -192,19 +174,8 @@ where
     R: Wait + Threads + Clock + RandomSource + AllocGlobal + Net + Copy + Drop + Send + Sync,
     requires { (blank.queue ≡ Y.queue 0) × (blank.copy ≡ Y.copy 0) }
 {
-    let alloc = rt.alloc();
-    let mut ends = blank.ends::<Y>(alloc, 0).ok()?;
-    if !fill(&rt, alloc, &mut ends, job.lines) {
-        return None;
+    match ends_of::<Y, R>(rt.alloc(), blank) {
+        Some(mut ends) => serve_job(rt, &mut ends, edges, job),
+        None => None,
     }
-    let Ends {
-        mut reader,
-        mut writer,
-        viewers,
-    } = ends;
-    if viewers.is_empty() {
-        return None;
-    }
-    let served = served_by(alloc, viewers, job.kind)?;
-    serve_beside(rt, edges, served, &mut reader, &mut writer, job)
 }

@@ -7,7 +7,7 @@ pub const USAGE: &str =
 const MOST_LINES: u64 = 100_000;
 
 /// What is served.
-#[derive(Clone, Copy, PartialEq)]
+#[derive(Clone, Copy)]
 pub enum Kind {
     /// A lane.
     Lane,
@@ -25,20 +25,31 @@ pub struct Job {
     pub lines: u64,
 }
 
+// What a word asks for.
+fn read_kind(word: &str) -> Option<Kind> {
+    match word {
+        "lane" => Some(Kind::Lane),
+        "drain" => Some(Kind::Drain),
+        "same" => Some(Kind::Same),
+        _ => None,
+    }
+}
+
+// How many lines a word asks for.
+fn read_lines(word: &str) -> Option<u64> {
+    match word.parse::<u64>() {
+        Ok(lines) if lines <= MOST_LINES => Some(lines),
+        _ => None,
+    }
+}
+
 /// Reads the words, of which the first is the program's name.
 pub fn read_job(words: &[String]) -> Option<Job> {
-    let [_, kind, lines] = words else {
-        return None;
-    };
-    let kind = match kind.as_str() {
-        "lane" => Kind::Lane,
-        "drain" => Kind::Drain,
-        "same" => Kind::Same,
-        _ => return None,
-    };
-    let lines = lines.parse::<u64>().ok()?;
-    if lines > MOST_LINES {
-        return None;
+    match words {
+        [_, kind, lines] => Some(Job {
+            kind: read_kind(kind.as_str())?,
+            lines: read_lines(lines.as_str())?,
+        }),
+        _ => None,
     }
-    Some(Job { kind, lines })
 }

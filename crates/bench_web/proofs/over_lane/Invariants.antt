@@ -1,4 +1,4 @@
-use Rattle.bench_web.proofs.main.Given as goal
+use Rattle.bench_web.proofs.over_lane.Given as goal
 
 abbrev pub ghosts-work : goal.ghosts-work
 ghosts-work g a = record { queue = λ lane. a.blank.queue; copy = λ lane. a.blank.copy }
