@@ -45,8 +45,13 @@ fn main(rt: HostRuntime) -> io::Result<ExitCode> {
 
 /// What the command line asks for.
 fn asked<R: Env + AllocGlobal>(rt: &R) -> Option<Job> {
-    let words: Vec<String> = env::args(rt).ok()?.collect(rt.alloc()).ok()?;
-    read_job(words.as_slice())
+    match env::args(rt) {
+        Ok(words) => match words.collect::<Vec<String>>(rt.alloc()) {
+            Ok(words) => read_job(words.as_slice()),
+            Err(_) => None,
+        },
+        Err(_) => None,
+    }
 }
 
 /// What the work comes to over a lane of its own.

@@ -76,6 +76,26 @@ fn is_ready<Y: Yard, R: Wait>(rt: &R, alloc: Global, reader: &mut ReaderEnd<Y>, 
     }
 }
 
+fn ends_of<Y: Yard, R: Wait + Drop>(alloc: Global, blank: Blank<R>) -> Option<Ends<Y, R>>
+    requires { (blank.queue ≡ Y.queue 0) × (blank.copy ≡ Y.copy 0) }
+{
+    blank.ends::<Y>(alloc, 0).ok()
+}
+
+// The work between the ends of a lane.
+fn between_ends<Y: Yard + Send + Sync, R: Threads + Wait + Clock + Sync + Send + Drop>(
+    rt: &R,
+    alloc: Global,
+    ends: &mut Ends<Y, R>,
+    job: Job,
+) -> Option<Timing> {
+    if is_ready(rt, alloc, &mut ends.reader, job) {
+        beside(rt, alloc, ends, job)
+    } else {
+        None
+    }
+}
+
 /// What the work comes to over a lane, or None where something was refused.
 pub fn timed<Y: Yard + Send + Sync, R: Threads + Wait + Clock + Sync + Send + Drop>(
     rt: &R,
@@ -85,12 +105,8 @@ pub fn timed<Y: Yard + Send + Sync, R: Threads + Wait + Clock + Sync + Send + Dr
 ) -> Option<Timing>
     requires { (blank.queue ≡ Y.queue 0) × (blank.copy ≡ Y.copy 0) }
 {
-    let Ok(mut ends) = blank.ends::<Y>(alloc, 0) else {
-        return None;
-    };
-    if is_ready(rt, alloc, &mut ends.reader, job) {
-        beside(rt, alloc, &mut ends, job)
-    } else {
-        None
+    match ends_of::<Y, R>(alloc, blank) {
+        Some(mut ends) => between_ends(rt, alloc, &mut ends, job),
+        None => None,
     }
 }

@@ -2,7 +2,7 @@
 
 use bm_lane::{HearRefusal, ReaderEnd, Yard};
 use bm_lines::{Letter, LogName, Parcel, STDIO};
-use bm_session::{Body, Event};
+use bm_session::{Body, Event, Reply};
 use std::alloc::{AllocError, Global};
 use std::sync::Wait;
 use std::thread;
@@ -50,6 +50,25 @@ fn hear<Y: Yard, R: Wait>(rt: &R, alloc: Global, reader: &mut ReaderEnd<Y>, seq:
     }
 }
 
+// Hears so many updates. It answers whether all were taken.
+fn hear_updates<Y: Yard, R: Wait>(
+    rt: &R,
+    alloc: Global,
+    reader: &mut ReaderEnd<Y>,
+    updates: u64,
+) -> bool {
+    for seq in 0..updates {
+        if !hear(rt, alloc, reader, seq) {
+            return false;
+        }
+    }
+    true
+}
+
+fn is_taken(reply: Result<Reply, (Event, HearRefusal)>) -> bool {
+    reply.ok().is_some()
+}
+
 /// Starts a command, and hears an update of it for each item. It answers whether all were taken.
 pub fn hear_all<Y: Yard, R: Wait>(
     rt: &R,
@@ -57,13 +76,5 @@ pub fn hear_all<Y: Yard, R: Wait>(
     reader: &mut ReaderEnd<Y>,
     items: u64,
 ) -> bool {
-    if reader.up(rt).is_err() || reader.go(rt).is_err() {
-        return false;
-    }
-    for seq in 0..items {
-        if !hear(rt, alloc, reader, seq) {
-            return false;
-        }
-    }
-    true
+    is_taken(reader.up(rt)) && is_taken(reader.go(rt)) && hear_updates(rt, alloc, reader, items)
 }
