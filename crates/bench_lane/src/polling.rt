@@ -6,12 +6,16 @@ use std::sync::Wait;
 use std::sync::atomic::{AtomicBool, AtomicU64, Ordering};
 use std::thread;
 use std::thread::Threads;
+use std::time::{Clock, Duration};
 
 /// How many viewers of a lane may read all the time.
 pub const POLLING: usize = 2;
 
 /// How many lines a viewer asks for at once.
 pub const LINES: u64 = 100;
+
+/// How many milliseconds viewers have to begin.
+const MOST_WAITS: u32 = 10_000;
 
 /// What the threads tell each other.
 #[derive(Drop)]
@@ -45,14 +49,16 @@ impl Marks {
         self.looks.load(Ordering::SeqCst)
     }
 
-    /// Waits until so many viewers read.
-    pub fn wait_for<R: Wait>(&self, rt: &R, viewers: usize) {
-        for _ in rt.forever() {
+    /// Waits until so many viewers read. The answer is whether they do: where no thread could be made
+    /// for one of them it never will.
+    pub fn wait_for<R: Wait + Clock>(&self, rt: &R, viewers: usize) -> bool {
+        for _ in 0..MOST_WAITS {
             if self.begun.load(Ordering::SeqCst) >= viewers as u64 {
-                return;
+                return true;
             }
-            thread::yield_now();
+            thread::sleep(rt, Duration::from_millis(1));
         }
+        false
     }
 }
 

@@ -20,7 +20,8 @@ pub struct Timing {
     pub looks: u64,
 }
 
-// The time of the work, once the other viewers read. All threads are to end then.
+// The time of the work, once the other viewers read, or None where one of them doesn't. All threads
+// are to end then.
 fn work<Y: Yard + Send + Sync, R: Threads + Wait + Clock + Sync + Send + Drop>(
     rt: &R,
     alloc: Global,
@@ -30,8 +31,8 @@ fn work<Y: Yard + Send + Sync, R: Threads + Wait + Clock + Sync + Send + Drop>(
     job: Job,
     marks: &Marks,
 ) -> Option<Duration> {
-    marks.wait_for(rt, job.polling);
     let spent = match (job.work, viewers.first_mut()) {
+        _ if !marks.wait_for(rt, job.polling) => None,
         (Work::Drain, _) => drains(rt, writer),
         (_, Some(viewer)) => flow(rt, alloc, reader, writer, viewer, job.items, marks),
         (_, None) => None,
