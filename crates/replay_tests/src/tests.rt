@@ -14,58 +14,78 @@ mod words;
 
 use bm_replay::replay_run;
 use std::alloc::{AllocError, Global};
+use std::io::Read;
 use std::process::Abort;
-use std::test::Fail;
 
 /// What a replay printed, and its exit status.
 #[derive(Drop)]
 pub struct Replayed {
     pub status: u8,
-    pub output: String,
-    pub faults: String,
+    pub output: Vec<u8>,
+    pub faults: Vec<u8>,
 }
 
 impl Replayed {
     /// Whether the replay ended with this status and printed this.
     pub fn is(&self, status: u8, output: &str, faults: &str) -> bool {
-        self.status == status && self.output.as_str() == output && self.faults.as_str() == faults
+        self.status == status
+            && self.output.as_slice() == output.as_bytes()
+            && self.faults.as_slice() == faults.as_bytes()
+    }
+
+    /// What stands on its output.
+    fn printed(&self) -> &str {
+        std::str::from_utf8(self.output.as_slice()).unwrap_or("no text")
     }
 }
 
 /// Replays the input over a queue of `capacity` items.
-pub fn replay_bytes(alloc: Global, capacity: u32, input: &[u8]) -> Result<Replayed, Fail>
+pub fn replay<R: Read + Drop>(alloc: Global, capacity: u32, input: R) -> Replayed
     requires some { 1 ≤ capacity }
     requires few { capacity ≤ 65536 }
 {
     let mut output = Vec::new(alloc);
     let mut faults = Vec::new(alloc);
     let status = replay_run(alloc, capacity, input, &mut output, &mut faults);
-    Ok(Replayed {
+    Replayed {
         status,
-        output: String::from_utf8(output)?,
-        faults: String::from_utf8(faults)?,
-    })
+        output,
+        faults,
+    }
+}
+
+/// Whether the replay of the script prints these answers and ends well.
+pub fn answers_all(alloc: Global, capacity: u32, script: &[u8], answers: &str) -> bool
+    requires some { 1 ≤ capacity }
+    requires few { capacity ≤ 65536 }
+{
+    replay(alloc, capacity, script).is(0, answers, "")
 }
 
 /// The lines of a script as its text. A message in hex stands for the line that takes it in.
 pub fn script_text(alloc: Global, script: &[&str]) -> Result<String, AllocError> {
     let mut text = String::new(alloc);
     for line in script {
-        if line.starts_with('8') {
-            text.push_str("in ")?;
-        }
-        text.push_str(line)?;
-        text.push_str("\n")?;
+        let word = if line.starts_with('8') { "in " } else { "" };
+        add_line(&mut text, word, line)?;
     }
     Ok(text)
 }
 
-/// Replays the lines of a script over a queue of `capacity` items.
-pub fn replay_script(alloc: Global, capacity: u32, script: &[&str]) -> Result<Replayed, Fail>
-    requires some { 1 ≤ capacity }
-    requires few { capacity ≤ 65536 }
-{
-    replay_bytes(alloc, capacity, script_text(alloc, script)?.as_bytes())
+/// The lines as a text, each with its line end.
+pub fn joined(alloc: Global, lines: &[&str]) -> Result<String, AllocError> {
+    let mut text = String::new(alloc);
+    for line in lines {
+        add_line(&mut text, "", line)?;
+    }
+    Ok(text)
+}
+
+/// Puts a word, a line and its line end behind the text.
+fn add_line(text: &mut String, word: &str, line: &str) -> Result<(), AllocError> {
+    text.push_str(word)?;
+    text.push_str(line)?;
+    text.push('\n')
 }
 
 /// The replay of the script gives these answers and ends well.
@@ -74,24 +94,16 @@ pub fn assert_answers(
     capacity: u32,
     script: &[&str],
     answers: &[&str],
-) -> Result<(), Fail>
+)
     requires some { 1 ≤ capacity }
     requires few { capacity ≤ 65536 }
 {
-    let replayed = replay_script(rt.alloc(), capacity, script)?;
-    let wanted = joined(rt.alloc(), answers)?;
-    assert_eq!(rt; replayed.output.as_str(), wanted.as_str());
-    let ended_well = replayed.status == 0 && replayed.faults.is_empty();
-    assert!(rt; ended_well);
-    Ok(())
+    let script = script_text(rt.alloc(), script).expect(rt, "memory for a script");
+    let replayed = replay(rt.alloc(), capacity, script.as_bytes());
+    let answers = joined(rt.alloc(), answers).expect(rt, "memory for answers");
+    assert_printed(rt, &replayed, answers.as_str());
 }
 
-/// The lines as a text, each with its line end.
-pub fn joined(alloc: Global, lines: &[&str]) -> Result<String, AllocError> {
-    let mut text = String::new(alloc);
-    for line in lines {
-        text.push_str(line)?;
-        text.push_str("\n")?;
-    }
-    Ok(text)
+fn assert_printed(rt: &impl Abort, replayed: &Replayed, answers: &str) {
+    assert!(rt; replayed.is(0, answers, ""), "{}", replayed.printed());
 }

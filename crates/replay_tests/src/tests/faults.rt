@@ -1,11 +1,10 @@
 //! Input and output that a replay refuses or that fail.
 
-use super::{Replayed, replay_bytes, replay_script};
+use super::{replay, script_text};
 use bm_replay::{read_up_to, replay_run};
 use std::alloc::{AllocError, Global};
 use std::io;
 use std::io::{Read, Write};
-use std::test::Fail;
 
 /// A reader that gives its bytes and then fails.
 #[derive(Drop)]
@@ -70,18 +69,6 @@ impl Read for Endless {
     }
 }
 
-/// Replays what the reader gives over a queue of four items.
-fn replay_from<R: Read + Drop>(alloc: Global, input: R) -> Result<Replayed, Fail> {
-    let mut output = Vec::new(alloc);
-    let mut faults = Vec::new(alloc);
-    let status = replay_run(alloc, 4, input, &mut output, &mut faults);
-    Ok(Replayed {
-        status,
-        output: String::from_utf8(output)?,
-        faults: String::from_utf8(faults)?,
-    })
-}
-
 /// Lines of another form.
 const OTHER_FORMS: [&str; 25] = [
     "up ",
@@ -111,29 +98,40 @@ const OTHER_FORMS: [&str; 25] = [
     "look 0  0 0",
 ];
 
-#[test]
-fn line_of_another_form_is_told_after_the_answers_before(rt: HostRuntime) -> Result<(), Fail> {
-    for line in &OTHER_FORMS {
-        let replayed = replay_script(rt.alloc(), 4, &["up", "", line, "go"])?;
-        let told = replayed.is(1, "ok\n", "line 3: not understood\n");
-        assert!(rt; told, "at {line:?}");
+/// Whether the line ends a replay after the answers before, and is told by its number.
+fn is_told(alloc: Global, line: &str) -> bool {
+    match script_text(alloc, &["up", "", line, "go"]) {
+        Ok(script) => {
+            replay(alloc, 4, script.as_bytes()).is(1, "ok\n", "line 3: not understood\n")
+        }
+        Err(_) => false,
     }
-    Ok(())
 }
 
 #[test]
-fn text_that_is_no_utf8_is_passed_over_in_a_comment_alone(rt: HostRuntime) -> Result<(), Fail> {
-    let comment = replay_bytes(rt.alloc(), 4, b"# \xff\nup")?;
-    assert!(rt; comment.is(0, "ok\n", ""));
-    let line = replay_bytes(rt.alloc(), 4, b"log 0 \xff\n")?;
-    assert!(rt; line.is(1, "", "line 1: not understood\n"));
-    Ok(())
+fn line_of_another_form_is_told_after_the_answers_before(rt: HostRuntime) {
+    for line in &OTHER_FORMS {
+        assert!(rt; is_told(rt.alloc(), line), "at {line:?}");
+    }
+}
+
+/// Whether the replay of the bytes ends with this status and prints this.
+fn is_replayed(alloc: Global, bytes: &[u8], status: u8, output: &str, faults: &str) -> bool {
+    replay(alloc, 4, bytes).is(status, output, faults)
+}
+
+#[test]
+fn text_that_is_no_utf8_is_passed_over_in_a_comment_alone(rt: HostRuntime) {
+    let comment = b"# \xff\nup";
+    assert!(rt; is_replayed(rt.alloc(), comment, 0, "ok\n", ""));
+    let line = b"log 0 \xff\n";
+    assert!(rt; is_replayed(rt.alloc(), line, 1, "", "line 1: not understood\n"));
 }
 
 /// Whether a read that fails after these bytes ends the replay with status 1, and nothing is
 /// answered or told.
-fn is_unanswered(alloc: Global, bytes: &[u8], kind: io::ErrorKind) -> Result<bool, Fail> {
-    Ok(replay_from(alloc, FailingReader { bytes, kind })?.is(1, "", ""))
+fn is_unanswered(alloc: Global, bytes: &[u8], kind: io::ErrorKind) -> bool {
+    replay(alloc, 4, FailingReader { bytes, kind }).is(1, "", "")
 }
 
 /// A script of this first line and many more.
@@ -145,33 +143,34 @@ fn behind(alloc: Global, first: &str) -> Result<String, AllocError> {
     Ok(script)
 }
 
+/// Whether a read that fails after this line and many more leaves all unanswered, whether or not
+/// the line is understood.
+fn is_unanswered_behind(alloc: Global, first: &str) -> bool {
+    match behind(alloc, first) {
+        Ok(script) => is_unanswered(alloc, script.as_bytes(), io::ErrorKind::ConnectionReset),
+        Err(_) => false,
+    }
+}
+
 /// How a read fails.
 const KINDS: [io::ErrorKind; 2] = [io::ErrorKind::ConnectionReset, io::ErrorKind::Interrupted];
 
 #[test]
-fn failed_read_answers_nothing(rt: HostRuntime) -> Result<(), Fail> {
+fn failed_read_answers_nothing(rt: HostRuntime) {
     for kind in &KINDS {
         assert!(rt;
-            is_unanswered(rt.alloc(), b"up\ngo\n", *kind)?,
+            is_unanswered(rt.alloc(), b"up\ngo\n", *kind),
             "at {kind:?}"
         );
     }
-    // Many lines were read before the read fails, and one that isn't understood may be among them.
     for first in &["up\n", "no\n"] {
-        let script = behind(rt.alloc(), first)?;
-        let kind = io::ErrorKind::ConnectionReset;
-        assert!(rt;
-            is_unanswered(rt.alloc(), script.as_bytes(), kind)?,
-            "at {first:?}"
-        );
+        assert!(rt; is_unanswered_behind(rt.alloc(), first), "at {first:?}");
     }
-    Ok(())
 }
 
 #[test]
-fn input_that_is_too_long_answers_nothing(rt: HostRuntime) -> Result<(), Fail> {
-    assert!(rt; replay_from(rt.alloc(), Endless)?.is(1, "", ""));
-    Ok(())
+fn input_that_is_too_long_answers_nothing(rt: HostRuntime) {
+    assert!(rt; replay(rt.alloc(), 4, Endless).is(1, "", ""));
 }
 
 /// What is read of a comment of so many bytes and a line `up`, three bytes with the line end, where
@@ -232,11 +231,15 @@ fn failed_write_is_told_by_the_status_alone(rt: HostRuntime) {
     assert!(rt; status_in_room(rt.alloc(), 13) == Some(0));
 }
 
+/// Whether a replay whose line can't be told ends with its status, after the answers before.
+fn is_ended_untold(alloc: Global) -> bool {
+    let input: &[u8] = b"up\nno\n";
+    let mut output = Vec::new(alloc);
+    let status = replay_run(alloc, 4, input, &mut output, FailingWriter { room: 0 });
+    status == 1 && output.as_slice() == b"ok\n".as_slice()
+}
+
 #[test]
 fn unreadable_line_that_can_not_be_told_ends_with_its_status(rt: HostRuntime) {
-    let mut output = Vec::new(rt.alloc());
-    let input: &[u8] = b"up\nno\n";
-    let status = replay_run(rt.alloc(), 4, input, &mut output, FailingWriter { room: 0 });
-    assert!(rt; status == 1);
-    assert!(rt; output.as_slice() == b"ok\n".as_slice());
+    assert!(rt; is_ended_untold(rt.alloc()));
 }

@@ -2,10 +2,9 @@
 
 use super::assert_answers;
 use super::messages::*;
-use std::test::Fail;
 
 #[test]
-fn bytes_that_are_no_message_are_no_event(rt: HostRuntime) -> Result<(), Fail> {
+fn bytes_that_are_no_message_are_no_event(rt: HostRuntime) {
     static SCRIPT: [&str; 8] = [
         "in c1",
         "in 91c0",
@@ -26,11 +25,11 @@ fn bytes_that_are_no_message_are_no_event(rt: HostRuntime) -> Result<(), Fail> {
         "bad truncated",
         "bad too deep",
     ];
-    assert_answers(&rt, 8, &SCRIPT, &ANSWERS)
+    assert_answers(&rt, 8, &SCRIPT, &ANSWERS);
 }
 
 #[test]
-fn requests_are_answered_with_what_is_wrong(rt: HostRuntime) -> Result<(), Fail> {
+fn requests_are_answered_with_what_is_wrong(rt: HostRuntime) {
     static SCRIPT: [&str; 4] = ["up", LACKS_ARGUMENTS, UNKNOWN_OPERATION, AUTH];
     static ANSWERS: [&str; 4] = [
         "ok",
@@ -38,26 +37,26 @@ fn requests_are_answered_with_what_is_wrong(rt: HostRuntime) -> Result<(), Fail>
         "answer 6 exception no such operation",
         "answer 0 exception already authenticated",
     ];
-    assert_answers(&rt, 8, &SCRIPT, &ANSWERS)
+    assert_answers(&rt, 8, &SCRIPT, &ANSWERS);
 }
 
 #[test]
-fn blank_lines_and_comments_are_passed_over(rt: HostRuntime) -> Result<(), Fail> {
+fn blank_lines_and_comments_are_passed_over(rt: HostRuntime) {
     static SCRIPT: [&str; 6] = ["", "# up", "up", "#", "", "down"];
     static ANSWERS: [&str; 2] = ["ok", "ok"];
-    assert_answers(&rt, 8, &SCRIPT, &ANSWERS)
+    assert_answers(&rt, 8, &SCRIPT, &ANSWERS);
 }
 
 #[test]
-fn numbers_are_printed_as_numbers(rt: HostRuntime) -> Result<(), Fail> {
+fn numbers_are_printed_as_numbers(rt: HostRuntime) {
     static SCRIPT: [&str; 4] = ["up", "go", "log 000", "log 18446744073709551615"];
     static ANSWERS: [&str; 4] = ["ok", "start 0 0", "log 0 0 open", "no log"];
-    assert_answers(&rt, 8, &SCRIPT, &ANSWERS)
+    assert_answers(&rt, 8, &SCRIPT, &ANSWERS);
 }
 
 #[test]
-fn hex_is_read_in_either_case_with_spaces(rt: HostRuntime) -> Result<(), Fail> {
+fn hex_is_read_in_either_case_with_spaces(rt: HostRuntime) {
     static SCRIPT: [&str; 2] = ["in 8 1AA 7365715f6E756d626572 00", "in  c1 "];
     static ANSWERS: [&str; 2] = ["bad no op", "bad reserved byte"];
-    assert_answers(&rt, 8, &SCRIPT, &ANSWERS)
+    assert_answers(&rt, 8, &SCRIPT, &ANSWERS);
 }

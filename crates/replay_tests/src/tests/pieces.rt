@@ -1,11 +1,9 @@
 //! Scripts whose input comes in pieces.
 
-use super::Replayed;
-use bm_replay::replay_run;
+use super::replay;
 use std::alloc::{AllocError, Global};
 use std::io;
 use std::io::Read;
-use std::test::Fail;
 
 /// A reader that gives at the most so many bytes at a time.
 #[derive(Drop)]
@@ -21,34 +19,54 @@ impl Read for PieceReader<'_> {
     }
 }
 
-/// Replays a script over a queue of 4 items, where at the most so many bytes come with one read.
-fn replay_pieces(alloc: Global, most: usize, bytes: &[u8]) -> Result<Replayed, Fail> {
-    let mut output = Vec::new(alloc);
-    let mut faults = Vec::new(alloc);
-    let input = PieceReader { bytes, most };
-    let status = replay_run(alloc, 4, input, &mut output, &mut faults);
-    Ok(Replayed {
-        status,
-        output: String::from_utf8(output)?,
-        faults: String::from_utf8(faults)?,
-    })
+/// Whether a script of which at the most so many bytes come with one read prints these answers, and
+/// ends at a line that isn't understood.
+fn is_stopped(alloc: Global, most: usize, script: &str, answers: &str, told: &str) -> bool {
+    let input = PieceReader {
+        bytes: script.as_bytes(),
+        most,
+    };
+    replay(alloc, 4, input).is(1, answers, told)
 }
 
 /// Lengths of a line about that of the greatest read, which is 65,536 bytes, and far from it.
 const LENGTHS: [usize; 8] = [0, 1_000, 32_700, 65_529, 65_533, 65_534, 65_535, 150_000];
 
+/// Puts a comment of this length and `up` behind the script.
+fn add_comment(script: &mut String, length: usize) -> Result<(), AllocError> {
+    script.push('#')?;
+    for _ in 0..length {
+        script.push('x')?;
+    }
+    script.push_str("\nup\n")
+}
+
 /// Three times a comment of this length and `up`, and then a line of another form.
 fn commented(alloc: Global, length: usize) -> Result<String, AllocError> {
     let mut script = String::new(alloc);
     for _ in 0..3 {
-        script.push('#')?;
-        for _ in 0..length {
-            script.push('x')?;
-        }
-        script.push_str("\nup\n")?;
+        add_comment(&mut script, length)?;
     }
     script.push_str("no")?;
     Ok(script)
+}
+
+/// Whether lines of this length are counted and answered, in whichever pieces they come.
+fn is_counted(alloc: Global, length: usize) -> bool {
+    match commented(alloc, length) {
+        Ok(script) => is_counted_in_pieces(alloc, script.as_str()),
+        Err(_) => false,
+    }
+}
+
+fn is_counted_in_pieces(alloc: Global, script: &str) -> bool {
+    let answers = "ok\nrefused already up\nrefused already up\n";
+    for most in &[1, 1_000, usize::MAX] {
+        if !is_stopped(alloc, *most, script, answers, "line 7: not understood\n") {
+            return false;
+        }
+    }
+    true
 }
 
 /// A recorded session whose logs are viewed, and its answers.
@@ -59,25 +77,22 @@ const ANSWERS: &str =
     "ok\nstart 0 0\nanswer 0 nil\nno log\ntook\nchunk 0 0\ntook\nchunk 0 1\noa\nlog 0 1 open\noa\n";
 
 #[test]
-fn lines_of_any_length_are_counted_and_answered(rt: HostRuntime) -> Result<(), Fail> {
-    let answers = "ok\nrefused already up\nrefused already up\n";
+fn lines_of_any_length_are_counted_and_answered(rt: HostRuntime) {
     for length in &LENGTHS {
-        let script = commented(rt.alloc(), *length)?;
-        for most in &[1, 1_000, usize::MAX] {
-            let replayed = replay_pieces(rt.alloc(), *most, script.as_bytes())?;
-            let stopped = replayed.is(1, answers, "line 7: not understood\n");
-            assert!(rt; stopped, "at {length}, {most}");
-        }
+        assert!(rt; is_counted(rt.alloc(), *length), "at {length}");
     }
-    Ok(())
 }
 
 #[test]
-fn answers_are_the_same_in_whichever_pieces_lines_come(rt: HostRuntime) -> Result<(), Fail> {
+fn answers_are_the_same_in_whichever_pieces_lines_come(rt: HostRuntime) {
     for most in 1..=VIEWED.len() {
-        let replayed = replay_pieces(rt.alloc(), most, VIEWED.as_bytes())?;
-        let stopped = replayed.is(1, ANSWERS, "line 12: not understood\n");
-        assert!(rt; stopped, "at {most}");
+        let is_same = is_stopped(
+            rt.alloc(),
+            most,
+            VIEWED,
+            ANSWERS,
+            "line 12: not understood\n",
+        );
+        assert!(rt; is_same, "at {most}");
     }
-    Ok(())
 }

@@ -2,17 +2,16 @@
 
 use super::assert_answers;
 use super::messages::*;
-use std::test::Fail;
 
 #[test]
-fn recorded_update_becomes_a_log(rt: HostRuntime) -> Result<(), Fail> {
+fn recorded_update_becomes_a_log(rt: HostRuntime) {
     static SCRIPT: [&str; 4] = ["up", "go", UPDATE_ZERO, "log 0"];
     static ANSWERS: [&str; 5] = ["ok", "start 0 0", "answer 0 nil", "log 0 1 open", "oa"];
-    assert_answers(&rt, 8, &SCRIPT, &ANSWERS)
+    assert_answers(&rt, 8, &SCRIPT, &ANSWERS);
 }
 
 #[test]
-fn nothing_is_there_before_the_first_connection(rt: HostRuntime) -> Result<(), Fail> {
+fn nothing_is_there_before_the_first_connection(rt: HostRuntime) {
     static SCRIPT: [&str; 6] = ["log 0", "stop 0", "go", "cut", "down", UPDATE_ZERO];
     static ANSWERS: [&str; 6] = [
         "no log",
@@ -22,11 +21,11 @@ fn nothing_is_there_before_the_first_connection(rt: HostRuntime) -> Result<(), F
         "refused not up",
         "refused not up",
     ];
-    assert_answers(&rt, 8, &SCRIPT, &ANSWERS)
+    assert_answers(&rt, 8, &SCRIPT, &ANSWERS);
 }
 
 #[test]
-fn repeat_adds_no_line(rt: HostRuntime) -> Result<(), Fail> {
+fn repeat_adds_no_line(rt: HostRuntime) {
     static SCRIPT: [&str; 5] = ["up", "go", UPDATE_ZERO, UPDATE_ZERO, "log 0"];
     static ANSWERS: [&str; 6] = [
         "ok",
@@ -36,11 +35,11 @@ fn repeat_adds_no_line(rt: HostRuntime) -> Result<(), Fail> {
         "log 0 1 open",
         "oa",
     ];
-    assert_answers(&rt, 8, &SCRIPT, &ANSWERS)
+    assert_answers(&rt, 8, &SCRIPT, &ANSWERS);
 }
 
 #[test]
-fn repeat_is_known_behind_later_numbers(rt: HostRuntime) -> Result<(), Fail> {
+fn repeat_is_known_behind_later_numbers(rt: HostRuntime) {
     static SCRIPT: [&str; 6] = [
         "up",
         "go",
@@ -59,11 +58,11 @@ fn repeat_is_known_behind_later_numbers(rt: HostRuntime) -> Result<(), Fail> {
         "oa",
         "ob",
     ];
-    assert_answers(&rt, 8, &SCRIPT, &ANSWERS)
+    assert_answers(&rt, 8, &SCRIPT, &ANSWERS);
 }
 
 #[test]
-fn repeat_is_answered_as_first(rt: HostRuntime) -> Result<(), Fail> {
+fn repeat_is_answered_as_first(rt: HostRuntime) {
     static SCRIPT: [&str; 6] = [
         "up",
         "go",
@@ -80,7 +79,7 @@ fn repeat_is_answered_as_first(rt: HostRuntime) -> Result<(), Fail> {
         "answer 0 nil",
         "log 0 0 EXCEPTION",
     ];
-    assert_answers(&rt, 8, &SCRIPT, &ANSWERS)
+    assert_answers(&rt, 8, &SCRIPT, &ANSWERS);
 }
 
 /// A session that is lost, and the next one.
@@ -116,12 +115,12 @@ pub static LOST_ANSWERS: [&str; 13] = [
 ];
 
 #[test]
-fn numbers_start_afresh_after_a_loss(rt: HostRuntime) -> Result<(), Fail> {
-    assert_answers(&rt, 8, &LOST, &LOST_ANSWERS)
+fn numbers_start_afresh_after_a_loss(rt: HostRuntime) {
+    assert_answers(&rt, 8, &LOST, &LOST_ANSWERS);
 }
 
 #[test]
-fn lines_keep_the_order_of_the_items(rt: HostRuntime) -> Result<(), Fail> {
+fn lines_keep_the_order_of_the_items(rt: HostRuntime) {
     static SCRIPT: [&str; 4] = ["up", "go", UPDATE_MIXED, "log 0"];
     static ANSWERS: [&str; 7] = [
         "ok",
@@ -132,14 +131,14 @@ fn lines_keep_the_order_of_the_items(rt: HostRuntime) -> Result<(), Fail> {
         "ob",
         "hh",
     ];
-    assert_answers(&rt, 8, &SCRIPT, &ANSWERS)
+    assert_answers(&rt, 8, &SCRIPT, &ANSWERS);
 }
 
 #[test]
-fn text_may_stand_in_a_list(rt: HostRuntime) -> Result<(), Fail> {
+fn text_may_stand_in_a_list(rt: HostRuntime) {
     static SCRIPT: [&str; 4] = ["up", "go", UPDATE_LISTED, "log 0"];
     static ANSWERS: [&str; 5] = ["ok", "start 0 0", "answer 0 nil", "log 0 1 open", "ox"];
-    assert_answers(&rt, 8, &SCRIPT, &ANSWERS)
+    assert_answers(&rt, 8, &SCRIPT, &ANSWERS);
 }
 
 /// A session that is resumed, with a request that is sent again, and its drains.
@@ -182,12 +181,12 @@ pub static RESUMED_ANSWERS: [&str; 17] = [
 ];
 
 #[test]
-fn resumed_session_loses_and_doubles_no_line(rt: HostRuntime) -> Result<(), Fail> {
-    assert_answers(&rt, 8, &RESUMED, &RESUMED_ANSWERS)
+fn resumed_session_loses_and_doubles_no_line(rt: HostRuntime) {
+    assert_answers(&rt, 8, &RESUMED, &RESUMED_ANSWERS);
 }
 
 #[test]
-fn cut_session_is_resumed_or_given_up(rt: HostRuntime) -> Result<(), Fail> {
+fn cut_session_is_resumed_or_given_up(rt: HostRuntime) {
     static SCRIPT: [&str; 12] = [
         "up", "go", "cut", "cut", "go", "up", "go", "cut", "down", "up", "go", "log 0",
     ];
@@ -205,11 +204,11 @@ fn cut_session_is_resumed_or_given_up(rt: HostRuntime) -> Result<(), Fail> {
         "start 0 2",
         "log 0 0 RETRY",
     ];
-    assert_answers(&rt, 8, &SCRIPT, &ANSWERS)
+    assert_answers(&rt, 8, &SCRIPT, &ANSWERS);
 }
 
 #[test]
-fn four_commands_may_be_open(rt: HostRuntime) -> Result<(), Fail> {
+fn four_commands_may_be_open(rt: HostRuntime) {
     static SCRIPT: [&str; 7] = ["up", "up", "go", "go", "go", "go", "go"];
     static ANSWERS: [&str; 7] = [
         "ok",
@@ -220,11 +219,11 @@ fn four_commands_may_be_open(rt: HostRuntime) -> Result<(), Fail> {
         "start 3 3",
         "refused too many open",
     ];
-    assert_answers(&rt, 8, &SCRIPT, &ANSWERS)
+    assert_answers(&rt, 8, &SCRIPT, &ANSWERS);
 }
 
 #[test]
-fn refused_start_ends_its_command(rt: HostRuntime) -> Result<(), Fail> {
+fn refused_start_ends_its_command(rt: HostRuntime) {
     static SCRIPT: [&str; 5] = ["up", "go", START_REFUSED, "log 0", UPDATE_ZERO];
     static ANSWERS: [&str; 5] = [
         "ok",
@@ -233,11 +232,11 @@ fn refused_start_ends_its_command(rt: HostRuntime) -> Result<(), Fail> {
         "log 0 0 EXCEPTION",
         "answer 0 exception no such command",
     ];
-    assert_answers(&rt, 8, &SCRIPT, &ANSWERS)
+    assert_answers(&rt, 8, &SCRIPT, &ANSWERS);
 }
 
 #[test]
-fn stopped_command_is_cancelled(rt: HostRuntime) -> Result<(), Fail> {
+fn stopped_command_is_cancelled(rt: HostRuntime) {
     static SCRIPT: [&str; 6] = ["up", "go", "stop 0", COMPLETE_ZERO, "log 0", "stop 0"];
     static ANSWERS: [&str; 6] = [
         "ok",
@@ -247,18 +246,18 @@ fn stopped_command_is_cancelled(rt: HostRuntime) -> Result<(), Fail> {
         "log 0 0 CANCELLED",
         "refused no such command",
     ];
-    assert_answers(&rt, 8, &SCRIPT, &ANSWERS)
+    assert_answers(&rt, 8, &SCRIPT, &ANSWERS);
 }
 
 #[test]
-fn number_of_an_order_is_no_number_of_a_request(rt: HostRuntime) -> Result<(), Fail> {
+fn number_of_an_order_is_no_number_of_a_request(rt: HostRuntime) {
     static SCRIPT: [&str; 5] = ["up", "go", START_ANSWERED, UPDATE_ZERO, UPDATE_ZERO];
     static ANSWERS: [&str; 5] = ["ok", "start 0 0", "noted", "answer 0 nil", "answer 0 nil"];
-    assert_answers(&rt, 8, &SCRIPT, &ANSWERS)
+    assert_answers(&rt, 8, &SCRIPT, &ANSWERS);
 }
 
 #[test]
-fn last_exit_code_counts(rt: HostRuntime) -> Result<(), Fail> {
+fn last_exit_code_counts(rt: HostRuntime) {
     static SCRIPT: [&str; 6] = [
         "up",
         "go",
@@ -275,11 +274,11 @@ fn last_exit_code_counts(rt: HostRuntime) -> Result<(), Fail> {
         "answer 2 nil",
         "log 0 0 SUCCESS",
     ];
-    assert_answers(&rt, 8, &SCRIPT, &ANSWERS)
+    assert_answers(&rt, 8, &SCRIPT, &ANSWERS);
 }
 
 #[test]
-fn other_exit_code_is_a_failure(rt: HostRuntime) -> Result<(), Fail> {
+fn other_exit_code_is_a_failure(rt: HostRuntime) {
     static SCRIPT: [&str; 5] = ["up", "go", EXIT_CODE_THREE, COMPLETE_TWO, "log 0"];
     static ANSWERS: [&str; 5] = [
         "ok",
@@ -288,12 +287,12 @@ fn other_exit_code_is_a_failure(rt: HostRuntime) -> Result<(), Fail> {
         "answer 2 nil",
         "log 0 0 FAILURE",
     ];
-    assert_answers(&rt, 8, &SCRIPT, &ANSWERS)
+    assert_answers(&rt, 8, &SCRIPT, &ANSWERS);
 }
 
 #[test]
-fn fault_is_an_exception(rt: HostRuntime) -> Result<(), Fail> {
+fn fault_is_an_exception(rt: HostRuntime) {
     static SCRIPT: [&str; 4] = ["up", "go", COMPLETE_FAULT, "log 0"];
     static ANSWERS: [&str; 4] = ["ok", "start 0 0", "answer 0 nil", "log 0 0 EXCEPTION"];
-    assert_answers(&rt, 8, &SCRIPT, &ANSWERS)
+    assert_answers(&rt, 8, &SCRIPT, &ANSWERS);
 }

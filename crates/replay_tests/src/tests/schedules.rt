@@ -7,6 +7,7 @@ ghost use Rattle.std.specs.Prelude.{◌≤◌};
 mod choices;
 mod command;
 mod counts;
+mod lane;
 mod ledger;
 mod moods;
 mod schedule;
@@ -62,15 +63,15 @@ fn play(alloc: Global, seed: u64, capacity: usize, counts: Counts) -> Result<Cou
     requires some { 1 ≤ capacity }
     requires few { capacity ≤ 65536 }
 {
-    let mut schedule = Schedule::new(alloc, seed, capacity, counts)?;
-    match play_whole(&mut schedule) {
-        Ok(()) => Ok(schedule.counts),
-        Err(wrong) => Err(wrong),
+    match Schedule::new(alloc, seed, capacity, counts) {
+        Ok(mut schedule) => play_whole(&mut schedule),
+        Err(_) => Err(Wrong::OutOfMemory),
     }
 }
 
-/// Makes the moves of a schedule, and compares what stands between them and at the end.
-fn play_whole(schedule: &mut Schedule) -> Result<(), Wrong> {
+/// Makes the moves of a schedule, and compares what stands between them and at the end. Answers how
+/// often each kind of thing has happened.
+fn play_whole(schedule: &mut Schedule) -> Result<Counts, Wrong> {
     for turn in 0..MOVES {
         schedule.play()?;
         if turn % BETWEEN == 0 {
@@ -78,7 +79,19 @@ fn play_whole(schedule: &mut Schedule) -> Result<(), Wrong> {
         }
     }
     schedule.settle()?;
-    schedule.compare_whole()
+    schedule.compare_whole()?;
+    Ok(schedule.counts)
+}
+
+/// Plays the schedule, once more where memory was refused.
+fn play_twice(alloc: Global, seed: u64, capacity: usize, counts: Counts) -> Result<Counts, Wrong>
+    requires some { 1 ≤ capacity }
+    requires few { capacity ≤ 65536 }
+{
+    match play(alloc, seed, capacity, counts) {
+        Err(Wrong::OutOfMemory) => play(alloc, seed, capacity, counts),
+        played => played,
+    }
 }
 
 /// Plays all schedules over queues of that capacity.
@@ -88,11 +101,7 @@ fn play_all(rt: &(impl AllocGlobal + Abort), capacity: usize, counts: Counts) ->
 {
     let mut counts = counts;
     for seed in 0..SCHEDULES {
-        let played = match play(rt.alloc(), seed, capacity, counts) {
-            Err(Wrong::OutOfMemory) => play(rt.alloc(), seed, capacity, counts),
-            played => played,
-        };
-        match played {
+        match play_twice(rt.alloc(), seed, capacity, counts) {
             Ok(after) => counts = after,
             Err(wrong) => panic!(rt; "schedule {seed} at capacity {capacity}: {wrong:?}"),
         }
@@ -107,8 +116,8 @@ fn what_is_said_is_logged(rt: HostRuntime) {
     counts = play_all(&rt, 2, counts);
     counts = play_all(&rt, 5, counts);
     counts = play_all(&rt, 256, counts);
-    for (kind, floor) in FLOORS {
-        let times = counts.of(kind);
-        assert!(rt; times >= floor, "{kind:?} came {times} times");
+    for (kind, floor) in &FLOORS {
+        let times = counts.of(*kind);
+        assert!(rt; times >= *floor, "{kind:?} came {times} times");
     }
 }

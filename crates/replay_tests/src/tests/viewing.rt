@@ -2,10 +2,9 @@
 
 use super::assert_answers;
 use super::messages::*;
-use std::test::Fail;
 
 #[test]
-fn named_log_is_a_log_of_its_own(rt: HostRuntime) -> Result<(), Fail> {
+fn named_log_is_a_log_of_its_own(rt: HostRuntime) {
     static SCRIPT: [&str; 8] = [
         "up", "go", NAMED_LOG, "log 0", "log 0 l", "log 0 m", "log 0 ", "log 0  l",
     ];
@@ -20,11 +19,11 @@ fn named_log_is_a_log_of_its_own(rt: HostRuntime) -> Result<(), Fail> {
         "no log",
         "no log",
     ];
-    assert_answers(&rt, 8, &SCRIPT, &ANSWERS)
+    assert_answers(&rt, 8, &SCRIPT, &ANSWERS);
 }
 
 #[test]
-fn stdio_is_the_name_of_the_plain_log(rt: HostRuntime) -> Result<(), Fail> {
+fn stdio_is_the_name_of_the_plain_log(rt: HostRuntime) {
     static SCRIPT: [&str; 5] = ["up", "go", NAMED_STDIO, "log 0", "log 0 stdio"];
     static ANSWERS: [&str; 11] = [
         "ok",
@@ -39,18 +38,18 @@ fn stdio_is_the_name_of_the_plain_log(rt: HostRuntime) -> Result<(), Fail> {
         "os",
         "eb",
     ];
-    assert_answers(&rt, 8, &SCRIPT, &ANSWERS)
+    assert_answers(&rt, 8, &SCRIPT, &ANSWERS);
 }
 
 #[test]
-fn named_log_is_there_without_a_line(rt: HostRuntime) -> Result<(), Fail> {
+fn named_log_is_there_without_a_line(rt: HostRuntime) {
     static SCRIPT: [&str; 4] = ["up", "go", NAMED_EMPTY, "log 0 l"];
     static ANSWERS: [&str; 4] = ["ok", "start 0 0", "answer 0 nil", "log 0 0 open"];
-    assert_answers(&rt, 8, &SCRIPT, &ANSWERS)
+    assert_answers(&rt, 8, &SCRIPT, &ANSWERS);
 }
 
 #[test]
-fn log_without_name_or_text_is_refused(rt: HostRuntime) -> Result<(), Fail> {
+fn log_without_name_or_text_is_refused(rt: HostRuntime) {
     static SCRIPT: [&str; 4] = ["up", "go", NAMED_NOTHING, NAMED_ALONE];
     static ANSWERS: [&str; 4] = [
         "ok",
@@ -58,7 +57,7 @@ fn log_without_name_or_text_is_refused(rt: HostRuntime) -> Result<(), Fail> {
         "answer 0 exception bad arguments",
         "answer 1 exception bad arguments",
     ];
-    assert_answers(&rt, 8, &SCRIPT, &ANSWERS)
+    assert_answers(&rt, 8, &SCRIPT, &ANSWERS);
 }
 
 /// A log that is looked at while it is drained.
@@ -90,15 +89,15 @@ pub static VIEWED_ANSWERS: [&str; 11] = [
 ];
 
 #[test]
-fn viewers_see_what_was_drained(rt: HostRuntime) -> Result<(), Fail> {
-    assert_answers(&rt, 8, &VIEWED, &VIEWED_ANSWERS)
+fn viewers_see_what_was_drained(rt: HostRuntime) {
+    assert_answers(&rt, 8, &VIEWED, &VIEWED_ANSWERS);
 }
 
 #[test]
-fn nothing_is_seen_of_an_empty_lane(rt: HostRuntime) -> Result<(), Fail> {
+fn nothing_is_seen_of_an_empty_lane(rt: HostRuntime) {
     static SCRIPT: [&str; 4] = ["look 0 0 10", "log 0", "stop 0", "drain"];
     static ANSWERS: [&str; 4] = ["no log", "no log", "refused not up", "empty"];
-    assert_answers(&rt, 8, &SCRIPT, &ANSWERS)
+    assert_answers(&rt, 8, &SCRIPT, &ANSWERS);
 }
 
 /// Parts of a log.
@@ -140,8 +139,8 @@ pub static SLICED_ANSWERS: [&str; 16] = [
 ];
 
 #[test]
-fn slice_keeps_the_asked_offset(rt: HostRuntime) -> Result<(), Fail> {
-    assert_answers(&rt, 8, &SLICED, &SLICED_ANSWERS)
+fn slice_keeps_the_asked_offset(rt: HostRuntime) {
+    assert_answers(&rt, 8, &SLICED, &SLICED_ANSWERS);
 }
 
 /// A lane whose queue of four items is full.
@@ -173,12 +172,12 @@ pub static FULL_ANSWERS: [&str; 10] = [
 ];
 
 #[test]
-fn busy_lane_takes_after_drain(rt: HostRuntime) -> Result<(), Fail> {
-    assert_answers(&rt, 4, &FULL, &FULL_ANSWERS)
+fn busy_lane_takes_after_drain(rt: HostRuntime) {
+    assert_answers(&rt, 4, &FULL, &FULL_ANSWERS);
 }
 
 #[test]
-fn resumed_log_is_drained_whole(rt: HostRuntime) -> Result<(), Fail> {
+fn resumed_log_is_drained_whole(rt: HostRuntime) {
     static SCRIPT: [&str; 15] = [
         "up",
         "go",
@@ -219,7 +218,7 @@ fn resumed_log_is_drained_whole(rt: HostRuntime) -> Result<(), Fail> {
         "ob",
         "oc",
     ];
-    assert_answers(&rt, 8, &SCRIPT, &ANSWERS)
+    assert_answers(&rt, 8, &SCRIPT, &ANSWERS);
 }
 
 /// A log with a name.
@@ -252,6 +251,6 @@ pub static NAMED_ANSWERS: [&str; 11] = [
 ];
 
 #[test]
-fn named_log_is_seen_once_it_is_drained(rt: HostRuntime) -> Result<(), Fail> {
-    assert_answers(&rt, 8, &NAMED, &NAMED_ANSWERS)
+fn named_log_is_seen_once_it_is_drained(rt: HostRuntime) {
+    assert_answers(&rt, 8, &NAMED, &NAMED_ANSWERS);
 }

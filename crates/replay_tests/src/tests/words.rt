@@ -1,47 +1,58 @@
 //! Words of the command line.
 
-use super::Replayed;
-use bm_replay::{Job, read_job, replay_run, tell_usage};
+use super::answers_all;
+use bm_replay::{Job, read_job, tell_usage};
 use std::alloc::Global;
-use std::test::Fail;
+
+/// The word, behind those before it.
+fn add(alloc: Global, words: &mut Vec<String>, word: &str) -> bool {
+    match String::from_str(alloc, word) {
+        Ok(owned) => words.push(owned).is_ok(),
+        Err(_) => false,
+    }
+}
 
 /// The words of a command line whose program is `buildmaster`.
-fn command_line(alloc: Global, words: &[&str]) -> Result<Vec<String>, Fail> {
+fn command_line(alloc: Global, words: &[&str]) -> Option<Vec<String>> {
     let mut owned = Vec::new(alloc);
-    owned.push(String::from_str(alloc, "buildmaster")?)?;
+    let mut is_made = add(alloc, &mut owned, "buildmaster");
     for word in words {
-        owned.push(String::from_str(alloc, word)?)?;
+        is_made = is_made && add(alloc, &mut owned, word);
     }
-    Ok(owned)
+    is_made.then_some(owned)
 }
 
-/// The capacity of the replay that the words ask for.
-fn capacity_asked(alloc: Global, words: &[&str]) -> Result<Option<u32>, Fail> {
-    let owned = command_line(alloc, words)?;
-    match read_job(owned.as_slice()) {
-        Some(Job::Replay { capacity }) => Ok(Some(capacity.items)),
-        Some(Job::Serve { .. }) | None => Ok(None),
-    }
-}
-
-/// What the program does with these words, and `up` on its input.
-fn ran(alloc: Global, words: &[&str]) -> Result<Replayed, Fail> {
-    let owned = command_line(alloc, words)?;
-    let input: &[u8] = b"up\n";
-    let mut output = Vec::new(alloc);
-    let mut faults = Vec::new(alloc);
-    let status = match read_job(owned.as_slice()) {
+/// Whether the words ask for a replay of this capacity, and it answers a connection.
+fn is_asked(alloc: Global, words: &[String], wanted: u32) -> bool {
+    match read_job(words) {
         Some(Job::Replay { capacity }) => {
-            replay_run(alloc, capacity.items, input, &mut output, &mut faults)
+            capacity.items == wanted && answers_all(alloc, capacity.items, b"up\n", "ok\n")
         }
-        Some(Job::Serve { .. }) => 0,
-        None => tell_usage(&mut faults),
-    };
-    Ok(Replayed {
-        status,
-        output: String::from_utf8(output)?,
-        faults: String::from_utf8(faults)?,
-    })
+        Some(Job::Serve { .. }) | None => false,
+    }
+}
+
+fn replays(alloc: Global, words: &[&str], capacity: u32) -> bool {
+    match command_line(alloc, words) {
+        Some(owned) => is_asked(alloc, owned.as_slice(), capacity),
+        None => false,
+    }
+}
+
+/// The usage.
+const USAGE: &[u8] = b"usage: buildmaster replay [CAPACITY] or buildmaster serve FILE\n";
+
+fn tells_the_usage(alloc: Global) -> bool {
+    let mut faults = Vec::new(alloc);
+    tell_usage(&mut faults) == 2 && faults.as_slice() == USAGE
+}
+
+/// Whether the words ask for nothing that the program does, and it tells its usage.
+fn is_refused(alloc: Global, words: &[&str]) -> bool {
+    match command_line(alloc, words) {
+        Some(owned) => read_job(owned.as_slice()).is_none() && tells_the_usage(alloc),
+        None => false,
+    }
 }
 
 /// Words that ask for a replay, and its capacity.
@@ -70,22 +81,15 @@ const WRONG: [&[&str]; 13] = [
 ];
 
 #[test]
-fn replay_has_four_places_where_nothing_is_said(rt: HostRuntime) -> Result<(), Fail> {
+fn replay_has_four_places_where_nothing_is_said(rt: HostRuntime) {
     for (words, capacity) in &GOOD {
-        let asked = capacity_asked(rt.alloc(), words)?;
-        let replays = ran(rt.alloc(), words)?.is(0, "ok\n", "");
-        assert!(rt; asked == Some(*capacity) && replays, "at {words:?}");
+        assert!(rt; replays(rt.alloc(), words, *capacity), "at {words:?}");
     }
-    Ok(())
 }
 
 #[test]
-fn wrong_words_are_told_the_usage(rt: HostRuntime) -> Result<(), Fail> {
-    let usage = "usage: buildmaster replay [CAPACITY] or buildmaster serve FILE\n";
+fn wrong_words_are_told_the_usage(rt: HostRuntime) {
     for words in &WRONG {
-        let asked = capacity_asked(rt.alloc(), words)?;
-        let refused = ran(rt.alloc(), words)?.is(2, "", usage);
-        assert!(rt; asked.is_none() && refused, "at {words:?}");
+        assert!(rt; is_refused(rt.alloc(), words), "at {words:?}");
     }
-    Ok(())
 }

@@ -56,12 +56,14 @@ impl Choices {
             write!(text, "{mark}")?;
         }
         for _ in 0..self.below(LONGEST + 1) {
-            let place = self.below(PIECES.len() as u64) as usize;
-            if let Some(piece) = PIECES.get(place) {
-                text.push_str(piece)?;
-            }
+            text.push_str(self.piece())?;
         }
         Ok(text)
+    }
+
+    fn piece(&mut self) -> &'static str {
+        let place = self.below(PIECES.len() as u64) as usize;
+        PIECES.get(place).copied().unwrap_or("")
     }
 
     pub fn letter(&mut self) -> Letter {

@@ -1,14 +1,15 @@
 //! What a worker said for a command, and what its master knows of it, in plain words.
 
+use super::counts::Kind;
 use super::wrong::{Wrong, holds};
-use bm_lines::{Letter, Line};
+use bm_lines::{Letter, Line, Text};
 use bm_session::Results;
 use bm_store::Chunk;
-use bm_work::Argv;
+use bm_work::{Argv, WorkAct};
 use std::alloc::{AllocError, Global};
 
 /// The arguments of an order to start a command.
-#[derive(Clone, Copy, Debug, PartialEq, Eq)]
+#[derive(Clone, Copy)]
 pub enum Words {
     /// A program and its words.
     List,
@@ -29,7 +30,7 @@ impl Words {
 }
 
 /// How a command ended.
-#[derive(Clone, Copy, Debug, PartialEq, Eq)]
+#[derive(Clone, Copy)]
 pub enum End {
     Lost,
     Refused,
@@ -140,29 +141,28 @@ impl Command {
             };
             rest = behind;
         }
-        holds(lines.len() == self.taken, "a log isn't what was taken")?;
+        if lines.len() != self.taken {
+            return Err(Wrong::Differs("a log isn't what was taken"));
+        }
         holds(self.taken <= self.lines, "more was taken than was said")
     }
 
-    /// The log is all that was said.
-    pub fn has_whole_log(&self, lines: &[Line]) -> Result<(), Wrong> {
+    /// The log is all that was said. Answers whether that has lines.
+    pub fn has_whole_log(&self, lines: &[Line]) -> Result<bool, Wrong> {
         self.has_log(lines)?;
-        holds(lines.len() == self.lines, "a whole log lacks lines")
+        holds(lines.len() == self.lines, "a whole log lacks lines")?;
+        Ok(!lines.is_empty())
     }
 
     /// What a viewer sees is a front of the log, and no less than a viewer saw before.
     pub fn shows(&mut self, chunk: &Chunk) -> Result<(), Wrong> {
         self.shows_part(chunk, 0, u64::MAX, chunk.lines)?;
-        holds(
-            chunk.lines <= self.taken as u64,
-            "more is seen than the log has",
-        )?;
-        holds(
-            self.seen.unwrap_or(0) <= chunk.lines,
-            "less is seen than before",
-        )?;
+        if chunk.lines > self.taken as u64 {
+            return Err(Wrong::Differs("more is seen than the log has"));
+        }
+        let before = self.seen.unwrap_or(0);
         self.seen = Some(chunk.lines);
-        Ok(())
+        holds(before <= chunk.lines, "less is seen than before")
     }
 
     /// What a viewer sees of these lines, where so many are visible.
@@ -178,39 +178,91 @@ impl Command {
             wanted = behind_line_end(wanted);
         }
         let lines = limit.min(visible.saturating_sub(offset));
-        holds(chunk.first_line == offset, "another offset is told")?;
-        holds(chunk.lines == lines, "another number of lines is seen")?;
         let content = chunk.content.as_str().as_bytes();
-        holds(wanted.starts_with(content), "other lines are seen")?;
-        let ends = content.iter().filter(|byte| **byte == b'\n').count();
-        holds(ends as u64 == lines, "the seen lines are cut elsewhere")?;
-        holds(
-            content.is_empty() || content.ends_with(b"\n".as_slice()),
-            "the last seen line has no end",
-        )
+        if chunk.first_line != offset {
+            Err(Wrong::Differs("another offset is told"))
+        } else if chunk.lines != lines {
+            Err(Wrong::Differs("another number of lines is seen"))
+        } else if !wanted.starts_with(content) {
+            Err(Wrong::Differs("other lines are seen"))
+        } else if line_ends(content) != lines {
+            Err(Wrong::Differs("the seen lines are cut elsewhere"))
+        } else if !content.is_empty() && !content.ends_with(b"\n".as_slice()) {
+            Err(Wrong::Differs("the last seen line has no end"))
+        } else {
+            Ok(())
+        }
+    }
+
+    /// It runs, as the worker is to do.
+    pub fn run(
+        &mut self,
+        alloc: Global,
+        number: u64,
+        act: &WorkAct,
+    ) -> Result<Option<Kind>, Wrong> {
+        let WorkAct::Run { command, argv } = act else {
+            return Err(Wrong::Differs("a start is obeyed otherwise"));
+        };
+        self.runs = true;
+        if *command != number {
+            return Err(Wrong::Differs("another command is started"));
+        }
+        if !self.is_run_by(alloc, number, argv)? {
+            return Err(Wrong::Differs("other words are run"));
+        }
+        Ok(None)
+    }
+
+    /// The worker refuses to run it.
+    pub fn refuse(&mut self, act: &WorkAct) -> Result<Option<Kind>, Wrong> {
+        if !matches!(act, WorkAct::Nothing) {
+            return Err(Wrong::Differs("a start is obeyed otherwise"));
+        }
+        self.told = Some(End::Refused);
+        Ok(Some(Kind::RefusedStart))
     }
 
     /// The words that the worker is to run are those that were ordered.
-    pub fn is_run_by(&self, alloc: Global, command: u64, argv: &Argv) -> Result<bool, AllocError> {
+    fn is_run_by(&self, alloc: Global, command: u64, argv: &Argv) -> Result<bool, AllocError> {
         let number = format!(in alloc; "{command}")?;
-        let line = format!(in alloc; "build {command}")?;
         Ok(match self.words {
-            Words::List => are(argv, &["build", number.as_str()]),
-            Words::Line => are(argv, &["sh", "-c", line.as_str()]),
+            Words::List => is_list(argv.as_slice(), number.as_str()),
+            Words::Line => is_line(argv.as_slice(), number.as_str()),
             _ => false,
         })
     }
 }
 
-/// Whether the words are these.
-fn are(argv: &Argv, wanted: &[&str]) -> bool {
-    let words = argv.as_slice();
-    for (word, text) in words.iter().zip(wanted) {
-        if word.as_str() != *text {
-            return false;
+/// How many line ends there are.
+fn line_ends(content: &[u8]) -> u64 {
+    let mut ends: u64 = 0;
+    for byte in content {
+        if *byte == b'\n' {
+            ends = ends.saturating_add(1);
         }
     }
-    words.len() == wanted.len()
+    ends
+}
+
+/// Whether the words are a program and this number.
+fn is_list(words: &[Text], number: &str) -> bool {
+    match words {
+        [program, word] => program.as_str() == "build" && word.as_str() == number,
+        _ => false,
+    }
+}
+
+/// Whether the words are a shell and a line that ends with this number.
+fn is_line(words: &[Text], number: &str) -> bool {
+    match words {
+        [shell, flag, line] => {
+            shell.as_str() == "sh"
+                && flag.as_str() == "-c"
+                && line.as_str().strip_prefix("build ") == Some(number)
+        }
+        _ => false,
+    }
 }
 
 fn more(count: usize, by: usize) -> usize {

@@ -1,7 +1,7 @@
 //! How often each kind of thing happened.
 
 /// A kind of thing that happens in schedules.
-#[derive(Clone, Copy, Debug, PartialEq, Eq)]
+#[derive(Clone, Copy, Debug)]
 pub enum Kind {
     /// A request of the worker was taken for the first time.
     Taken,
@@ -54,7 +54,7 @@ pub enum Kind {
 
 const KINDS: usize = 26;
 
-#[derive(Clone, Copy, Debug)]
+#[derive(Clone, Copy)]
 pub struct Counts {
     numbers: [u64; KINDS],
 }

@@ -3,7 +3,9 @@
 use super::command::{Command, End, Words};
 use super::counts::Kind;
 use super::wrong::{Wrong, holds};
+use bm_lines::Letter;
 use bm_session::{Refusal, Reply, Session, Verdict};
+use bm_store::Chunk;
 use bm_work::{Sent, WorkAct, WorkRefusal};
 use std::alloc::{AllocError, Global};
 
@@ -14,7 +16,7 @@ const WINDOW: usize = 64;
 const COMMANDS: usize = 4;
 
 /// What a request of the worker tells.
-#[derive(Clone, Copy, Debug)]
+#[derive(Clone, Copy)]
 pub enum Report {
     /// So many lines.
     Lines(usize),
@@ -109,13 +111,11 @@ impl Ledger {
             if said.answered {
                 continue;
             }
-            let same = match rest.next() {
-                Some(sent) => {
-                    sent.seq == number as u64 && sent.bytes.as_slice() == said.bytes.as_slice()
-                }
+            let is_same = match rest.next() {
+                Some(sent) => is_sent(sent, number as u64, said.bytes.as_slice()),
                 None => false,
             };
-            holds(same, "another request is sent again")?;
+            holds(is_same, "another request is sent again")?;
         }
         holds(rest.next().is_none(), "more is sent again")
     }
@@ -124,11 +124,12 @@ impl Ledger {
 
     /// Why the master refuses to start a command.
     pub fn refusal_to_start(&self) -> Option<Refusal> {
-        let open = self
-            .commands
-            .iter()
-            .filter(|command| command.is_open())
-            .count();
+        let mut open: usize = 0;
+        for command in &self.commands {
+            if command.is_open() {
+                open = open.saturating_add(1);
+            }
+        }
         if open >= COMMANDS {
             Some(Refusal::TooManyOpen)
         } else {
@@ -137,17 +138,19 @@ impl Ledger {
     }
 
     pub fn start(&mut self, command: u64, words: Words) -> Result<(), Wrong> {
-        holds(
-            command == self.commands.len() as u64,
-            "a command has another number",
-        )?;
-        Ok(self.commands.push(Command::new(self.alloc, words))?)
+        let is_next = command == self.commands.len() as u64;
+        holds(is_next, "a command has another number")?;
+        match self.commands.push(Command::new(self.alloc, words)) {
+            Ok(()) => Ok(()),
+            Err(_) => Err(Wrong::OutOfMemory),
+        }
     }
 
     pub fn is_open(&self, command: u64) -> bool {
-        self.commands
-            .get(command as usize)
-            .is_some_and(|command| command.is_open())
+        match self.commands.get(command as usize) {
+            Some(command) => command.is_open(),
+            None => false,
+        }
     }
 
     pub fn stop(&mut self, command: u64) {
@@ -164,18 +167,18 @@ impl Ledger {
         starts: bool,
         bytes: Vec<u8>,
     ) -> Result<(), Wrong> {
-        holds(
-            number == self.orders.len() as u64,
-            "an order has another number",
-        )?;
-        self.orders.push(Order {
+        let is_next = number == self.orders.len() as u64;
+        let pushed = self.orders.push(Order {
             bytes,
             command: command as usize,
             starts,
             response: None,
             answered: false,
-        })?;
-        Ok(())
+        });
+        match pushed {
+            Ok(()) => holds(is_next, "an order has another number"),
+            Err(_) => Err(Wrong::OutOfMemory),
+        }
     }
 
     // The master's end.
@@ -199,11 +202,12 @@ impl Ledger {
     /// A request is taken, the next one or once more one before it, with this reply.
     pub fn take_request(&mut self, number: u64, reply: Reply) -> Result<Kind, Wrong> {
         let place = number as usize;
-        holds(place <= self.taken, "a request is passed over")?;
-        holds(
-            reply == Reply::Answer(number, Verdict::Done),
-            "a request is answered otherwise",
-        )?;
+        if place > self.taken {
+            return Err(Wrong::Differs("a request is passed over"));
+        }
+        if reply != Reply::Answer(number, Verdict::Done) {
+            return Err(Wrong::Differs("a request is answered otherwise"));
+        }
         if place < self.taken {
             return Ok(Kind::Repeat);
         }
@@ -242,12 +246,13 @@ impl Ledger {
             return Err(Wrong::Differs("an order is heard that wasn't given"));
         };
         if let Some(first) = &order.response {
-            holds(matches!(act, WorkAct::Nothing), "an order is obeyed twice")?;
-            holds(first.as_slice() == bytes, "an order is answered otherwise")?;
-            return Ok(Some(Kind::RepeatedOrder));
+            return is_repeated(first.as_slice(), act, bytes);
         }
-        order.response = Some(Vec::from_slice(self.alloc, bytes)?);
         let (place, starts) = (order.command, order.starts);
+        order.response = match Vec::from_slice(self.alloc, bytes) {
+            Ok(response) => Some(response),
+            Err(_) => return Err(Wrong::OutOfMemory),
+        };
         if starts {
             self.run(place, act)
         } else {
@@ -261,22 +266,11 @@ impl Ledger {
         let Some(command) = self.commands.get_mut(place) else {
             return Err(Wrong::Differs("a command is started that isn't there"));
         };
-        let can_run = command.words.can_run() && running < COMMANDS && !command.runs;
-        match act {
-            WorkAct::Run { command: k, argv } if can_run => {
-                holds(*k == place as u64, "another command is started")?;
-                command.runs = true;
-                holds(
-                    command.is_run_by(self.alloc, *k, argv)?,
-                    "other words are run",
-                )?;
-                Ok(None)
-            }
-            WorkAct::Nothing if !can_run => {
-                command.told = Some(End::Refused);
-                Ok(Some(Kind::RefusedStart))
-            }
-            _ => Err(Wrong::Differs("a start is obeyed otherwise")),
+        let place = place as u64;
+        if command.words.can_run() && running < COMMANDS && !command.runs {
+            command.run(self.alloc, place, act)
+        } else {
+            command.refuse(act)
         }
     }
 
@@ -305,12 +299,21 @@ impl Ledger {
     }
 
     pub fn runs(&self, place: usize) -> bool {
-        self.commands.get(place).is_some_and(|command| command.runs)
+        match self.commands.get(place) {
+            Some(command) => command.runs,
+            None => false,
+        }
     }
 
     /// How many commands run.
     pub fn running(&self) -> usize {
-        self.commands.iter().filter(|command| command.runs).count()
+        let mut running: usize = 0;
+        for command in &self.commands {
+            if command.runs {
+                running = running.saturating_add(1);
+            }
+        }
+        running
     }
 
     /// The command that runs behind so many others.
@@ -329,42 +332,97 @@ impl Ledger {
 
     /// Why the worker refuses to say so many requests of the command.
     pub fn refusal_to_say(&self, place: usize, places: usize) -> Option<WorkRefusal> {
-        let unanswered = self.requests.iter().filter(|said| !said.answered).count();
         if !self.runs(place) {
             Some(WorkRefusal::NoSuchCommand)
-        } else if unanswered.saturating_add(places) > WINDOW {
+        } else if self.unanswered().saturating_add(places) > WINDOW {
             Some(WorkRefusal::Window)
         } else {
             None
         }
     }
 
-    /// The worker made a request, under the next number.
-    pub fn say(
+    /// How many requests of the worker have no answer.
+    fn unanswered(&self) -> usize {
+        let mut unanswered: usize = 0;
+        for said in &self.requests {
+            if !said.answered {
+                unanswered = unanswered.saturating_add(1);
+            }
+        }
+        unanswered
+    }
+
+    /// The worker said a text for the command, which it had to refuse if there is a reason. Answers
+    /// of how many lines.
+    pub fn say_text(
         &mut self,
-        seq: u64,
-        bytes: Vec<u8>,
-        command: usize,
-        report: Report,
+        place: usize,
+        letter: Letter,
+        text: &str,
+        refusal: Option<WorkRefusal>,
+    ) -> Result<usize, Wrong> {
+        if refusal.is_some() {
+            return Err(Wrong::Differs("a text is said that is to be refused"));
+        }
+        let Some(command) = self.commands.get_mut(place) else {
+            return Err(Wrong::Differs("a text is of no command"));
+        };
+        match command.say(letter, text) {
+            Ok(lines) => Ok(lines),
+            Err(_) => Err(Wrong::OutOfMemory),
+        }
+    }
+
+    /// The worker told how the command ended, which it had to refuse if there is a reason.
+    pub fn tell_end(
+        &mut self,
+        place: usize,
+        end: End,
+        refusal: Option<WorkRefusal>,
     ) -> Result<(), Wrong> {
-        holds(
-            seq == self.requests.len() as u64,
-            "a request has another number",
-        )?;
-        self.requests.push(Said {
-            bytes,
-            command,
-            report,
-            answered: false,
-        })?;
+        if refusal.is_some() {
+            return Err(Wrong::Differs("an end is told that is to be refused"));
+        }
+        let Some(command) = self.commands.get_mut(place) else {
+            return Err(Wrong::Differs("an end is of no command"));
+        };
+        command.runs = false;
+        command.told = Some(end);
         Ok(())
     }
 
-    /// An order that the worker heard, to come once more.
-    pub fn heard_order(&self, place: usize) -> Option<&[u8]> {
-        let order = self.orders.get(place)?;
-        order.response.as_ref()?;
-        Some(order.bytes.as_slice())
+    /// The worker made a request, under the next number.
+    pub fn say(&mut self, sent: &Sent, command: usize, report: Report) -> Result<(), Wrong> {
+        let is_next = sent.seq == self.requests.len() as u64;
+        let said = match Vec::from_slice(self.alloc, sent.bytes.as_slice()) {
+            Ok(bytes) => Said {
+                bytes,
+                command,
+                report,
+                answered: false,
+            },
+            Err(_) => return Err(Wrong::OutOfMemory),
+        };
+        match self.requests.push(said) {
+            Ok(()) => holds(is_next, "a request has another number"),
+            Err(_) => Err(Wrong::OutOfMemory),
+        }
+    }
+
+    /// The bytes of a request that was said.
+    pub fn said(&self, place: usize) -> Result<Vec<u8>, Wrong> {
+        let Some(said) = self.requests.get(place) else {
+            return Err(Wrong::Differs("a request is taken that wasn't said"));
+        };
+        Ok(said.bytes.clone()?)
+    }
+
+    /// The bytes of an order, where the worker heard it.
+    pub fn heard_order(&self, place: usize) -> Result<Option<Vec<u8>>, AllocError> {
+        match self.orders.get(place) {
+            Some(order) if order.response.is_some() => Ok(Some(order.bytes.clone()?)),
+            _ => Ok(None),
+        }
     }
 
     // What is compared.
@@ -375,14 +433,27 @@ impl Ledger {
         let Some(command) = self.commands.get(place) else {
             return Ok(());
         };
-        let Some(log) = session.log(self.alloc, place as u64, "stdio")? else {
-            return Err(Wrong::Differs("a log isn't there"));
-        };
-        command.has_log(log.lines())?;
-        let other = session.log(self.alloc, place as u64, "stderr")?;
-        holds(other.is_none(), "there is a log of another name")?;
+        self.compare_log(session, place, command)?;
+        if !self.is_no_log(session, place, "stderr")? {
+            return Err(Wrong::Differs("there is a log of another name"));
+        }
         let outcome = session.outcome(place as u64);
         holds(outcome == command.outcome(), "a command ended otherwise")
+    }
+
+    fn compare_log(&self, session: &Session, place: usize, command: &Command) -> Result<(), Wrong> {
+        match session.log(self.alloc, place as u64, "stdio") {
+            Ok(Some(log)) => command.has_log(log.lines()),
+            Ok(None) => Err(Wrong::Differs("a log isn't there")),
+            Err(_) => Err(Wrong::OutOfMemory),
+        }
+    }
+
+    fn is_no_log(&self, session: &Session, place: usize, name: &str) -> Result<bool, Wrong> {
+        match session.log(self.alloc, place as u64, name) {
+            Ok(log) => Ok(log.is_none()),
+            Err(_) => Err(Wrong::OutOfMemory),
+        }
     }
 
     /// The log is all that was said for the command. Answers whether that has lines.
@@ -390,10 +461,52 @@ impl Ledger {
         let Some(command) = self.commands.get(place) else {
             return Err(Wrong::Differs("a log is of no command"));
         };
-        let Some(log) = session.log(self.alloc, place as u64, "stdio")? else {
-            return Err(Wrong::Differs("a log isn't there"));
-        };
-        command.has_whole_log(log.lines())?;
-        Ok(!log.lines().is_empty())
+        match session.log(self.alloc, place as u64, "stdio") {
+            Ok(Some(log)) => command.has_whole_log(log.lines()),
+            Ok(None) => Err(Wrong::Differs("a log isn't there")),
+            Err(_) => Err(Wrong::OutOfMemory),
+        }
+    }
+
+    /// What viewers see of the command's log, if there is one, is a front of it.
+    pub fn compare_seen(&mut self, place: usize, seen: Option<&Chunk>) -> Result<(), Wrong> {
+        match (seen, self.commands.get_mut(place)) {
+            (Some(chunk), Some(command)) => command.shows(chunk),
+            (None, Some(command)) => holds(command.seen.is_none(), "a log that was seen is gone"),
+            _ => Err(Wrong::Differs("a log is seen of no command")),
+        }
+    }
+
+    /// A part of the command's log is seen, of which so many lines are visible, or neither is.
+    pub fn compare_part(
+        &self,
+        place: usize,
+        part: Option<&Chunk>,
+        (offset, limit): (u64, u64),
+        visible: Option<u64>,
+    ) -> Result<(), Wrong> {
+        match (part, visible, self.commands.get(place)) {
+            (None, None, _) => Ok(()),
+            (Some(part), Some(visible), Some(command)) => {
+                command.shows_part(part, offset, limit, visible)
+            }
+            _ => Err(Wrong::Differs("a log is seen that isn't there")),
+        }
+    }
+}
+
+/// Whether the request that is sent has this number and these bytes.
+fn is_sent(sent: &Sent, number: u64, bytes: &[u8]) -> bool {
+    sent.seq == number && sent.bytes.as_slice() == bytes
+}
+
+/// An order that comes once more leads to nothing and has the first one's response.
+fn is_repeated(first: &[u8], act: &WorkAct, bytes: &[u8]) -> Result<Option<Kind>, Wrong> {
+    if !matches!(act, WorkAct::Nothing) {
+        Err(Wrong::Differs("an order is obeyed twice"))
+    } else if first != bytes {
+        Err(Wrong::Differs("an order is answered otherwise"))
+    } else {
+        Ok(Some(Kind::RepeatedOrder))
     }
 }

@@ -3,7 +3,7 @@
 use super::choices::Choices;
 
 /// A move of a schedule.
-#[derive(Clone, Copy, Debug, PartialEq, Eq)]
+#[derive(Clone, Copy)]
 pub enum Move {
     Up,
     Go,

@@ -5,15 +5,15 @@ ghost use Rattle.std.specs.Prelude.{◌≤◌};
 use super::choices::Choices;
 use super::command::{End, Words};
 use super::counts::{Counts, Kind};
+use super::lane::{Lane, Said};
 use super::ledger::{Ledger, Report};
 use super::moods::{MOODS, Move, choose};
 use super::wire;
 use super::wrong::{Wrong, holds};
 use bm_lines::Text;
 use bm_msg::{Message, Request};
-use bm_session::{Body, Event, Refusal, Reply, Results, Verdict};
+use bm_session::{Body, Event, Refusal, Reply, Results};
 use bm_work::{Finish, Sent, WorkAct, WorkRefusal, Worker};
-use bm_world::{Answer, Step, World};
 use std::alloc::{AllocError, Global};
 use std::collections::VecDeque;
 
@@ -26,7 +26,7 @@ const LONGEST: usize = 65_536;
 /// More messages than a schedule has.
 const MESSAGES: usize = 10_000;
 
-#[derive(Clone, Copy, Debug, PartialEq, Eq)]
+#[derive(Clone, Copy, PartialEq, Eq)]
 enum Connection {
     Down,
     Up,
@@ -41,27 +41,19 @@ enum Turn {
     Down,
 }
 
-/// What the lane says to an event.
-#[derive(Clone, Copy)]
-enum Said {
-    Heard(Reply),
-    Refused(Refusal),
-    Busy,
-}
-
 #[derive(Drop)]
 pub struct Schedule {
     alloc: Global,
     choices: Choices,
     mood: usize,
     pub counts: Counts,
-    world: World,
+    lane: Lane,
     worker: Worker,
     connection: Connection,
     to_master: VecDeque<Vec<u8>>,
     to_worker: VecDeque<Vec<u8>>,
-    /// A message that met a full queue.
-    kept: Option<Event>,
+    /// The bytes of a message that met a full queue.
+    kept: Option<Vec<u8>>,
     ledger: Ledger,
     questions: u64,
 }
@@ -76,12 +68,13 @@ impl Schedule {
         requires some { 1 ≤ capacity }
         requires few { capacity ≤ 65536 }
     {
+        let lane = Lane::new(alloc, capacity)?;
         Ok(Schedule {
             alloc,
             choices: Choices::new(seed, capacity as u64),
             mood: (seed % MOODS.len() as u64) as usize,
             counts,
-            world: World::new(alloc, capacity)?,
+            lane,
             worker: Worker::new(alloc),
             connection: Connection::Down,
             to_master: VecDeque::new(alloc),
@@ -141,15 +134,26 @@ impl Schedule {
 
     /// The worker sends its requests without an answer again, and the master its orders.
     fn resume(&mut self) -> Result<(), Wrong> {
-        let again = self.worker.resend()?;
-        self.ledger.sends_again(again.as_slice())?;
+        match self.worker.resend() {
+            Ok(again) => self.send_again(again.as_slice())?,
+            Err(_) => return Err(Wrong::OutOfMemory),
+        }
+        self.order_again()
+    }
+
+    fn send_again(&mut self, again: &[Sent]) -> Result<(), Wrong> {
+        self.ledger.sends_again(again)?;
         for sent in again {
-            self.to_master.push_back(sent.bytes.into_vec())?;
+            wire::send(self.alloc, &mut self.to_master, sent.bytes.as_slice())?;
             self.counts.add(Kind::Resent);
         }
+        Ok(())
+    }
+
+    fn order_again(&mut self) -> Result<(), Wrong> {
         for order in &self.ledger.orders {
             if !order.answered {
-                self.to_worker.push_back(order.bytes.clone()?)?;
+                wire::send(self.alloc, &mut self.to_worker, order.bytes.as_slice())?;
                 self.counts.add(Kind::OrderedAgain);
             }
         }
@@ -199,20 +203,25 @@ impl Schedule {
     /// Whether the connection's turn is refused, which it has to be for that reason. A full queue
     /// is drained, and then takes it.
     fn is_refused(&mut self, turn: Turn, refusal: Option<Refusal>) -> Result<bool, Wrong> {
-        let mut said = self.turn(turn)?;
-        if matches!(said, Said::Busy) && refusal.is_none() {
-            self.counts.add(Kind::Busy);
-            self.drain()?;
-            said = self.turn(turn)?;
+        let said = match self.turn(turn)? {
+            Said::Busy if refusal.is_none() => self.turn_behind_a_drain(turn)?,
+            said => said,
+        };
+        if refusal.is_none() && matches!(said, Said::Heard(Reply::Silent)) {
+            return Ok(false);
         }
-        match (said, refusal) {
-            (Said::Heard(Reply::Silent), None) => Ok(false),
-            (said, refusal) => self.is_refusal(said, refusal),
-        }
+        self.note_refused(said, refusal)?;
+        Ok(true)
+    }
+
+    fn turn_behind_a_drain(&mut self, turn: Turn) -> Result<Said, Wrong> {
+        self.counts.add(Kind::Busy);
+        self.drain()?;
+        self.turn(turn)
     }
 
     fn turn(&mut self, turn: Turn) -> Result<Said, Wrong> {
-        self.tell(match turn {
+        self.lane.tell(match turn {
             Turn::Up => Event::Up,
             Turn::Cut => Event::Cut,
             Turn::Down => Event::Down,
@@ -220,30 +229,13 @@ impl Schedule {
     }
 
     /// The lane said that refusal.
-    fn is_refusal(&mut self, said: Said, refusal: Option<Refusal>) -> Result<bool, Wrong> {
+    fn note_refused(&mut self, said: Said, refusal: Option<Refusal>) -> Result<(), Wrong> {
         match (said, refusal) {
             (Said::Refused(reason), Some(wanted)) if reason == wanted => {
                 self.counts.add(Kind::RefusedEvent);
-                Ok(true)
+                Ok(())
             }
             _ => Err(Wrong::Differs("an event is answered otherwise")),
-        }
-    }
-
-    fn tell(&mut self, event: Event) -> Result<Said, Wrong> {
-        match self.step(Step::Hear(event)) {
-            Ok(Answer::Heard(reply)) => Ok(Said::Heard(reply)),
-            Ok(Answer::Refused(reason)) => Ok(Said::Refused(reason)),
-            Ok(Answer::Busy) => Ok(Said::Busy),
-            Ok(_) => Err(Wrong::Differs("an event is answered otherwise")),
-            Err(wrong) => Err(wrong),
-        }
-    }
-
-    fn step(&mut self, step: Step) -> Result<Answer, Wrong> {
-        match self.world.step(step) {
-            Ok(answer) => Ok(answer),
-            Err(_) => Err(Wrong::OutOfMemory),
         }
     }
 
@@ -255,16 +247,15 @@ impl Schedule {
             Connection::Up => self.ledger.refusal_to_start(),
             _ => Some(Refusal::NotUp),
         };
-        match (self.tell(Event::Go)?, refusal) {
-            (Said::Heard(Reply::Start(number, command)), None) => self.start(number, command),
-            (Said::Busy, None) => {
+        match self.lane.tell(Event::Go)? {
+            Said::Heard(Reply::Start(number, command)) if refusal.is_none() => {
+                self.start(number, command)
+            }
+            Said::Busy if refusal.is_none() => {
                 self.counts.add(Kind::Busy);
                 Ok(())
             }
-            (said, refusal) => {
-                let _ = self.is_refusal(said, refusal)?;
-                Ok(())
-            }
+            said => self.note_refused(said, refusal),
         }
     }
 
@@ -277,10 +268,27 @@ impl Schedule {
             _ => Words::List,
         };
         self.ledger.start(command, words)?;
-        let request = wire::start(self.alloc, command, words)?;
-        let bytes = wire::request(self.alloc, number, request)?;
-        self.to_worker.push_back(bytes.clone()?)?;
-        self.ledger.order(number, command, true, bytes)
+        match wire::start(self.alloc, command, words) {
+            Ok(request) => self.order(number, command, true, request),
+            Err(_) => Err(Wrong::OutOfMemory),
+        }
+    }
+
+    /// The master sends an order.
+    fn order(
+        &mut self,
+        number: u64,
+        command: u64,
+        starts: bool,
+        request: Request,
+    ) -> Result<(), Wrong> {
+        match wire::request(self.alloc, number, request) {
+            Ok(bytes) => {
+                wire::send(self.alloc, &mut self.to_worker, bytes.as_slice())?;
+                self.ledger.order(number, command, starts, bytes)
+            }
+            Err(wrong) => Err(wrong),
+        }
     }
 
     /// The master orders to stop a command that is open, or ended, or isn't there.
@@ -291,24 +299,19 @@ impl Schedule {
             Connection::Up => Some(Refusal::NoSuchCommand),
             _ => Some(Refusal::NotUp),
         };
-        match (self.tell(Event::Stop(place))?, refusal) {
-            (Said::Heard(Reply::Interrupt(number, command)), None) => {
-                holds(command == place, "another command is stopped")?;
-                self.interrupt(number, command)
-            }
-            (said, refusal) => {
-                let _ = self.is_refusal(said, refusal)?;
-                Ok(())
-            }
+        match self.lane.tell(Event::Stop(place))? {
+            Said::Heard(Reply::Interrupt(number, command))
+                if refusal.is_none() && command == place => { self.interrupt(number, command) }
+            said => self.note_refused(said, refusal),
         }
     }
 
     fn interrupt(&mut self, number: u64, command: u64) -> Result<(), Wrong> {
         self.ledger.stop(command);
-        let request = wire::interrupt(self.alloc, command)?;
-        let bytes = wire::request(self.alloc, number, request)?;
-        self.to_worker.push_back(bytes.clone()?)?;
-        self.ledger.order(number, command, false, bytes)
+        match wire::interrupt(self.alloc, command) {
+            Ok(request) => self.order(number, command, false, request),
+            Err(_) => Err(Wrong::OutOfMemory),
+        }
     }
 
     /// The master asks the worker what is no order.
@@ -316,17 +319,20 @@ impl Schedule {
         if self.connection != Connection::Up {
             return Ok(());
         }
-        let request = match self.choices.below(3) {
-            0 => Request::Keepalive,
-            1 => Request::GetWorkerInfo,
-            _ => Request::Print {
-                message: Text::from_str(self.alloc, "still there?\n")?,
-            },
-        };
+        let question = self.choices.below(3);
+        match wire::question(self.alloc, question) {
+            Ok(request) => self.send_question(request),
+            Err(_) => Err(Wrong::OutOfMemory),
+        }
+    }
+
+    fn send_question(&mut self, request: Request) -> Result<(), Wrong> {
         let number = QUESTIONS.saturating_add(self.questions);
         self.questions = self.questions.saturating_add(1);
-        let bytes = wire::request(self.alloc, number, request)?;
-        Ok(self.to_worker.push_back(bytes)?)
+        match wire::request(self.alloc, number, request) {
+            Ok(bytes) => wire::push(&mut self.to_worker, bytes),
+            Err(wrong) => Err(wrong),
+        }
     }
 
     // The master's end.
@@ -336,12 +342,8 @@ impl Schedule {
         if self.connection != Connection::Up {
             return Ok(());
         }
-        if let Some(event) = self.kept.take() {
-            self.hear(event)?;
-            if self.kept.is_none() {
-                self.counts.add(Kind::TakenLater);
-            }
-            return Ok(());
+        if let Some(bytes) = self.kept.take() {
+            return self.hear_kept(bytes.as_slice());
         }
         match self.to_master.pop_front() {
             Some(bytes) => self.hear_bytes(bytes.as_slice()),
@@ -349,29 +351,42 @@ impl Schedule {
         }
     }
 
-    fn hear_bytes(&mut self, bytes: &[u8]) -> Result<(), Wrong> {
-        let message = wire::message(self.alloc, bytes)?;
-        let event = Event::of_message(self.alloc, message)?;
-        self.hear(event)
+    fn hear_kept(&mut self, bytes: &[u8]) -> Result<(), Wrong> {
+        self.hear_bytes(bytes)?;
+        if self.kept.is_none() {
+            self.counts.add(Kind::TakenLater);
+        }
+        Ok(())
     }
 
-    /// The master takes the message, or keeps it where the queue is full.
-    fn hear(&mut self, event: Event) -> Result<(), Wrong> {
-        match self.tell_copy(&event) {
-            Ok(Said::Heard(reply)) => self.note_taken(&event, reply),
-            Ok(Said::Busy) => {
-                self.counts.add(Kind::Busy);
-                self.kept = Some(event);
-                Ok(())
-            }
-            Ok(Said::Refused(_)) => Err(Wrong::Differs("a message is refused")),
+    fn hear_bytes(&mut self, bytes: &[u8]) -> Result<(), Wrong> {
+        match wire::event(self.alloc, bytes) {
+            Ok(event) => self.hear(&event, bytes),
             Err(wrong) => Err(wrong),
         }
     }
 
+    /// The master takes the message, or keeps its bytes where the queue is full.
+    fn hear(&mut self, event: &Event, bytes: &[u8]) -> Result<(), Wrong> {
+        match self.tell_copy(event)? {
+            Said::Heard(reply) => self.note_taken(event, reply),
+            Said::Busy => self.keep(bytes),
+            Said::Refused(_) => Err(Wrong::Differs("a message is refused")),
+        }
+    }
+
+    fn keep(&mut self, bytes: &[u8]) -> Result<(), Wrong> {
+        self.counts.add(Kind::Busy);
+        self.kept = match Vec::from_slice(self.alloc, bytes) {
+            Ok(kept) => Some(kept),
+            Err(_) => return Err(Wrong::OutOfMemory),
+        };
+        Ok(())
+    }
+
     fn tell_copy(&mut self, event: &Event) -> Result<Said, Wrong> {
         match event.copy() {
-            Ok(copy) => self.tell(copy),
+            Ok(copy) => self.lane.tell(copy),
             Err(_) => Err(Wrong::OutOfMemory),
         }
     }
@@ -386,10 +401,16 @@ impl Schedule {
             Event::In(number, _) => {
                 let kind = self.ledger.take_request(*number, reply)?;
                 self.counts.add(kind);
-                let response = wire::response(self.alloc, *number, Verdict::Done)?;
-                Ok(self.to_worker.push_back(response)?)
+                self.answer(*number)
             }
             _ => Err(Wrong::Differs("what came is no message")),
+        }
+    }
+
+    fn answer(&mut self, number: u64) -> Result<(), Wrong> {
+        match wire::done(self.alloc, number) {
+            Ok(bytes) => wire::push(&mut self.to_worker, bytes),
+            Err(wrong) => Err(wrong),
         }
     }
 
@@ -399,11 +420,10 @@ impl Schedule {
             return Ok(());
         }
         let place = self.choices.below(self.ledger.taken.max(1) as u64) as usize;
-        let bytes = match self.ledger.requests.get(place) {
-            Some(said) => said.bytes.clone()?,
-            None => return Err(Wrong::Differs("a request is taken that wasn't said")),
-        };
-        self.hear_bytes(bytes.as_slice())?;
+        match self.ledger.said(place) {
+            Ok(bytes) => self.hear_bytes(bytes.as_slice())?,
+            Err(wrong) => return Err(wrong),
+        }
         holds(self.kept.is_none(), "a repeat waits for a place")
     }
 
@@ -437,11 +457,16 @@ impl Schedule {
     /// The worker's response to an order, or to another request of the master.
     fn respond(&mut self, number: u64, act: &WorkAct, bytes: Vec<u8>) -> Result<(), Wrong> {
         if number < QUESTIONS {
-            if let Some(kind) = self.ledger.obey(number, act, bytes.as_slice())? {
-                self.counts.add(kind);
-            }
+            self.note_obeyed(number, act, bytes.as_slice())?;
         }
-        Ok(self.to_master.push_back(bytes)?)
+        wire::push(&mut self.to_master, bytes)
+    }
+
+    fn note_obeyed(&mut self, number: u64, act: &WorkAct, bytes: &[u8]) -> Result<(), Wrong> {
+        if let Some(kind) = self.ledger.obey(number, act, bytes)? {
+            self.counts.add(kind);
+        }
+        Ok(())
     }
 
     /// An order that the worker heard comes once more.
@@ -451,11 +476,11 @@ impl Schedule {
             return Ok(());
         }
         let place = self.choices.below(given.max(1) as u64) as usize;
-        let bytes = match self.ledger.heard_order(place) {
-            Some(bytes) => Vec::from_slice(self.alloc, bytes)?,
-            None => return Ok(()),
-        };
-        self.obey_bytes(bytes.as_slice())
+        match self.ledger.heard_order(place) {
+            Ok(Some(bytes)) => self.obey_bytes(bytes.as_slice()),
+            Ok(None) => Ok(()),
+            Err(_) => Err(Wrong::OutOfMemory),
+        }
     }
 
     /// A command, most often one that runs.
@@ -477,20 +502,23 @@ impl Schedule {
         let Some(place) = self.speaker() else {
             return Ok(());
         };
-        let text = self.choices.text(self.alloc, self.ledger.requests.len())?;
+        let mark = self.ledger.requests.len();
+        match self.choices.text(self.alloc, mark) {
+            Ok(text) => self.say_text(place, text.as_str()),
+            Err(_) => Err(Wrong::OutOfMemory),
+        }
+    }
+
+    fn say_text(&mut self, place: usize, text: &str) -> Result<(), Wrong> {
         let letter = self.choices.letter();
         if text.len() > LONGEST {
             return Err(Wrong::Differs("a text is too long"));
         }
         let wanted = self.ledger.refusal_to_say(place, 1);
-        match self.worker.say(place as u64, letter, text.as_str()) {
+        match self.worker.say(place as u64, letter, text) {
             Ok(sent) => {
-                holds(wanted.is_none(), "a text is said that is to be refused")?;
-                let Some(command) = self.ledger.commands.get_mut(place) else {
-                    return Err(Wrong::Differs("a text is of no command"));
-                };
-                let lines = command.say(letter, text.as_str())?;
-                self.send(sent, place, Report::Lines(lines))
+                let lines = self.ledger.say_text(place, letter, text, wanted)?;
+                self.send(&sent, place, Report::Lines(lines))
             }
             Err(refusal) => self.note_refusal(refusal, wanted),
         }
@@ -510,14 +538,13 @@ impl Schedule {
     }
 
     /// A request goes to the master where there is a connection, and else waits for one.
-    fn send(&mut self, sent: Sent, command: usize, report: Report) -> Result<(), Wrong> {
-        let bytes = sent.bytes.into_vec();
+    fn send(&mut self, sent: &Sent, command: usize, report: Report) -> Result<(), Wrong> {
         if self.connection == Connection::Up {
-            self.to_master.push_back(bytes.clone()?)?;
+            wire::send(self.alloc, &mut self.to_master, sent.bytes.as_slice())?;
         } else {
             self.counts.add(Kind::SaidInCut);
         }
-        self.ledger.say(sent.seq, bytes, command, report)
+        self.ledger.say(sent, command, report)
     }
 
     fn finish_one(&mut self) -> Result<(), Wrong> {
@@ -530,20 +557,27 @@ impl Schedule {
     /// The worker tells how the command ended.
     fn finish(&mut self, place: usize) -> Result<(), Wrong> {
         if self.choices.one_in(4) {
-            let text = Text::from_str(self.alloc, "interrupted")?;
-            if text.as_str().len() > LONGEST {
-                return Err(Wrong::Differs("a fault is too long"));
-            }
-            let wanted = self.ledger.refusal_to_say(place, 1);
-            return match self.worker.finish(place as u64, Finish::Fault(text)) {
-                Ok(requests) => self.send_end(requests, place, End::Fault, wanted),
-                Err(refusal) => self.note_refusal(refusal, wanted),
+            return match Text::from_str(self.alloc, "interrupted") {
+                Ok(text) => self.finish_with(place, text),
+                Err(_) => Err(Wrong::OutOfMemory),
             };
         }
         let code = self.choices.code();
         let wanted = self.ledger.refusal_to_say(place, 2);
         match self.worker.finish(place as u64, Finish::Rc(code)) {
-            Ok(requests) => self.send_end(requests, place, End::Code(code), wanted),
+            Ok(requests) => self.send_end(requests.as_slice(), place, End::Code(code), wanted),
+            Err(refusal) => self.note_refusal(refusal, wanted),
+        }
+    }
+
+    /// The worker tells that the command ended with a fault.
+    fn finish_with(&mut self, place: usize, fault: Text) -> Result<(), Wrong> {
+        if fault.as_str().len() > LONGEST {
+            return Err(Wrong::Differs("a fault is too long"));
+        }
+        let wanted = self.ledger.refusal_to_say(place, 1);
+        match self.worker.finish(place as u64, Finish::Fault(fault)) {
+            Ok(requests) => self.send_end(requests.as_slice(), place, End::Fault, wanted),
             Err(refusal) => self.note_refusal(refusal, wanted),
         }
     }
@@ -551,17 +585,12 @@ impl Schedule {
     /// Sends an update with the exit code, where there is one, and a complete.
     fn send_end(
         &mut self,
-        requests: Vec<Sent>,
+        requests: &[Sent],
         place: usize,
         end: End,
         wanted: Option<WorkRefusal>,
     ) -> Result<(), Wrong> {
-        holds(wanted.is_none(), "an end is told that is to be refused")?;
-        let Some(command) = self.ledger.commands.get_mut(place) else {
-            return Err(Wrong::Differs("an end is of no command"));
-        };
-        command.runs = false;
-        command.told = Some(end);
+        self.ledger.tell_end(place, end, wanted)?;
         let mut report = match end {
             End::Code(code) => Report::Code(code),
             _ => Report::End(end),
@@ -576,10 +605,8 @@ impl Schedule {
     // Viewers, and what is compared.
 
     fn drain(&mut self) -> Result<(), Wrong> {
-        match self.step(Step::Drain)? {
-            Answer::Took | Answer::Empty => Ok(()),
-            _ => Err(Wrong::Differs("a drain is answered otherwise")),
-        }
+        self.lane.drains()?;
+        Ok(())
     }
 
     /// A viewer asks for some lines of a log.
@@ -587,34 +614,23 @@ impl Schedule {
         let place = self.choices.below(self.ledger.commands.len() as u64 + 1) as usize;
         let offset = self.choices.below(12);
         let limit = self.choices.below(8);
-        let part = self.lines(place, "stdio", offset, limit)?;
-        let all = self.lines(place, "stdio", 0, u64::MAX)?;
-        match (part, all, self.ledger.commands.get(place)) {
-            (Answer::NoLog, Answer::NoLog, _) => Ok(()),
-            (Answer::Chunk(part), Answer::Chunk(all), Some(command)) => {
-                self.counts.add(Kind::Look);
-                command.shows_part(&part, offset, limit, all.lines)
-            }
-            _ => Err(Wrong::Differs("a log is seen that isn't there")),
+        let visible = self.lane.visible(place, "stdio")?;
+        if visible.is_some() {
+            self.counts.add(Kind::Look);
         }
-    }
-
-    fn lines(
-        &mut self,
-        place: usize,
-        name: &str,
-        offset: u64,
-        limit: u64,
-    ) -> Result<Answer, Wrong> {
-        let name = Text::from_str(self.alloc, name)?;
-        self.step(Step::Look(place as u64, name, offset, limit))
+        match self.lane.lines(place, "stdio", offset, limit) {
+            Ok(part) => self
+                .ledger
+                .compare_part(place, part.as_ref(), (offset, limit), visible),
+            Err(wrong) => Err(wrong),
+        }
     }
 
     /// Each log is what was said for its command as far as it was taken, and what viewers see is a
     /// front of it.
     pub fn compare(&mut self) -> Result<(), Wrong> {
         for place in 0..self.ledger.commands.len() {
-            self.ledger.compare(self.world.session(), place)?;
+            self.ledger.compare(self.lane.session(), place)?;
             self.compare_seen(place)?;
             self.counts.add(Kind::Compared);
         }
@@ -622,18 +638,12 @@ impl Schedule {
     }
 
     fn compare_seen(&mut self, place: usize) -> Result<(), Wrong> {
-        let other = self.lines(place, "stderr", 0, u64::MAX)?;
-        holds(
-            matches!(other, Answer::NoLog),
-            "a log of another name is seen",
-        )?;
-        let answer = self.lines(place, "stdio", 0, u64::MAX)?;
-        match (answer, self.ledger.commands.get_mut(place)) {
-            (Answer::Chunk(chunk), Some(command)) => command.shows(&chunk),
-            (Answer::NoLog, Some(command)) => {
-                holds(command.seen.is_none(), "a log that was seen is gone")
-            }
-            _ => Err(Wrong::Differs("a look is answered otherwise")),
+        if self.lane.visible(place, "stderr")?.is_some() {
+            return Err(Wrong::Differs("a log of another name is seen"));
+        }
+        match self.lane.lines(place, "stdio", 0, u64::MAX) {
+            Ok(seen) => self.ledger.compare_seen(place, seen.as_ref()),
+            Err(wrong) => Err(wrong),
         }
     }
 
@@ -650,15 +660,22 @@ impl Schedule {
             self.up()?;
         }
         self.arrive()?;
+        self.finish_most()?;
+        if !self.is_still() {
+            return Err(Wrong::Differs("something never arrives"));
+        }
+        self.ledger.note_whole();
+        self.drain_all()
+    }
+
+    fn finish_most(&mut self) -> Result<(), Wrong> {
         for place in 0..self.ledger.commands.len() {
             if self.ledger.runs(place) && !self.choices.one_in(6) {
                 self.finish(place)?;
                 self.arrive()?;
             }
         }
-        holds(self.is_still(), "something never arrives")?;
-        self.ledger.note_whole();
-        self.drain_all()
+        Ok(())
     }
 
     /// Lets all arrive that is in flight.
@@ -678,10 +695,8 @@ impl Schedule {
 
     fn drain_all(&mut self) -> Result<(), Wrong> {
         for _ in 0..MESSAGES {
-            match self.step(Step::Drain)? {
-                Answer::Took => {}
-                Answer::Empty => return Ok(()),
-                _ => return Err(Wrong::Differs("a drain is answered otherwise")),
+            if !self.lane.drains()? {
+                return Ok(());
             }
         }
         Err(Wrong::Differs("a queue is never empty"))
@@ -693,8 +708,8 @@ impl Schedule {
     pub fn compare_whole(&mut self) -> Result<(), Wrong> {
         self.compare()?;
         let is_up = self.connection == Connection::Up;
-        if is_up {
-            holds(self.worker.resend()?.is_empty(), "a request has no answer")?;
+        if is_up && !self.has_all_answers()? {
+            return Err(Wrong::Differs("a request has no answer"));
         }
         for place in 0..self.ledger.commands.len() {
             self.compare_end(place, is_up && place >= self.ledger.first)?;
@@ -702,28 +717,40 @@ impl Schedule {
         Ok(())
     }
 
+    /// Whether each request of the worker has its answer.
+    fn has_all_answers(&self) -> Result<bool, Wrong> {
+        match self.worker.resend() {
+            Ok(requests) => Ok(requests.is_empty()),
+            Err(_) => Err(Wrong::OutOfMemory),
+        }
+    }
+
     fn compare_end(&mut self, place: usize, is_of_the_last: bool) -> Result<(), Wrong> {
         let Some(command) = self.ledger.commands.get(place) else {
             return Ok(());
         };
-        holds(
-            command.seen == Some(command.taken as u64),
-            "a drained log isn't seen whole",
-        )?;
-        let outcome = self.world.session().outcome(place as u64);
-        self.counts.add(kind_of(outcome));
-        if is_of_the_last {
-            holds(command.whole, "a request of the last session isn't taken")?;
-            holds(
-                outcome == command.told_outcome(),
-                "a command didn't end as told",
-            )?;
+        let outcome = self.lane.session().outcome(place as u64);
+        let is_whole = command.whole;
+        if command.seen != Some(command.taken as u64) {
+            return Err(Wrong::Differs("a drained log isn't seen whole"));
         }
-        if command.whole {
-            self.counts.add(Kind::Whole);
-            if self.ledger.compare_whole(self.world.session(), place)? {
-                self.counts.add(Kind::WholeWithLines);
-            }
+        if is_of_the_last && !is_whole {
+            return Err(Wrong::Differs("a request of the last session isn't taken"));
+        }
+        if is_of_the_last && outcome != command.told_outcome() {
+            return Err(Wrong::Differs("a command didn't end as told"));
+        }
+        self.counts.add(kind_of(outcome));
+        if is_whole {
+            self.compare_whole_log(place)?;
+        }
+        Ok(())
+    }
+
+    fn compare_whole_log(&mut self, place: usize) -> Result<(), Wrong> {
+        self.counts.add(Kind::Whole);
+        if self.ledger.compare_whole(self.lane.session(), place)? {
+            self.counts.add(Kind::WholeWithLines);
         }
         Ok(())
     }

@@ -2,9 +2,9 @@
 
 use bm_msg::MsgError;
 use bm_value::{DecodeError, EncodeError};
-use std::alloc::{AllocError, AllocFailed};
+use std::alloc::AllocError;
 
-#[derive(Clone, Copy, Debug, PartialEq, Eq)]
+#[derive(Clone, Copy, Debug)]
 pub enum Wrong {
     OutOfMemory,
     /// What isn't as it was said.
@@ -22,12 +22,6 @@ pub fn holds(is_so: bool, otherwise: &'static str) -> Result<(), Wrong> {
 
 impl From<AllocError> for Wrong {
     fn from(_error: AllocError) -> Wrong {
-        Wrong::OutOfMemory
-    }
-}
-
-impl<T: Drop> From<AllocFailed<T>> for Wrong {
-    fn from(_error: AllocFailed<T>) -> Wrong {
         Wrong::OutOfMemory
     }
 }
