@@ -1,6 +1,7 @@
 //! Builds on workers that connect by themselves.
 
-use crate::stage::{Stage, start};
+use crate::hand::Hand;
+use crate::stage::{Scene, open, start};
 use bm_lines::Letter;
 use std::alloc::AllocGlobal;
 use std::net::{Net, TcpStream};
@@ -47,33 +48,28 @@ build = [{worker=\"w0\", step=[{name=\"s\",command=[\"a\"]}, {name=\"s\",command
 const IDLE: &str = "worker = [{name=\"w0\",password=\"p\"}]\n";
 
 // Whether a worker that has logged in runs the one build.
-fn is_run<R>(stage: Stage<R>) -> bool
+fn is_run<R>(scene: &mut Scene<R>) -> bool
 where
     R: Wait + Threads + Clock + RandomSource + AllocGlobal + Net<Stream = TcpStream> + Copy + Drop,
 {
-    let Ok(mut hand) = stage.worker("w0", "p", None) else {
-        return false;
-    };
-    hand.performs(0, "a", "x\ny\n", 0)
-        && stage.reports("build 0 SUCCESS")
-        && stage.ends(&["lane w0 1 2"], 0)
+    let Scene { stage, hand } = scene;
+    hand.performs(0, "a", "x\ny\n", 0) && stage.reports("build 0 SUCCESS")
 }
 
 #[test]
 fn a_build_is_run_and_reported(rt: HostRuntime) -> Result<(), Fail> {
-    let stage = start(rt, ONE).ok_or("no master")?;
-    assert!(rt; is_run(stage));
+    let mut scene = open(rt, ONE, None).ok_or("no worker")?;
+    let is_right = is_run(&mut scene);
+    assert!(rt; scene.ends(is_right, &["lane w0 1 2"], 0));
     Ok(())
 }
 
 // Whether a reader sees the log grow while the build runs.
-fn is_read<R>(stage: Stage<R>) -> bool
+fn is_read<R>(scene: &mut Scene<R>) -> bool
 where
     R: Wait + Threads + Clock + RandomSource + AllocGlobal + Net<Stream = TcpStream> + Copy + Drop,
 {
-    let Ok(mut hand) = stage.worker("w0", "p", None) else {
-        return false;
-    };
+    let Scene { stage, hand } = scene;
     hand.runs(0, "a")
         && hand.says(0, Letter::O, "x\n")
         && stage.shows(
@@ -91,32 +87,30 @@ where
             "{\"logs\":[{\"complete\":true,\"logid\":0,\"name\":\"stdio\",\"num_lines\":2,\"type\":\"s\"}],\"meta\":{}}",
         )
         && stage.reports("build 0 SUCCESS")
-        && stage.ends(&["lane w0 1 2"], 0)
 }
 
 #[test]
 fn a_log_is_read_while_its_build_runs(rt: HostRuntime) -> Result<(), Fail> {
-    let stage = start(rt, ONE).ok_or("no master")?;
-    assert!(rt; is_read(stage));
+    let mut scene = open(rt, ONE, None).ok_or("no worker")?;
+    let is_right = is_read(&mut scene);
+    assert!(rt; scene.ends(is_right, &["lane w0 1 2"], 0));
     Ok(())
 }
 
 #[test]
 fn an_input_that_ends_at_once_ends_an_idle_master(rt: HostRuntime) -> Result<(), Fail> {
     let stage = start(rt, IDLE).ok_or("no master")?;
-    assert!(rt; stage.ends(&["lane w0 0 0"], 0));
+    assert!(rt; stage.ends(true, &["lane w0 0 0"], 0));
     Ok(())
 }
 
 // Whether a build that runs is cancelled at its step, but for one that always runs, and one that
 // waits at once.
-fn is_cancelled<R>(stage: Stage<R>) -> bool
+fn is_cancelled<R>(scene: &mut Scene<R>) -> bool
 where
     R: Wait + Threads + Clock + RandomSource + AllocGlobal + Net<Stream = TcpStream> + Copy + Drop,
 {
-    let Ok(mut hand) = stage.worker("w0", "p", None) else {
-        return false;
-    };
+    let Scene { stage, hand } = scene;
     hand.runs(0, "a")
         && stage.writes("cancel 1")
         && stage.writes("cancel 2")
@@ -129,75 +123,78 @@ where
         && hand.exits(1, 0)
         && stage.reports("build 0 CANCELLED")
         && stage.reports("build 1 CANCELLED")
-        && stage.ends(&["lane w0 2 0"], 1)
 }
 
 #[test]
 fn a_running_and_a_waiting_build_are_cancelled(rt: HostRuntime) -> Result<(), Fail> {
-    let stage = start(rt, CANCELLED).ok_or("no master")?;
-    assert!(rt; is_cancelled(stage));
+    let mut scene = open(rt, CANCELLED, None).ok_or("no worker")?;
+    let is_right = is_cancelled(&mut scene);
+    assert!(rt; scene.ends(is_right, &["lane w0 2 0"], 1));
     Ok(())
 }
 
-// Whether the second build waits for the lock of the first.
-fn is_locked<R>(stage: Stage<R>) -> bool
+// Whether a second build waits for the lock of the first, which runs.
+fn is_locked<R>(scene: &mut Scene<R>, second: &mut Hand<R>) -> bool
 where
     R: Wait + Threads + Clock + RandomSource + AllocGlobal + Net<Stream = TcpStream> + Copy + Drop,
 {
-    let Ok(mut first) = stage.worker("w0", "p", None) else {
-        return false;
-    };
-    if !first.runs(0, "a") {
-        return false;
-    }
-    let Ok(mut second) = stage.worker("w1", "p", None) else {
-        return false;
-    };
+    let Scene { stage, hand } = scene;
     second.is_idle()
-        && first.exits(0, 3)
+        && hand.exits(0, 3)
         && second.performs(0, "b", "x\n", 0)
         && stage.reports("build 0 FAILURE")
         && stage.reports("build 1 SUCCESS")
-        && stage.ends(&["lane w0 1 0", "lane w1 1 1"], 1)
+}
+
+// Whether a second worker that logs in has its build run after that of the first.
+fn is_second<R>(scene: Scene<R>) -> bool
+where
+    R: Wait + Threads + Clock + RandomSource + AllocGlobal + Net<Stream = TcpStream> + Copy + Drop,
+{
+    let mut scene = scene;
+    let is_run = scene.hand.runs(0, "a");
+    match scene.stage.worker("w1", "p", None) {
+        Ok(mut second) => {
+            let is_right = is_run && is_locked(&mut scene, &mut second);
+            scene.ends(is_right, &["lane w0 1 0", "lane w1 1 1"], 1)
+        }
+        Err(_) => false,
+    }
 }
 
 #[test]
 fn a_lock_is_held_by_one_build_at_a_time(rt: HostRuntime) -> Result<(), Fail> {
-    let stage = start(rt, LOCKED).ok_or("no master")?;
-    assert!(rt; is_locked(stage));
+    let scene = open(rt, LOCKED, None).ok_or("no worker")?;
+    assert!(rt; is_second(scene));
     Ok(())
 }
 
 // Whether a build whose worker leaves between two steps ends RETRY.
-fn is_lost<R>(stage: Stage<R>) -> bool
+fn is_lost<R>(scene: Scene<R>) -> bool
 where
     R: Wait + Threads + Clock + RandomSource + AllocGlobal + Net<Stream = TcpStream> + Copy + Drop,
 {
-    let Ok(mut hand) = stage.worker("w0", "p", None) else {
-        return false;
-    };
-    if !hand.performs(0, "a", "x\n", 0) {
-        return false;
-    }
+    let Scene { stage, hand } = scene;
+    let mut hand = hand;
+    let is_run = hand.performs(0, "a", "x\n", 0);
     drop(hand);
-    stage.awaits("worker w0 lost, ") && stage.reports("build 0 RETRY") && stage.finishes(1)
+    let is_right = is_run && stage.awaits("worker w0 lost, ") && stage.reports("build 0 RETRY");
+    stage.finishes(is_right, 1)
 }
 
 #[test]
 fn a_worker_that_is_lost_between_two_steps_costs_the_build(rt: HostRuntime) -> Result<(), Fail> {
-    let stage = start(rt, TWO_STEPS).ok_or("no master")?;
-    assert!(rt; is_lost(stage));
+    let scene = open(rt, TWO_STEPS, None).ok_or("no worker")?;
+    assert!(rt; is_lost(scene));
     Ok(())
 }
 
 // Whether a session goes on over a second connection, and no line is lost or doubled.
-fn is_resumed<R>(stage: Stage<R>) -> bool
+fn is_resumed<R>(scene: &mut Scene<R>) -> bool
 where
     R: Wait + Threads + Clock + RandomSource + AllocGlobal + Net<Stream = TcpStream> + Copy + Drop,
 {
-    let Ok(mut hand) = stage.worker("w0", "p", Some("s")) else {
-        return false;
-    };
+    let Scene { stage, hand } = scene;
     hand.runs(0, "a")
         && hand.says(0, Letter::O, "x\n")
         && hand.leaves()
@@ -210,25 +207,23 @@ where
             "/api/v2/logs/0/contents",
             "{\"logchunks\":[{\"content\":\"ox\\noy\\n\",\"firstline\":0,\"logid\":0}],\"meta\":{}}",
         )
-        && stage.ends(&["lane w0 1 2"], 0)
 }
 
 #[test]
 fn a_session_goes_on_after_a_cut(rt: HostRuntime) -> Result<(), Fail> {
-    let stage = start(rt, RESUMABLE).ok_or("no master")?;
-    assert!(rt; is_resumed(stage));
+    let mut scene = open(rt, RESUMABLE, Some("s")).ok_or("no worker")?;
+    let is_right = is_resumed(&mut scene);
+    assert!(rt; scene.ends(is_right, &["lane w0 1 2"], 0));
     Ok(())
 }
 
 // Whether a session that isn't resumed in time is given up, with its command and its build; and a
 // later login begins another one.
-fn is_given_up<R>(stage: Stage<R>) -> bool
+fn is_given_up<R>(scene: &mut Scene<R>) -> bool
 where
     R: Wait + Threads + Clock + RandomSource + AllocGlobal + Net<Stream = TcpStream> + Copy + Drop,
 {
-    let Ok(mut hand) = stage.worker("w0", "p", Some("s")) else {
-        return false;
-    };
+    let Scene { stage, hand } = scene;
     hand.runs(0, "a")
         && hand.says(0, Letter::O, "x\n")
         && hand.leaves()
@@ -236,12 +231,12 @@ where
         && stage.awaits("worker w0 lost, not resumed in time")
         && stage.reports("build 0 RETRY")
         && !hand.returns("w0", "p", "s")
-        && stage.ends(&["lane w0 1 1"], 1)
 }
 
 #[test]
 fn a_session_that_is_not_resumed_is_given_up(rt: HostRuntime) -> Result<(), Fail> {
-    let stage = start(rt, SHORT).ok_or("no master")?;
-    assert!(rt; is_given_up(stage));
+    let mut scene = open(rt, SHORT, Some("s")).ok_or("no worker")?;
+    let is_right = is_given_up(&mut scene);
+    assert!(rt; scene.ends(is_right, &["lane w0 1 1"], 1));
     Ok(())
 }

@@ -5,11 +5,14 @@ use bm_lines::{Letter, Text};
 use bm_link::{Attached, LinkFault, WorkerLink};
 use bm_work::{Finish, Sent, WorkAct, Worker};
 use bumpalo::Bump;
-use std::alloc::{AllocGlobal, Global};
+use std::alloc::AllocGlobal;
 use std::net::{Net, Shutdown, SocketAddr, TcpStream};
 use std::random::RandomSource;
 use std::time::Duration;
 use tungstenite::RandomKeys;
+
+/// How long a read waits until a worker has logged in, in milliseconds.
+const LOGIN_TIME: u64 = 10_000;
 
 /// How long a read of a worker waits, in milliseconds.
 const READ_TIME: u64 = 100;
@@ -24,22 +27,30 @@ type Link<R> = WorkerLink<Steady, RandomKeys<R>>;
 #[derive(Drop)]
 pub struct Hand<R> {
     rt: R,
-    alloc: Global,
     address: SocketAddr,
     link: Link<R>,
-    // The stream of the link.
-    stream: TcpStream,
     core: Worker,
     arena: Bump,
-    pub attached: Attached,
 }
 
-/// A connection on which a login was answered.
-#[derive(Drop)]
-struct Dialled<R> {
-    link: Link<R>,
-    stream: TcpStream,
-    attached: Attached,
+/// Whether reads of the stream wait so long from now on.
+fn waits(stream: &TcpStream, time: u64) -> bool {
+    stream
+        .set_read_timeout(Some(Duration::from_millis(time)))
+        .is_ok()
+}
+
+// A stream to the master, before the login.
+fn reach<R>(rt: &R, address: SocketAddr) -> Result<Steady, LinkFault>
+where
+    R: Net<Stream = TcpStream>,
+{
+    match TcpStream::connect(rt, address) {
+        Ok(stream) if stream.set_nodelay(true).is_ok() && waits(&stream, LOGIN_TIME) => {
+            Ok(Steady { stream })
+        }
+        _ => Err(LinkFault::Stream),
+    }
 }
 
 // A connection with the master, on which a login was answered.
@@ -49,45 +60,16 @@ fn dial<R>(
     name: &str,
     password: &str,
     session: Option<&str>,
-) -> Result<Dialled<R>, LinkFault>
+) -> Result<(Link<R>, Attached), LinkFault>
 where
     R: RandomSource + AllocGlobal + Net<Stream = TcpStream> + Copy + Drop,
 {
-    let Ok(stream) = TcpStream::connect(&rt, address) else {
-        return Err(LinkFault::Stream);
-    };
-    if stream.set_nodelay(true).is_err()
-        || stream
-            .set_read_timeout(Some(Duration::from_secs(10)))
-            .is_err()
-    {
-        return Err(LinkFault::Stream);
+    let stream = reach(&rt, address)?;
+    match WorkerLink::connect(rt.alloc(), rt, stream, name, password, session) {
+        Ok((link, attached)) if waits(&link.get_ref().stream, READ_TIME) => Ok((link, attached)),
+        Ok(_) => Err(LinkFault::Stream),
+        Err(fault) => Err(fault),
     }
-    let Ok(other) = stream.try_clone() else {
-        return Err(LinkFault::Stream);
-    };
-    let (link, attached) = match WorkerLink::connect(
-        rt.alloc(),
-        rt,
-        Steady { stream },
-        name,
-        password,
-        session,
-    ) {
-        Ok(dialled) => dialled,
-        Err(fault) => return Err(fault),
-    };
-    if other
-        .set_read_timeout(Some(Duration::from_millis(READ_TIME)))
-        .is_err()
-    {
-        return Err(LinkFault::Stream);
-    }
-    Ok(Dialled {
-        link,
-        stream: other,
-        attached,
-    })
 }
 
 impl<R> Hand<R>
@@ -102,23 +84,13 @@ where
         password: &str,
         session: Option<&str>,
     ) -> Result<Hand<R>, LinkFault> {
-        let alloc = rt.alloc();
         match dial(rt, address, name, password, session) {
-            Ok(
-                Dialled {
-                    link,
-                    stream,
-                    attached,
-                },
-            ) => Ok(Hand {
+            Ok((link, _)) => Ok(Hand {
                 rt,
-                alloc,
                 address,
                 link,
-                stream,
-                core: Worker::new(alloc),
-                arena: Bump::new(alloc),
-                attached,
+                core: Worker::new(rt.alloc()),
+                arena: Bump::new(rt.alloc()),
             }),
             Err(fault) => Err(fault),
         }
@@ -126,7 +98,7 @@ where
 
     /// Ends the connection without a word.
     pub fn leaves(&mut self) -> bool {
-        self.stream.shutdown(Shutdown::Both).is_ok()
+        self.link.get_ref().stream.shutdown(Shutdown::Both).is_ok()
     }
 
     /// Has something to say of a command, which it says once it is back.
@@ -137,16 +109,8 @@ where
     /// Logs in again, with the same core. Whether the session goes on.
     pub fn returns(&mut self, name: &str, password: &str, session: &str) -> bool {
         match dial(self.rt, self.address, name, password, Some(session)) {
-            Ok(
-                Dialled {
-                    link,
-                    stream,
-                    attached,
-                },
-            ) => {
+            Ok((link, attached)) => {
                 self.link = link;
-                self.stream = stream;
-                self.attached = attached;
                 attached == Attached::Resumed && self.resends()
             }
             Err(_) => false,
@@ -162,8 +126,9 @@ where
     }
 
     fn sends(&mut self, requests: &[Sent]) -> bool {
+        let alloc = self.rt.alloc();
         for request in requests {
-            if self.link.send(self.alloc, request).is_err() {
+            if self.link.send(alloc, request).is_err() {
                 return false;
             }
         }
@@ -173,8 +138,9 @@ where
     /// The next thing that it is asked for, but for answers; None where nothing is asked for some
     /// reads, or the connection has ended.
     fn asked(&mut self, reads: u32) -> Option<WorkAct> {
+        let alloc = self.rt.alloc();
         for _ in 0..reads {
-            match self.link.turn(self.alloc, &mut self.arena, &mut self.core) {
+            match self.link.turn(alloc, &mut self.arena, &mut self.core) {
                 Ok((_, WorkAct::Nothing | WorkAct::Answered(_))) => {}
                 Ok((_, act)) => return Some(act),
                 Err(_) => return None,
@@ -232,7 +198,7 @@ where
 
     /// Tells that a command was interrupted.
     pub fn breaks_off(&mut self, command: u64) -> bool {
-        let Ok(fault) = Text::from_str(self.alloc, "interrupted") else {
+        let Ok(fault) = Text::from_str(self.rt.alloc(), "interrupted") else {
             return false;
         };
         match self.core.finish(command, Finish::Fault(fault)) {

@@ -1,6 +1,6 @@
 //! Builds on workers that are started on demand.
 
-use crate::stage::{Stage, start};
+use crate::stage::{Scene, Stage, start};
 use bm_lines::Letter;
 use std::alloc::AllocGlobal;
 use std::net::{Net, TcpStream};
@@ -29,32 +29,36 @@ build = [{worker=\"w0\", step=[
   {name=\"s\",command=[\"echo\",\"y\"],alwaysRun=true}]}]
 ";
 
+// Whether the one build ends RETRY, and nothing was logged.
+fn is_retried<R>(stage: Stage<R>) -> bool
+where
+    R: Wait + Threads + Clock + RandomSource + AllocGlobal + Net<Stream = TcpStream> + Copy + Drop,
+{
+    let is_right = stage.reports("build 0 RETRY");
+    stage.ends(is_right, &["lane w0 0 0"], 1)
+}
+
 #[test]
 fn a_program_that_ends_costs_the_build(rt: HostRuntime) -> Result<(), Fail> {
     let stage = start(rt, ENDING).ok_or("no master")?;
-    assert!(rt; stage.reports("build 0 RETRY") && stage.ends(&["lane w0 0 0"], 1));
+    assert!(rt; is_retried(stage));
     Ok(())
 }
 
 #[test]
 fn a_program_that_is_not_there_costs_the_build(rt: HostRuntime) -> Result<(), Fail> {
     let stage = start(rt, MISSING).ok_or("no master")?;
-    assert!(rt; stage.reports("build 0 RETRY") && stage.ends(&["lane w0 0 0"], 1));
+    assert!(rt; is_retried(stage));
     Ok(())
 }
 
 // Whether the three steps come to a failure, the logs to what the worker said, and the worker is
 // told to shut down once it is idle.
-fn is_stepped<R>(stage: Stage<R>) -> bool
+fn is_stepped<R>(scene: &mut Scene<R>) -> bool
 where
     R: Wait + Threads + Clock + RandomSource + AllocGlobal + Net<Stream = TcpStream> + Copy + Drop,
 {
-    if !stage.awaits("program of w0 started") {
-        return false;
-    }
-    let Ok(mut hand) = stage.worker("w0", "p", None) else {
-        return false;
-    };
+    let Scene { stage, hand } = scene;
     hand.runs(0, "echo a; echo b >&2; exit 3")
         && hand.says(0, Letter::H, "sh -c echo a; echo b >&2; exit 3\n")
         && hand.says(0, Letter::O, "a\n")
@@ -72,12 +76,14 @@ where
             "{\"logchunks\":[{\"content\":\"hecho y\\noy\\nhprogram finished with exit code 0\\n\",\"firstline\":0,\"logid\":1}],\"meta\":{}}",
         )
         && hand.shuts_down()
-        && stage.ends(&["lane w0 2 7"], 1)
 }
 
 #[test]
 fn three_steps_on_a_latent_worker_come_to_a_failure(rt: HostRuntime) -> Result<(), Fail> {
     let stage = start(rt, STEPS).ok_or("no master")?;
-    assert!(rt; is_stepped(stage));
+    let is_started = stage.awaits("program of w0 started");
+    let mut scene = stage.joined(None).ok_or("no worker")?;
+    let is_right = is_started && is_stepped(&mut scene);
+    assert!(rt; scene.ends(is_right, &["lane w0 2 7"], 1));
     Ok(())
 }

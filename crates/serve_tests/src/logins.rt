@@ -1,6 +1,6 @@
 //! Logins that are refused, and addresses that can't be bound.
 
-use crate::stage::{Stage, refused, start};
+use crate::stage::{Scene, Stage, refused, start};
 use bm_link::LinkFault;
 use std::alloc::AllocGlobal;
 use std::net::{Net, TcpListener, TcpStream};
@@ -15,61 +15,66 @@ const ONE: &str = "worker = [{name=\"w0\",password=\"p\"}]
 build = [{worker=\"w0\", step=[{name=\"s\",command=[\"a\"]}]}]
 ";
 
-// Whether logins under a wrong name or password are refused, and a second login under a name, while
-// the first one goes on.
-fn is_guarded<R>(stage: Stage<R>) -> bool
+fn is_refused<R>(stage: &Stage<R>, name: &str, password: &str) -> bool
+where
+    R: Wait + Threads + Clock + RandomSource + AllocGlobal + Net<Stream = TcpStream> + Copy + Drop,
+{
+    matches!(stage.worker(name, password, None), Err(LinkFault::BadLogin))
+}
+
+// Whether logins under a wrong name or password are refused.
+fn are_refused<R>(stage: &Stage<R>) -> bool
 where
     R: Wait + Threads + Clock + RandomSource + AllocGlobal + Net<Stream = TcpStream> + Copy + Drop,
 {
     for (name, password) in &[("w0", "q"), ("w1", "p"), ("", "")] {
-        match stage.worker(name, password, None) {
-            Err(LinkFault::BadLogin) => {}
-            _ => return false,
+        if !is_refused(stage, name, password) {
+            return false;
         }
     }
-    if !stage.awaits("connection refused, bad login") {
-        return false;
-    }
-    let Ok(mut hand) = stage.worker("w0", "p", None) else {
-        return false;
-    };
-    if !hand.runs(0, "a") {
-        return false;
-    }
-    let is_second_refused = matches!(stage.worker("w0", "p", None), Err(LinkFault::BadLogin));
-    is_second_refused
+    stage.awaits("connection refused, bad login")
+}
+
+// Whether a second login under a name is refused, while the first one goes on.
+fn is_guarded<R>(scene: &mut Scene<R>) -> bool
+where
+    R: Wait + Threads + Clock + RandomSource + AllocGlobal + Net<Stream = TcpStream> + Copy + Drop,
+{
+    let Scene { stage, hand } = scene;
+    hand.runs(0, "a")
+        && is_refused(stage, "w0", "p")
         && stage.awaits("login refused, already up: w0")
         && hand.exits(0, 0)
         && stage.reports("build 0 SUCCESS")
-        && stage.ends(&["lane w0 1 0"], 0)
 }
 
 #[test]
 fn bad_and_second_logins_are_refused(rt: HostRuntime) -> Result<(), Fail> {
     let stage = start(rt, ONE).ok_or("no master")?;
-    assert!(rt; is_guarded(stage));
+    let are_bad = are_refused(&stage);
+    let mut scene = stage.joined(None).ok_or("no worker")?;
+    let is_right = are_bad && is_guarded(&mut scene);
+    assert!(rt; scene.ends(is_right, &["lane w0 1 0"], 0));
     Ok(())
 }
 
-// Whether a connection that says nothing doesn't hold the end of the master up.
-fn is_prompt<R>(stage: Stage<R>) -> bool
+// Whether the build is run beside a connection that says nothing.
+fn is_prompt<R>(scene: &mut Scene<R>) -> bool
 where
     R: Wait + Threads + Clock + RandomSource + AllocGlobal + Net<Stream = TcpStream> + Copy + Drop,
 {
-    let silent = TcpStream::connect(&stage.rt, stage.workers);
-    let Ok(mut hand) = stage.worker("w0", "p", None) else {
-        return false;
-    };
-    silent.is_ok()
-        && hand.performs(0, "a", "x\n", 0)
-        && stage.reports("build 0 SUCCESS")
-        && stage.ends(&["lane w0 1 1"], 0)
+    let Scene { stage, hand } = scene;
+    hand.performs(0, "a", "x\n", 0) && stage.reports("build 0 SUCCESS")
 }
 
 #[test]
 fn who_says_nothing_holds_nobody_up(rt: HostRuntime) -> Result<(), Fail> {
     let stage = start(rt, ONE).ok_or("no master")?;
-    assert!(rt; is_prompt(stage));
+    let silent = TcpStream::connect(&rt, stage.workers)?;
+    let mut scene = stage.joined(None).ok_or("no worker")?;
+    let is_right = is_prompt(&mut scene);
+    assert!(rt; scene.ends(is_right, &["lane w0 1 1"], 0));
+    drop(silent);
     Ok(())
 }
 

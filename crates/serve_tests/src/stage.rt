@@ -2,7 +2,7 @@
 
 use crate::hand::Hand;
 use crate::streams::{Feed, Sink};
-use bm_config::read_config;
+use bm_config::{Config, read_config};
 use bm_link::LinkFault;
 use bm_master::serve;
 use crossbeam_channel::{Receiver, Sender, unbounded};
@@ -19,22 +19,80 @@ use std::{io, thread};
 /// How long a test waits for a line, in seconds.
 const PATIENCE: u64 = 20;
 
+/// What a master hears and says.
+#[derive(Drop)]
+struct Streams<R> {
+    feed: Feed<R>,
+    reports: Sink<R>,
+    remarks: Sink<R>,
+}
+
+/// The other ends of a master's streams.
+#[derive(Drop)]
+struct Ends {
+    input: Sender<u8, Global>,
+    output: Receiver<Vec<u8>, Global>,
+    faults: Receiver<Vec<u8>, Global>,
+}
+
 /// A master that was started, and the other ends of its streams.
 #[derive(Drop)]
 pub struct Stage<R> {
     pub rt: R,
-    input: Sender<u8, Global>,
-    output: Receiver<Vec<u8>, Global>,
-    faults: Receiver<Vec<u8>, Global>,
+    ends: Ends,
     thread: JoinHandle<u8>,
     /// Where it listens for workers, and where it serves logs.
     pub workers: SocketAddr,
     pub web: SocketAddr,
 }
 
-/// The next line of a stream, without its line end.
-fn next_line<R: Wait + Clock>(rt: &R, pieces: &Receiver<Vec<u8>, Global>) -> Option<String> {
-    let piece = pieces.recv_timeout(rt, Duration::from_secs(PATIENCE)).ok()?;
+// An input, and the end that writes it.
+fn open_feed<R: AllocGlobal + Copy + Drop>(rt: R) -> Option<(Feed<R>, Sender<u8, Global>)> {
+    match unbounded::<u8, Global>(rt.alloc()) {
+        Ok((input, bytes)) => Some((Feed { rt, bytes }, input)),
+        Err(_) => None,
+    }
+}
+
+// An output, and the end that reads it.
+fn open_sink<R: AllocGlobal + Copy + Drop>(rt: R) -> Option<(Sink<R>, Receiver<Vec<u8>, Global>)> {
+    let alloc = rt.alloc();
+    match unbounded::<Vec<u8>, Global>(alloc) {
+        Ok((pieces, output)) => Some((Sink { rt, alloc, pieces }, output)),
+        Err(_) => None,
+    }
+}
+
+// The streams of a master, whose input is this.
+fn streams_of<R: AllocGlobal + Copy + Drop>(
+    rt: R,
+    feed: Feed<R>,
+    input: Sender<u8, Global>,
+) -> Option<(Streams<R>, Ends)> {
+    let (reports, output) = open_sink(rt)?;
+    let (remarks, faults) = open_sink(rt)?;
+    let streams = Streams {
+        feed,
+        reports,
+        remarks,
+    };
+    let ends = Ends {
+        input,
+        output,
+        faults,
+    };
+    Some((streams, ends))
+}
+
+fn open_streams<R: AllocGlobal + Copy + Drop>(rt: R) -> Option<(Streams<R>, Ends)> {
+    match open_feed(rt) {
+        Some((feed, input)) => streams_of(rt, feed, input),
+        None => None,
+    }
+}
+
+/// The text of a piece that is a line, without its line end.
+fn line_of(piece: Vec<u8>) -> Option<String> {
     let mut line = String::from_utf8(piece).ok()?;
     if line.pop() == Some('\n') {
         Some(line)
@@ -43,10 +101,87 @@ fn next_line<R: Wait + Clock>(rt: &R, pieces: &Receiver<Vec<u8>, Global>) -> Opt
     }
 }
 
+/// The next line of a stream, without its line end.
+fn next_line<R: Wait + Clock>(rt: &R, pieces: &Receiver<Vec<u8>, Global>) -> Option<String> {
+    match pieces.recv_timeout(rt, Duration::from_secs(PATIENCE)) {
+        Ok(piece) => line_of(piece),
+        Err(_) => None,
+    }
+}
+
+/// Whether the next line of a stream is this.
+fn is_next<R: Wait + Clock>(rt: &R, pieces: &Receiver<Vec<u8>, Global>, line: &str) -> bool {
+    match next_line(rt, pieces) {
+        Some(said) => said.as_str() == line,
+        None => false,
+    }
+}
+
+/// Whether the next lines of a stream are these.
+fn are_next<R: Wait + Clock>(rt: &R, pieces: &Receiver<Vec<u8>, Global>, lines: &[&str]) -> bool {
+    for line in lines {
+        if !is_next(rt, pieces, line) {
+            return false;
+        }
+    }
+    true
+}
+
 /// The addresses of a line `listening ADDR ADDR`.
 fn addresses(line: &str) -> Option<(SocketAddr, SocketAddr)> {
     let (workers, web) = line.strip_prefix("listening ")?.split_once(' ')?;
     Some((workers.parse().ok()?, web.parse().ok()?))
+}
+
+/// The addresses that the next line of a stream tells.
+fn next_addresses<R: Wait + Clock>(
+    rt: &R,
+    pieces: &Receiver<Vec<u8>, Global>,
+) -> Option<(SocketAddr, SocketAddr)> {
+    match next_line(rt, pieces) {
+        Some(line) => addresses(line.as_str()),
+        None => None,
+    }
+}
+
+/// The configuration, to which addresses of the loopback are added.
+fn on_loopback(alloc: Global, rest: &str) -> Option<Config> {
+    let text = format!(in alloc; "listen = \"127.0.0.1:0\"\nweb = \"127.0.0.1:0\"\n{rest}").ok()?;
+    read_config(alloc, text.as_str()).ok()
+}
+
+// Starts the master of the configuration over these streams.
+fn launch<R>(rt: R, config: Config, streams: Streams<R>, ends: Ends) -> Option<Stage<R>>
+where
+    R: Wait
+        + Threads
+        + Clock
+        + RandomSource
+        + AllocGlobal
+        + Net<Listener = TcpListener, Stream = TcpStream>
+        + Processes<Started = SystemProcess>
+        + Copy
+        + Drop
+        + Send
+        + Sync
+        + 'static,
+{
+    let Streams {
+        feed,
+        reports,
+        remarks,
+    } = streams;
+    let thread = thread::spawn(&rt, move || serve(&rt, config, feed, reports, remarks)).ok()?;
+    match next_addresses(&rt, &ends.output) {
+        Some((workers, web)) => Some(Stage {
+            rt,
+            ends,
+            thread,
+            workers,
+            web,
+        }),
+        None => None,
+    }
 }
 
 /// Starts the master of a configuration, to which addresses of the loopback are added.
@@ -65,31 +200,82 @@ where
         + Sync
         + 'static,
 {
-    let alloc = rt.alloc();
-    let text = format!(in alloc; "listen = \"127.0.0.1:0\"\nweb = \"127.0.0.1:0\"\n{rest}").ok()?;
-    let config = read_config(alloc, &text).ok()?;
-    let (input, bytes) = unbounded::<u8, Global>(alloc).ok()?;
-    let (pieces, output) = unbounded::<Vec<u8>, Global>(alloc).ok()?;
-    let (remarks, faults) = unbounded::<Vec<u8>, Global>(alloc).ok()?;
-    let feed = Feed { rt, bytes };
-    let reports = Sink { rt, alloc, pieces };
-    let told = Sink {
-        rt,
-        alloc,
-        pieces: remarks,
-    };
-    let thread = thread::spawn(&rt, move || serve(&rt, config, feed, reports, told)).ok()?;
-    let line = next_line(&rt, &output)?;
-    let (workers, web) = addresses(&line)?;
-    Some(Stage {
-        rt,
+    let config = on_loopback(rt.alloc(), rest)?;
+    match open_streams(rt) {
+        Some((streams, ends)) => launch(rt, config, streams, ends),
+        None => None,
+    }
+}
+
+/// Starts the master of a configuration, and its worker `w0`, which logs in.
+pub fn open<R>(rt: R, rest: &str, session: Option<&str>) -> Option<Scene<R>>
+where
+    R: Wait
+        + Threads
+        + Clock
+        + RandomSource
+        + AllocGlobal
+        + Net<Listener = TcpListener, Stream = TcpStream>
+        + Processes<Started = SystemProcess>
+        + Copy
+        + Drop
+        + Send
+        + Sync
+        + 'static,
+{
+    match start(rt, rest) {
+        Some(stage) => stage.joined(session),
+        None => None,
+    }
+}
+
+/// What a stream tells until it ends.
+fn told<R: Wait + AllocGlobal>(rt: &R, pieces: &Receiver<Vec<u8>, Global>) -> Option<Vec<u8>> {
+    let mut said = Vec::new(rt.alloc());
+    for piece in pieces.iter(rt) {
+        if said.extend_from_slice(piece.as_slice()).is_err() {
+            return None;
+        }
+    }
+    Some(said)
+}
+
+/// Whether a stream tells this line alone until it ends.
+fn is_told<R: Wait + AllocGlobal>(rt: &R, pieces: &Receiver<Vec<u8>, Global>, line: &str) -> bool {
+    match told(rt, pieces) {
+        Some(said) => said.as_slice().strip_suffix(b"\n".as_slice()) == Some(line.as_bytes()),
+        None => false,
+    }
+}
+
+// Whether the master of the configuration refuses it, with this line on its faults.
+fn refuses<R>(rt: R, config: Config, streams: Streams<R>, ends: Ends, line: &str) -> bool
+where
+    R: Wait
+        + Threads
+        + Clock
+        + RandomSource
+        + AllocGlobal
+        + Net<Listener = TcpListener, Stream = TcpStream>
+        + Processes<Started = SystemProcess>
+        + Copy
+        + Drop
+        + Send
+        + Sync,
+{
+    let Streams {
+        feed,
+        reports,
+        remarks,
+    } = streams;
+    let Ends {
         input,
         output,
         faults,
-        thread,
-        workers,
-        web,
-    })
+    } = ends;
+    drop(input);
+    let status = serve(&rt, config, feed, reports, remarks);
+    status == 2 && is_told(&rt, &faults, line) && output.try_recv(&rt).is_err()
 }
 
 /// Whether a master of this configuration refuses it, with this line on its faults.
@@ -107,35 +293,43 @@ where
         + Send
         + Sync,
 {
-    let alloc = rt.alloc();
-    let Ok(config) = read_config(alloc, text) else {
+    let Ok(config) = read_config(rt.alloc(), text) else {
         return false;
     };
-    let (Ok((_, bytes)), Ok((pieces, output)), Ok((remarks, faults))) = (
-        unbounded::<u8, Global>(alloc),
-        unbounded::<Vec<u8>, Global>(alloc),
-        unbounded::<Vec<u8>, Global>(alloc),
-    ) else {
-        return false;
-    };
-    let reports = Sink { rt, alloc, pieces };
-    let told = Sink {
-        rt,
-        alloc,
-        pieces: remarks,
-    };
-    let status = serve(&rt, config, Feed { rt, bytes }, reports, told);
-    let mut said = Vec::new(alloc);
-    for piece in faults.iter(&rt) {
-        if said.extend_from_slice(piece.as_slice()).is_err() {
-            return false;
-        }
+    match open_streams(rt) {
+        Some((streams, ends)) => refuses(rt, config, streams, ends, line),
+        None => false,
     }
-    let Ok(said) = String::from_utf8(said) else {
-        return false;
-    };
-    let is_told = said.strip_suffix('\n') == Some(line);
-    status == 2 && is_told && output.try_recv(&rt).is_err()
+}
+
+// A stream to the web, whose reads wait for some seconds.
+fn reach<R>(rt: &R, web: SocketAddr) -> Option<TcpStream>
+where
+    R: Net<Stream = TcpStream>,
+{
+    match TcpStream::connect(rt, web) {
+        Ok(stream)
+            if stream
+                .set_read_timeout(Some(Duration::from_secs(5)))
+                .is_ok() => Some(stream),
+        _ => None,
+    }
+}
+
+/// What the web answers to this, up to the end of the stream.
+fn answer(alloc: Global, stream: TcpStream, request: &str) -> Option<String> {
+    let mut writer = &stream;
+    if writer.write_all(request.as_bytes()).is_ok() {
+        io::read_to_string(alloc, &stream).ok()
+    } else {
+        None
+    }
+}
+
+/// Whether the body behind an answer's head is this, where there is one.
+fn is_body(answer: &str, body: &str) -> Option<bool> {
+    let (_, said) = answer.split_once("\r\n\r\n")?;
+    Some(said == body)
 }
 
 impl<R> Stage<R>
@@ -144,18 +338,23 @@ where
 {
     /// Whether the next line of the output is this.
     pub fn reports(&self, line: &str) -> bool {
-        match next_line(&self.rt, &self.output) {
-            Some(said) => said.as_str() == line,
-            None => false,
+        is_next(&self.rt, &self.ends.output, line)
+    }
+
+    /// Whether the next remark begins so, if there is one.
+    fn remarks(&self, remark: &str) -> Option<bool> {
+        match next_line(&self.rt, &self.ends.faults) {
+            Some(said) => Some(said.starts_with(remark)),
+            None => None,
         }
     }
 
     /// Waits until a remark was told that begins so.
     pub fn awaits(&self, remark: &str) -> bool {
         for _ in 0..100 {
-            match next_line(&self.rt, &self.faults) {
-                Some(said) if said.starts_with(remark) => return true,
-                Some(_) => {}
+            match self.remarks(remark) {
+                Some(true) => return true,
+                Some(false) => {}
                 None => return false,
             }
         }
@@ -165,47 +364,50 @@ where
     /// Writes a line to the input.
     pub fn writes(&self, line: &str) -> bool {
         for byte in line.as_bytes() {
-            if self.input.send(&self.rt, *byte).is_err() {
+            if self.ends.input.send(&self.rt, *byte).is_err() {
                 return false;
             }
         }
-        self.input.send(&self.rt, b'\n').is_ok()
+        self.ends.input.send(&self.rt, b'\n').is_ok()
     }
 
-    /// Ends the input. Whether these lines come then, and nothing more, and the master ends with
-    /// this status.
-    pub fn ends(self, lines: &[&str], status: u8) -> bool {
+    /// Ends the input, if all was right before. Whether these lines come then, and nothing more, and
+    /// the master ends with this status.
+    pub fn ends(self, was_right: bool, lines: &[&str], status: u8) -> bool {
+        if !was_right {
+            return false;
+        }
         let Stage {
             rt,
+            ends,
+            thread,
+            ..
+        } = self;
+        let Ends {
             input,
             output,
             faults,
-            thread,
-            ..
-        } = self;
+        } = ends;
         drop(input);
-        let mut is_right = true;
-        for line in lines {
-            is_right = is_right
-                && match next_line(&rt, &output) {
-                    Some(said) => said.as_str() == *line,
-                    None => false,
-                };
-        }
+        let are_right = are_next(&rt, &output, lines);
         let ended = thread.join(&rt);
         drop(faults);
-        is_right && ended == status && output.try_recv(&rt).is_err()
+        are_right && ended == status && output.try_recv(&rt).is_err()
     }
 
-    /// Ends the input. Whether the master ends with this status, whatever it writes.
-    pub fn finishes(self, status: u8) -> bool {
+    /// Ends the input, if all was right before. Whether the master ends with this status, whatever it
+    /// writes.
+    pub fn finishes(self, was_right: bool, status: u8) -> bool {
+        if !was_right {
+            return false;
+        }
         let Stage {
             rt,
-            input,
+            ends,
             thread,
             ..
         } = self;
-        drop(input);
+        drop(ends.input);
         thread.join(&rt) == status
     }
 
@@ -219,29 +421,64 @@ where
         Hand::connect(self.rt, self.workers, name, password, session)
     }
 
+    /// The master, with the worker `w0` that has logged in.
+    pub fn joined(self, session: Option<&str>) -> Option<Scene<R>> {
+        match self.worker("w0", "p", session) {
+            Ok(hand) => Some(Scene { stage: self, hand }),
+            Err(_) => None,
+        }
+    }
+
     /// What the web answers to a request.
-    pub fn page(&self, target: &str) -> Option<String> {
+    fn answers(&self, target: &str) -> Option<String> {
         let alloc = self.rt.alloc();
-        let stream = TcpStream::connect(&self.rt, self.web).ok()?;
-        stream.set_read_timeout(Some(Duration::from_secs(5))).ok()?;
-        let words = format!(in alloc;
+        let request = format!(in alloc;
             "GET {target} HTTP/1.1\r\nhost: h\r\nconnection: close\r\n\r\n"
         ).ok()?;
-        (&stream).write_all(words.as_bytes()).ok()?;
-        let text = io::read_to_string(alloc, &stream).ok()?;
-        let (_, body) = text.split_once("\r\n\r\n")?;
-        String::from_str(alloc, body).ok()
+        match reach(&self.rt, self.web) {
+            Some(stream) => answer(alloc, stream, request.as_str()),
+            None => None,
+        }
+    }
+
+    /// Whether the web answers this, if it answers.
+    fn is_shown(&self, target: &str, body: &str) -> Option<bool> {
+        match self.answers(target) {
+            Some(answer) => is_body(answer.as_str(), body),
+            None => None,
+        }
     }
 
     /// Whether the web answers this, within some time.
     pub fn shows(&self, target: &str, body: &str) -> bool {
         for _ in 0..200 {
-            match self.page(target) {
-                Some(said) if said.as_str() == body => return true,
-                Some(_) => thread::sleep(&self.rt, Duration::from_millis(20)),
+            match self.is_shown(target, body) {
+                Some(true) => return true,
+                Some(false) => thread::sleep(&self.rt, Duration::from_millis(20)),
                 None => return false,
             }
         }
         false
+    }
+}
+
+/// A master, and a worker of it.
+#[derive(Drop)]
+pub struct Scene<R> {
+    pub stage: Stage<R>,
+    pub hand: Hand<R>,
+}
+
+impl<R> Scene<R>
+where
+    R: Wait + Threads + Clock + RandomSource + AllocGlobal + Net<Stream = TcpStream> + Copy + Drop,
+{
+    /// Ends the input while the worker is there, if all was right before. Whether these lines come
+    /// then, and nothing more, and the master ends with this status.
+    pub fn ends(self, was_right: bool, lines: &[&str], status: u8) -> bool {
+        let Scene { stage, hand } = self;
+        let is_right = stage.ends(was_right, lines, status);
+        drop(hand);
+        is_right
     }
 }
