@@ -81,6 +81,15 @@ impl Cuts {
             UNCUT
         }
     }
+
+    /// Whether a worker may end with this status: one whose call fails after it was told to leave
+    /// finds no master any more, and gives up.
+    fn may_end(self, status: u8) -> bool {
+        match self.unit {
+            Unit::Byte => status == 0,
+            Unit::Call => status <= 1,
+        }
+    }
 }
 
 /// What is left of a command: its lines, and how it ended.
@@ -302,7 +311,7 @@ where
     let worker = cut_worker(rt, address, cuts)?;
     let is_served = desk.serves_all(&rt, &listener);
     drop(listener);
-    Some(worker.join(&rt) == 0 && is_served)
+    Some(cuts.may_end(worker.join(&rt)) && is_served)
 }
 
 /// What the lane of a new desk has of a command of a worker whose first connections are cut so.
@@ -424,8 +433,8 @@ fn each_line_comes_once_through_cuts(rt: HostRuntime) {
 
 #[test]
 fn each_line_comes_once_through_failing_calls(rt: HostRuntime) {
-    // At each of a connection's first 80 calls, of which the handshake and the login have a dozen,
-    // and the command's updates less than the rest.
+    // At each of a connection's first 80 calls, which are more than all have until the worker is told
+    // to leave.
     let unit = Unit::Call;
     for run in 0..10usize {
         let early = IN_A_ROW * run;
