@@ -2,6 +2,7 @@
 
 use crate::news::Mail;
 use crate::visit::Guest;
+use crate::web::WebStop;
 use bm_clerk::{Bell, Door, Guests};
 use bm_config::Config;
 use bm_lane::{WriterEnd, Yard};
@@ -28,6 +29,7 @@ pub struct Common<Y: Yard, R: Wait + Clock + Drop> {
     pub bell: Bell<R>,
     /// Set once the master ends.
     pub is_over: Arc<AtomicBool, Global>,
+    pub web: WebStop,
 }
 
 /// A flag for each build, which isn't set.

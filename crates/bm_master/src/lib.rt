@@ -16,5 +16,6 @@ mod seat;
 mod serving;
 mod threads;
 mod visit;
+mod web;
 
 pub use serving::serve;

@@ -8,6 +8,7 @@ use crate::news::{Letters, Mail, open_mail};
 use crate::seat::{Seat, seats_of};
 use crate::threads::{Came, Lead, Service, run_threads};
 use crate::visit::Guest;
+use crate::web::WebStop;
 use bm_clerk::{Bell, Door, Guests};
 use bm_config::{Config, WorkerConfig};
 use bm_lane::{Blank, Viewer, WriterEnd, Yard, ends_of_all};
@@ -69,7 +70,7 @@ fn refuse<F: Write>(faults: &mut F, key: &str) -> u8 {
 /// the web, until the input has ended and every build is over. The result is the exit status: 0
 /// where each build ended SUCCESS or WARNINGS; 2 where an address can't be bound, which is told on
 /// `faults`; else 1, as after a failed write to `output`, want of memory and where no thread could
-/// be started.
+/// be started. Where it can't be written where the master listens, no build is run.
 ///
 /// A line `cancel I` of the input cancels build I. On `output` stand `listening ADDR ADDR` (for
 /// workers, for the web), once every build is over `build I RESULT` for each, and at the end `lane
@@ -165,6 +166,7 @@ fn common_of<Y: Yard, R: Wait + Clock + Copy + Drop>(
         lanes,
         bell,
         is_over,
+        web: WebStop::new(),
     })
 }
 
@@ -276,8 +278,8 @@ where
     work(start, Report::Listening { workers, web }, input)
 }
 
-// Runs the threads to their end, once it is told that they listen. The answer is whether all went
-// well.
+// Runs the threads to their end, once it is told that they listen: where that can't be told nobody
+// could connect. The answer is whether all went well.
 fn work<Y, R, I, O, F>(start: Start<Y, R, O, F>, listening: Report<'_>, input: I) -> Option<bool>
 where
     Y: Yard + Send + Sync,
@@ -303,10 +305,11 @@ where
         site,
     } = start;
     let mut given = given;
-    let is_told = write_report(common.alloc, listening, &mut given.output);
+    if !write_report(common.alloc, listening, &mut given.output) {
+        return None;
+    }
     let came = run_threads(&common, service, given, input)?;
-    let is_ended = end(common, Site::into_viewers(site)?, came);
-    Some(is_told && is_ended)
+    Some(end(common, Site::into_viewers(site)?, came))
 }
 
 // Writes a report at once. The answer is whether it was written.

@@ -9,10 +9,11 @@ use crate::input::read_input;
 use crate::news::{Letters, Mail, News};
 use crate::seat::Seat;
 use crate::visit::Guest;
+use crate::web::Web;
 use bm_clerk::{Desk, Inbox, Notice, Order, Tell, serve_lane};
 use bm_lane::{Gate, Pass, ReaderEnd, Yard, writers};
 use bm_roster::Roster;
-use bm_serve::{Limits, Site};
+use bm_serve::Site;
 use std::alloc::AllocGlobal;
 use std::io::{Read, Write};
 use std::net::{Net, TcpListener, TcpStream};
@@ -22,17 +23,7 @@ use std::sync::atomic::Ordering;
 use std::sync::{Arc, Wait};
 use std::thread;
 use std::thread::{JoinHandle, Scope, Threads};
-use std::time::{Clock, Duration};
-use tokio::sync::oneshot;
-
-/// How many threads serve the web.
-const WEB_THREADS: usize = 2;
-
-/// How many connections the web has open at once.
-const WEB_CONNECTIONS: usize = 256;
-
-/// How long a connection of the web may be idle, in seconds.
-const WEB_IDLE: u64 = 30;
+use std::time::Clock;
 
 /// What the threads that serve lanes and connections are given.
 #[derive(Drop)]
@@ -170,36 +161,6 @@ where
     )
 }
 
-/// What is served on the web, where, and until when.
-#[derive(Drop)]
-struct Serving<R, Y: Yard> {
-    rt: R,
-    listener: TcpListener,
-    site: Arc<Site<Y>>,
-    stopped: oneshot::Receiver<()>,
-}
-
-impl<R, Y: Yard + Send + Sync> Serving<R, Y>
-where
-    R: Wait + Threads + Clock + RandomSource + AllocGlobal + Net + Copy + Send + Sync,
-{
-    // Serves the logs until the stop. The answer is whether that could begin.
-    fn serve(self) -> bool {
-        let Serving {
-            rt,
-            listener,
-            site,
-            stopped,
-        } = self;
-        let limits = Limits {
-            workers: WEB_THREADS,
-            connections: WEB_CONNECTIONS,
-            idle: Duration::from_secs(WEB_IDLE),
-        };
-        bm_serve::serve(rt, limits, listener, site, stopped).is_ok()
-    }
-}
-
 /// The threads that serve lanes and workers' connections.
 #[derive(Drop)]
 struct Staff<Y: Yard> {
@@ -319,12 +280,11 @@ where
     )
 }
 
-// Starts the foreman, who has the web stopped at the end.
+// Starts the foreman, who ends the web at the end.
 fn start_foreman<'s, E, Y, R, O, F>(
     scope: &Scope<'s, E>,
     common: &'s Common<Y, R>,
     given: Lead<Y, O, F>,
-    stop: oneshot::Sender<()>,
 ) -> Option<JoinHandle<Left<Y, O>>>
 where
     Y: Yard + Send + Sync + 's,
@@ -335,7 +295,7 @@ where
     scope
         .spawn(move || {
             let left = run_foreman(common, given);
-            let _ = stop.send(());
+            common.web.end(&common.rt);
             left
         })
         .ok()
@@ -365,8 +325,6 @@ struct Work<Y: Yard, R: Wait + Clock + Drop, I, O, F> {
     service: Service<Y, R>,
     given: Lead<Y, O, F>,
     input: I,
-    stop: oneshot::Sender<()>,
-    stopped: oneshot::Receiver<()>,
     /// Room for the clerks.
     clerks: Vec<JoinHandle<ReaderEnd<Y>>>,
     /// Room for the reader's ends that they hand back.
@@ -387,8 +345,7 @@ fn work_and_serve<'s, E, Y, R, I, O, F>(
     common: &'s Common<Y, R>,
     given: Lead<Y, O, F>,
     input: I,
-    stop: oneshot::Sender<()>,
-    serving: Serving<R, Y>,
+    web: Web<Y>,
 ) -> (Option<Left<Y, O>>, bool)
 where
     Y: Yard + Send + Sync + 's,
@@ -408,11 +365,11 @@ where
     O: Write + Drop + Send + 's,
     F: Write + Drop + Send + 's,
 {
-    let Some(foreman) = start_foreman(scope, common, given, stop) else {
+    let Some(foreman) = start_foreman(scope, common, given) else {
         return (None, false);
     };
     let is_read = start_reading(scope, common, input);
-    let is_served = serving.serve();
+    let is_served = web.serve(common);
     (Some(foreman.join(&common.rt)), is_read && is_served)
 }
 
@@ -444,8 +401,6 @@ where
         service,
         given,
         input,
-        stop,
-        stopped,
         clerks,
         readers,
     } = work;
@@ -456,15 +411,13 @@ where
         web,
         site,
     } = service;
-    let serving = Serving {
-        rt: common.rt,
+    let web = Web {
         listener: web,
         site,
-        stopped,
     };
     let staff = start_staff(scope, common, desks, inboxes, workers, clerks);
     let (left, is_done) = if staff.is_complete() {
-        work_and_serve(scope, common, given, input, stop, serving)
+        work_and_serve(scope, common, given, input, web)
     } else {
         (None, false)
     };
@@ -534,13 +487,10 @@ where
     let lanes = common.lanes.len();
     let clerks = Vec::with_capacity(common.alloc, lanes).ok()?;
     let room = Vec::with_capacity(common.alloc, lanes).ok()?;
-    let (stop, stopped) = oneshot::channel(common.alloc).ok()?;
     let work = Work {
         service,
         given,
         input,
-        stop,
-        stopped,
         clerks,
         readers: room,
     };
