@@ -9,9 +9,10 @@ use crate::seat::{Seat, seats_of};
 use crate::threads::{Came, Lead, Service, run_threads};
 use crate::visit::Guest;
 use crate::web::WebStop;
-use bm_clerk::{Bell, Door, Guests};
+use bm_clerk::{Bell, Desk, Guests};
 use bm_config::{Config, WorkerConfig};
 use bm_lane::{Blank, Viewer, WriterEnd, Yard, ends_of_all};
+use bm_link::User;
 use bm_parts::{
     AllEnds, Doors, Parts, deal, maxima_of, open_all, open_doors, settle_all, slots_of, users_of,
 };
@@ -43,8 +44,10 @@ struct Sockets {
 }
 
 impl Sockets {
-    // Where it listens, for workers and for the web.
-    fn addresses(&self) -> Option<(SocketAddr, SocketAddr)> {
+    // Where it listens, for workers and for the web. From now on nobody waits in an `accept` of
+    // workers.
+    fn listen(&self) -> Option<(SocketAddr, SocketAddr)> {
+        self.workers.set_nonblocking(true).ok()?;
         let workers = self.workers.local_addr().ok()?;
         let web = self.web.local_addr().ok()?;
         Some((workers, web))
@@ -127,12 +130,26 @@ fn roster_of<Y: Yard>(alloc: Global, config: &Config, benches: Vec<Bench<Y>>) ->
     Some(roster)
 }
 
+/// What the web looks through, held for the web and for the end.
+#[derive(Drop)]
+struct Sites<Y: Yard> {
+    of_the_web: Arc<Site<Y>>,
+    at_the_end: Arc<Site<Y>>,
+}
+
 // What the web looks through. None where memory is wanting, or there is no lane, which never comes.
-fn site_of<Y: Yard>(alloc: Global, viewers: Vec<Viewer<Y>>) -> Option<Arc<Site<Y>>> {
+fn sites_of<Y: Yard>(alloc: Global, viewers: Vec<Viewer<Y>>) -> Option<Sites<Y>> {
     if viewers.is_empty() {
         return None;
     }
-    Arc::new(alloc, Site::new(alloc, viewers).ok()?).ok()
+    let at_the_end = Arc::new(alloc, Site::new(alloc, viewers).ok()?).ok()?;
+    match Arc::try_clone(&at_the_end) {
+        Ok(of_the_web) => Some(Sites {
+            of_the_web,
+            at_the_end,
+        }),
+        Err(_) => None,
+    }
 }
 
 // The workers, which are told this address. None where memory is wanting.
@@ -141,33 +158,112 @@ fn seats_at(alloc: Global, config: &Config, workers: SocketAddr) -> Option<Vec<S
     seats_of(alloc, config.workers.as_slice(), master.as_str()).ok()
 }
 
-// What all threads share. None where memory is wanting.
-fn common_of<Y: Yard, R: Wait + Clock + Copy + Drop>(
+/// What all threads share that is made from the configuration.
+#[derive(Drop)]
+struct Tools<R: Wait + Clock + Drop> {
+    bell: Bell<R>,
+    cancels: Vec<AtomicBool>,
+    users: Vec<User>,
+    is_over: Arc<AtomicBool, Global>,
+}
+
+// The tools of so many lanes. None where memory is wanting.
+fn tools_of<R: Wait + Clock + Copy + Drop>(
     rt: &R,
     alloc: Global,
-    config: Config,
-    doors: Vec<Door<Guest<R>>>,
-    mail: Mail<Y>,
-    lanes: Vec<Mutex<WriterEnd<Y, R>>>,
-) -> Option<Common<Y, R>> {
-    let bell = Bell::new(*rt, alloc, lanes.len(), config.writers as usize).ok()?;
-    let cancels = flags_of(alloc, config.builds.as_slice().len()).ok()?;
-    let users = users_of(alloc, config.workers.as_slice()).ok()?;
-    let is_over = Arc::new(alloc, AtomicBool::new(false)).ok()?;
-    Some(Common {
-        rt: *rt,
-        alloc,
-        config,
+    config: &Config,
+    lanes: usize,
+) -> Option<Tools<R>> {
+    let bell = Bell::new(*rt, alloc, lanes, config.writers as usize).ok();
+    let cancels = flags_of(alloc, config.builds.as_slice().len()).ok();
+    let users = users_of(alloc, config.workers.as_slice()).ok();
+    let is_over = Arc::new(alloc, AtomicBool::new(false)).ok();
+    let (made, lists) = bell.zip(is_over).zip(cancels.zip(users))?;
+    let (bell, is_over) = made;
+    let (cancels, users) = lists;
+    Some(Tools {
+        bell,
         cancels,
         users,
-        doors,
-        mail,
-        guests: Guests::new(),
-        lanes,
-        bell,
         is_over,
-        web: WebStop::new(),
     })
+}
+
+/// The ways between the threads.
+#[derive(Drop)]
+struct Ways<Y: Yard, R: Wait + Clock + Drop> {
+    mail: Mail<Y>,
+    letters: Letters<Y>,
+    doors: Doors<Guest<R>>,
+}
+
+// The ways of so many lanes. None where memory is wanting.
+fn ways_of<Y: Yard, R: Wait + Clock + Drop>(alloc: Global, lanes: usize) -> Option<Ways<Y, R>> {
+    let (mails, doors) = open_mail(alloc).ok().zip(open_doors(alloc, lanes).ok())?;
+    let (mail, letters) = mails;
+    Some(Ways {
+        mail,
+        letters,
+        doors,
+    })
+}
+
+/// What the foreman knows at first.
+#[derive(Drop)]
+struct Crew<Y: Yard> {
+    roster: Roster<Y>,
+    seats: Vec<Seat>,
+}
+
+// The crew, from this address of the workers' on. None where memory is wanting.
+fn crew_of<Y: Yard>(
+    alloc: Global,
+    config: &Config,
+    workers: SocketAddr,
+    benches: Vec<Bench<Y>>,
+) -> Option<Crew<Y>> {
+    let roster = roster_of(alloc, config, benches);
+    let (roster, seats) = roster.zip(seats_at(alloc, config, workers))?;
+    Some(Crew { roster, seats })
+}
+
+/// What is made for the threads, beside their lanes.
+#[derive(Drop)]
+struct Gear<Y: Yard, R: Wait + Clock + Drop> {
+    ways: Ways<Y, R>,
+    tools: Tools<R>,
+    crew: Crew<Y>,
+    sites: Sites<Y>,
+}
+
+// The gear of so many lanes. None where memory is wanting.
+fn gear_of<Y: Yard, R: Wait + Clock + Copy + Drop>(
+    rt: &R,
+    alloc: Global,
+    config: &Config,
+    lanes: usize,
+    crew: Option<Crew<Y>>,
+    sites: Option<Sites<Y>>,
+) -> Option<Gear<Y, R>> {
+    let made = ways_of(alloc, lanes).zip(tools_of(rt, alloc, config, lanes));
+    let (made, owned) = made.zip(crew.zip(sites))?;
+    let (ways, tools) = made;
+    let (crew, sites) = owned;
+    Some(Gear {
+        ways,
+        tools,
+        crew,
+        sites,
+    })
+}
+
+/// What a master is given.
+#[derive(Drop)]
+struct Given<O, F> {
+    config: Config,
+    sockets: Sockets,
+    output: O,
+    faults: F,
 }
 
 /// All that the threads begin with.
@@ -180,25 +276,64 @@ struct Start<Y: Yard, R: Wait + Clock + Drop, O, F> {
     site: Arc<Site<Y>>,
 }
 
-// What the foreman is given, from this address of the workers' on. None where memory is wanting.
-fn lead_of<Y: Yard, O: Drop, F: Drop>(
+// All that the threads begin with.
+fn start_of<Y: Yard, R: Wait + Clock + Copy + Drop, O: Drop, F: Drop>(
+    rt: &R,
     alloc: Global,
-    config: &Config,
-    workers: SocketAddr,
-    benches: Vec<Bench<Y>>,
-    letters: Letters<Y>,
-    told: (O, F),
-) -> Option<Lead<Y, O, F>> {
-    let seats = seats_at(alloc, config, workers)?;
-    let roster = roster_of(alloc, config, benches)?;
-    let (output, faults) = told;
-    Some(Lead {
-        letters,
-        roster,
-        seats,
+    given: Given<O, F>,
+    gear: Gear<Y, R>,
+    desks: Vec<Desk<Y, Guest<R>>>,
+    lanes: Vec<Mutex<WriterEnd<Y, R>>>,
+) -> Start<Y, R, O, F> {
+    let Given {
+        config,
+        sockets,
         output,
         faults,
-    })
+    } = given;
+    let Gear {
+        ways,
+        tools,
+        crew,
+        sites,
+    } = gear;
+    let Ways {
+        mail,
+        letters,
+        doors,
+    } = ways;
+    let Doors { outer, inner } = doors;
+    Start {
+        common: Common {
+            rt: *rt,
+            alloc,
+            config,
+            cancels: tools.cancels,
+            users: tools.users,
+            doors: outer,
+            mail,
+            guests: Guests::new(),
+            lanes,
+            bell: tools.bell,
+            is_over: tools.is_over,
+            web: WebStop::new(),
+        },
+        service: Service {
+            desks,
+            inboxes: inner,
+            workers: sockets.workers,
+            web: sockets.web,
+            site: sites.of_the_web,
+        },
+        given: Lead {
+            letters,
+            roster: crew.roster,
+            seats: crew.seats,
+            output,
+            faults,
+        },
+        site: sites.at_the_end,
+    }
 }
 
 // Makes all that the threads begin with. None where memory or a door is wanting.
@@ -206,9 +341,8 @@ fn prepare<Y: Yard, R: Wait + Clock + Copy + Drop, O: Drop, F: Drop>(
     rt: &R,
     alloc: Global,
     parts: Parts<Y, R, Guest<R>>,
-    config: Config,
-    sockets: Sockets,
-    told: (O, F),
+    given: Given<O, F>,
+    workers: SocketAddr,
 ) -> Option<Start<Y, R, O, F>> {
     let Parts {
         desks,
@@ -216,25 +350,31 @@ fn prepare<Y: Yard, R: Wait + Clock + Copy + Drop, O: Drop, F: Drop>(
         benches,
         site,
     } = parts;
-    let (mail, letters) = open_mail(alloc).ok()?;
-    let Doors { outer, inner } = open_doors(alloc, desks.len()).ok()?;
-    let (workers, _) = sockets.addresses()?;
-    let given = lead_of(alloc, &config, workers, benches, letters, told)?;
-    let common = common_of(rt, alloc, config, outer, mail, writers)?;
-    let site = site_of(alloc, site)?;
-    let service = Service {
-        desks,
-        inboxes: inner,
-        workers: sockets.workers,
-        web: sockets.web,
-        site: Arc::try_clone(&site).ok()?,
-    };
-    Some(Start {
-        common,
-        service,
-        given,
-        site,
-    })
+    let crew = crew_of(alloc, &given.config, workers, benches);
+    let sites = sites_of(alloc, site);
+    match gear_of(rt, alloc, &given.config, desks.len(), crew, sites) {
+        Some(gear) => Some(start_of(rt, alloc, given, gear, desks, writers)),
+        None => {
+            drop(desks);
+            drop(writers);
+            drop(given);
+            None
+        }
+    }
+}
+
+// What the ends of these lanes are made of. None where memory is wanting.
+fn parts_of<Y: Yard, R: Wait + Clock + Drop>(
+    alloc: Global,
+    workers: &[WorkerConfig],
+    blanks: Vec<Blank<R>>,
+) -> Option<Parts<Y, R, Guest<R>>>
+    requires placed { ArePlaced Y.queue Y.copy 0 blanks.items }
+{
+    match ends_of_all::<Y, R>(alloc, blanks) {
+        Ok(all) => deal(alloc, workers, all),
+        Err(_) => None,
+    }
 }
 
 // Runs a master over these blanks, and answers whether all went well. None where it could not
@@ -265,22 +405,40 @@ where
     F: Write + Drop + Send,
     requires placed { ArePlaced Y.queue Y.copy 0 blanks.items }
 {
-    sockets.workers.set_nonblocking(true).ok()?;
-    let (workers, web) = sockets.addresses()?;
-    let all = ends_of_all::<Y, R>(alloc, blanks).ok()?;
-    let parts = deal(alloc, config.workers.as_slice(), all)?;
+    let at = sockets.listen();
+    let parts = parts_of::<Y, R>(alloc, config.workers.as_slice(), blanks);
     let Streams {
         input,
         output,
         faults,
     } = streams;
-    let start = prepare(rt, alloc, parts, config, sockets, (output, faults))?;
-    work(start, Report::Listening { workers, web }, input)
+    let given = Given {
+        config,
+        sockets,
+        output,
+        faults,
+    };
+    match at.zip(parts) {
+        Some((at, parts)) => {
+            let (workers, web) = at;
+            let start = prepare(rt, alloc, parts, given, workers);
+            work(start, Report::Listening { workers, web }, input)
+        }
+        None => {
+            drop(given);
+            drop(input);
+            None
+        }
+    }
 }
 
-// Runs the threads to their end, once it is told that they listen: where that can't be told nobody
-// could connect. The answer is whether all went well.
-fn work<Y, R, I, O, F>(start: Start<Y, R, O, F>, listening: Report<'_>, input: I) -> Option<bool>
+// Runs the threads to their end. The answer is whether all went well, or None where they could not
+// begin.
+fn work<Y, R, I, O, F>(
+    start: Option<Start<Y, R, O, F>>,
+    listening: Report<'_>,
+    input: I,
+) -> Option<bool>
 where
     Y: Yard + Send + Sync,
     R: Wait
@@ -298,18 +456,58 @@ where
     O: Write + Drop + Send,
     F: Write + Drop + Send,
 {
+    let (start, input) = start.zip(Some(input))?;
     let Start {
         common,
         service,
         given,
         site,
     } = start;
-    let mut given = given;
-    if !write_report(common.alloc, listening, &mut given.output) {
-        return None;
+    let came = work_on(&common, service, given, input, listening);
+    let left = came.zip(Site::into_viewers(site));
+    match left {
+        Some((came, site)) => Some(end(common, site, came)),
+        None => {
+            drop(common);
+            None
+        }
     }
-    let came = run_threads(&common, service, given, input)?;
-    Some(end(common, Site::into_viewers(site)?, came))
+}
+
+// Runs the threads, once it is told that they listen: where that can't be told nobody could connect.
+fn work_on<Y, R, I, O, F>(
+    common: &Common<Y, R>,
+    service: Service<Y, R>,
+    given: Lead<Y, O, F>,
+    input: I,
+    listening: Report<'_>,
+) -> Option<Came<Y, O>>
+where
+    Y: Yard + Send + Sync,
+    R: Wait
+        + Threads
+        + Clock
+        + RandomSource
+        + AllocGlobal
+        + Net<Listener = TcpListener, Stream = TcpStream>
+        + Processes<Started = SystemProcess>
+        + Copy
+        + Drop
+        + Send
+        + Sync,
+    I: Read + Drop + Send,
+    O: Write + Drop + Send,
+    F: Write + Drop + Send,
+{
+    let mut given = given;
+    if write_report(common.alloc, listening, &mut given.output) {
+        run_threads(common, service, given, input)
+    } else {
+        drop(service);
+        drop(given);
+        drop(input);
+        None
+    }
 }
 
 // Writes a report at once. The answer is whether it was written.

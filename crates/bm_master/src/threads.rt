@@ -485,23 +485,43 @@ where
     F: Write + Drop + Send,
 {
     let lanes = common.lanes.len();
-    let clerks = Vec::with_capacity(common.alloc, lanes).ok()?;
-    let room = Vec::with_capacity(common.alloc, lanes).ok()?;
-    let work = Work {
-        service,
-        given,
-        input,
-        clerks,
-        readers: room,
-    };
+    let clerks = Vec::with_capacity(common.alloc, lanes).ok();
+    match clerks.zip(Vec::with_capacity(common.alloc, lanes).ok()) {
+        Some((clerks, readers)) => {
+            let work = Work {
+                service,
+                given,
+                input,
+                clerks,
+                readers,
+            };
+            came_of(work_to_end(common, work))
+        }
+        None => {
+            drop(service);
+            drop(given);
+            drop(input);
+            None
+        }
+    }
+}
+
+// What the threads leave, where the foreman has left.
+fn came_of<Y: Yard, O: Drop>(done: Done<Y, O>) -> Option<Came<Y, O>> {
     let Done {
         left,
         readers,
         is_whole,
-    } = work_to_end(common, work);
-    Some(Came {
-        readers,
-        left: left?,
-        is_whole,
-    })
+    } = done;
+    match left {
+        Some(left) => Some(Came {
+            readers,
+            left,
+            is_whole,
+        }),
+        None => {
+            drop(readers);
+            None
+        }
+    }
 }
