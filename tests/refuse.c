@@ -8,6 +8,8 @@
 #include <sys/syscall.h>
 #include <unistd.h>
 static unsigned long asked, refused;
+// Programs that this one starts are refused nothing.
+__attribute__((constructor)) static void alone(void) { unsetenv("LD_PRELOAD"); }
 static int due(void) {
     if (!refused) { const char *at = getenv("REFUSE"); refused = at ? strtoul(at, 0, 10) : (unsigned long)-1; }
     return __atomic_add_fetch(&asked, 1, __ATOMIC_SEQ_CST) == refused;
