@@ -82,13 +82,10 @@ impl Cuts {
         }
     }
 
-    /// Whether a worker may end with this status: one whose call fails after it was told to leave
-    /// finds no master any more, and gives up.
+    /// Whether a worker may end with this status: one that is cut after it was told to leave finds no
+    /// master any more, and gives up.
     fn may_end(self, status: u8) -> bool {
-        match self.unit {
-            Unit::Byte => status == 0,
-            Unit::Call => status <= 1,
-        }
+        status == 0 || status == 1 && self.early != UNCUT
     }
 }
 
@@ -420,12 +417,12 @@ fn is_once(log: Option<Log>) -> bool {
 
 #[test]
 fn each_line_comes_once_through_cuts(rt: HostRuntime) {
-    // At each of a connection's first 200 bytes, which are its handshake, and at as many about its
-    // login and behind it.
+    // At each of a connection's first 1,104 bytes, which are more than all have until the worker is
+    // told to leave: its handshake, its login, the order, what the command says, and the answers.
     let unit = Unit::Byte;
-    for run in 0..50usize {
+    for run in 0..138usize {
         let early = IN_A_ROW * run;
-        let late = 400 + early;
+        let late = 552 + early;
         let log = log_of(rt, Task::Count, Cuts { unit, early, late });
         assert!(rt; is_once(log), "at byte {early}");
     }
