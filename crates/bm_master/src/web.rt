@@ -21,8 +21,7 @@ const CONNECTIONS: usize = 256;
 /// How long a connection of the web may be idle, in seconds.
 const IDLE: u64 = 30;
 
-/// How long it waits before it serves again, where memory or descriptors were wanting, in
-/// milliseconds.
+/// How long it waits before it looks whether to serve again, in milliseconds.
 const PAUSE: u64 = 20;
 
 /// What the web goes by.
@@ -88,22 +87,20 @@ impl<Y: Yard + Send + Sync> Web<Y> {
         R: Wait + Threads + Clock + RandomSource + AllocGlobal + Net + Copy + Drop + Send + Sync,
     {
         let rt = &common.rt;
+        let mut is_served = false;
         for _ in rt.forever() {
             match common.web.wait_for(rt, common.alloc) {
-                Ok(Some(stopped)) => {
-                    if self.serve_once(*rt, stopped) {
-                        return true;
-                    }
-                }
-                Ok(None) => return false,
-                Err(_) => {}
+                Ok(Some(stopped)) => is_served = self.serve_once(*rt, stopped),
+                Ok(None) => return is_served,
+                Err(_) => is_served = false,
             }
             thread::sleep(rt, Duration::from_millis(PAUSE));
         }
         unreachable!()
     }
 
-    // Serves the logs until they need not be served. False where that could not begin or go on.
+    // Serves the logs until they need not be served, or memory is wanting for it. False where that is
+    // known, or it could not begin.
     fn serve_once<R>(&self, rt: R, stopped: oneshot::Receiver<()>) -> bool
     where
         R: Wait + Threads + Clock + RandomSource + AllocGlobal + Net + Copy + Send + Sync,
