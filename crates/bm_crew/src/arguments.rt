@@ -1,0 +1,70 @@
+//! The words of the command line.
+
+use std::alloc::{AllocError, AllocGlobal};
+use std::rt::Env;
+use std::{env, io};
+
+/// The text for words that ask for nothing that the program does.
+pub const USAGE: &str = "usage: buildworker HOST:PORT NAME PASSWORD";
+
+/// The most bytes that a name and a password have together.
+const MOST_LOGIN_BYTES: usize = 900_000;
+
+/// What the words ask for: work for the master at this address, under this name and password.
+#[derive(Clone, Copy)]
+pub struct Job<'a> {
+    pub address: &'a str,
+    pub name: &'a str,
+    pub password: &'a str,
+}
+
+/// The words of the command line, of which the first is the program's name. Where one isn't UTF-8
+/// there are none, and so they ask for nothing.
+pub fn words<R: Env + AllocGlobal>(rt: &R) -> Result<Vec<String>, AllocError> {
+    match env::args(rt) {
+        Ok(words) => words.collect(rt.alloc()),
+        Err(error) if error.kind() == io::ErrorKind::OutOfMemory => Err(AllocError),
+        Err(_) => Ok(Vec::new(rt.alloc())),
+    }
+}
+
+/// Reads the words of the command line, of which the first is the program's name. The answer is
+/// None where they ask for nothing that the program does.
+pub fn read_job(words: &[String]) -> Option<Job<'_>> {
+    let [_, address, name, password] = words else {
+        return None;
+    };
+    let job = Job {
+        address: address.as_str(),
+        name: name.as_str(),
+        password: password.as_str(),
+    };
+    if !is_address(job.address) || !is_login(job.name, job.password) {
+        return None;
+    }
+    Some(job)
+}
+
+/// Whether a port stands behind the last colon.
+fn is_address(address: &str) -> bool {
+    match address.rsplit_once(':') {
+        Some((_, port)) => is_port(port),
+        None => false,
+    }
+}
+
+/// Whether the text is a number from 1 to 65,535, written by decimal digits alone.
+fn is_port(text: &str) -> bool {
+    if !text.as_bytes().iter().all(|byte| byte.is_ascii_digit()) {
+        return false;
+    }
+    match text.parse::<u16>() {
+        Ok(port) => port > 0,
+        Err(_) => false,
+    }
+}
+
+/// Whether a login can have both.
+fn is_login(name: &str, password: &str) -> bool {
+    name.len() <= MOST_LOGIN_BYTES && password.len() <= MOST_LOGIN_BYTES - name.len()
+}

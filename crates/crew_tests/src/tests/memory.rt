@@ -1,0 +1,125 @@
+//! What the worker asks for where a request for memory is refused.
+//!
+//! These are made for `tests/refused_memory`, which refuses each request in turn: memory is wanting
+//! then, and nothing else is told; and the same call again does as ever. In the gate no request is
+//! refused, and no call is made twice.
+
+use bm_crew::{Part, Piece, Pump, new_session, words};
+use bm_lines::Letter;
+use crossbeam_channel::{Receiver, bounded};
+use std::alloc::{AllocGlobal, Global};
+use std::io;
+use std::random::RandomSource;
+use std::sync::Wait;
+use std::sync::atomic::AtomicBool;
+use std::test::Fail;
+
+/// How often a call is made where one request for memory is refused.
+const CALLS: u32 = 2;
+
+/// Without memory there are no words, and these aren't wrong words.
+#[test]
+fn refused_words_are_collected_again(rt: HostRuntime) {
+    let words = match words(&rt) {
+        Err(_) => words(&rt),
+        words => words,
+    };
+    let has_name = match words {
+        Ok(words) => !words.is_empty(),
+        Err(_) => false,
+    };
+    assert!(rt; has_name);
+}
+
+/// A new session's name, by a second call where memory was wanting.
+fn session_again<R: RandomSource + AllocGlobal>(rt: &R) -> Option<String> {
+    match new_session(rt) {
+        Err(error) if error.kind() == io::ErrorKind::OutOfMemory => new_session(rt).ok(),
+        session => session.ok(),
+    }
+}
+
+/// Whether this is a session's name: 32 hex digits.
+fn is_name(session: &str) -> bool {
+    for digit in session.as_bytes() {
+        if !digit.is_ascii_hexdigit() {
+            return false;
+        }
+    }
+    session.len() == 32
+}
+
+#[test]
+fn refused_session_is_named_again(rt: HostRuntime) -> Result<(), Fail> {
+    let session = session_again(&rt).ok_or("no session")?;
+    assert!(rt; is_name(session.as_str()));
+    Ok(())
+}
+
+/// What a pipe gives, and the texts that are told of it.
+const BYTES: &[u8] = b"a\nb\nc";
+
+const TEXTS: [&str; 2] = ["a\nb\n", "c"];
+
+/// What was told of a pipe.
+#[derive(Clone, Copy, PartialEq)]
+enum Outcome {
+    /// All its texts, and its end.
+    Ended,
+    /// Some of them, and then that memory is wanting.
+    NoMemory,
+    Wrongly,
+}
+
+/// How a pipe was told to its end by this piece, after so many of its texts. None where the piece is
+/// the next of them.
+fn outcome_by(piece: &Piece, told: usize) -> Option<Outcome> {
+    match &piece.part {
+        Part::Text(said) if TEXTS.get(told) == Some(&said.text.as_str()) => None,
+        Part::End if told == TEXTS.len() => Some(Outcome::Ended),
+        Part::NoMemory => Some(Outcome::NoMemory),
+        _ => Some(Outcome::Wrongly),
+    }
+}
+
+/// How a pipe was told by these pieces.
+fn outcome_of<R: Wait>(rt: &R, pieces: &Receiver<Piece>) -> Outcome {
+    for told in 0..=TEXTS.len() {
+        let outcome = match pieces.try_recv(rt) {
+            Ok(piece) => outcome_by(&piece, told),
+            Err(_) => Some(Outcome::Wrongly),
+        };
+        if let Some(outcome) = outcome {
+            return outcome;
+        }
+    }
+    Outcome::Wrongly
+}
+
+/// What a pump tells of the pipe. None where it wasn't made.
+fn pumped<R: Wait>(rt: &R, alloc: Global) -> Option<Outcome> {
+    let (owner, pieces) = bounded(alloc, TEXTS.len() + 1).ok()?;
+    let pump = Pump {
+        job: 1,
+        letter: Letter::O,
+        owner,
+    };
+    pump.run(rt, alloc, BYTES, &AtomicBool::new(false));
+    let outcome = outcome_of(rt, &pieces);
+    if pieces.try_recv(rt).is_ok() {
+        return Some(Outcome::Wrongly);
+    }
+    Some(outcome)
+}
+
+/// Where memory is wanting that is told, behind what was told before, and nothing is passed over.
+#[test]
+fn refused_text_of_a_pipe_is_told_as_that(rt: HostRuntime) {
+    let mut outcome = None;
+    for _ in 0..CALLS {
+        if outcome.is_none() || outcome == Some(Outcome::NoMemory) {
+            outcome = pumped(&rt, rt.alloc());
+        }
+    }
+    assert!(rt; outcome == Some(Outcome::Ended));
+}
