@@ -1,6 +1,7 @@
 //! Builds on workers that connect by themselves.
 
 use crate::hand::Hand;
+use crate::play::{Act, Play};
 use crate::stage::{Scene, open, start};
 use bm_lines::Letter;
 use std::alloc::AllocGlobal;
@@ -47,54 +48,54 @@ build = [{worker=\"w0\", step=[{name=\"s\",command=[\"a\"]}, {name=\"s\",command
 /// A worker without builds.
 const IDLE: &str = "worker = [{name=\"w0\",password=\"p\"}]\n";
 
-// Whether a worker that has logged in runs the one build.
-fn is_run<R>(scene: &mut Scene<R>) -> bool
-where
-    R: Wait + Threads + Clock + RandomSource + AllocGlobal + Net<Stream = TcpStream> + Copy + Drop,
-{
-    let Scene { stage, hand } = scene;
-    hand.performs(0, "a", "x\ny\n", 0) && stage.reports("build 0 SUCCESS")
-}
+static RUN: Play = Play {
+    config: ONE,
+    session: None,
+    acts: &[
+        Act::Runs(0, "a"),
+        Act::Says(0, Letter::O, "x\ny\n"),
+        Act::Exits(0, 0),
+        Act::Reports("build 0 SUCCESS"),
+    ],
+    last: &["lane w0 1 2"],
+    status: 0,
+};
 
 #[test]
-fn a_build_is_run_and_reported(rt: HostRuntime) -> Result<(), Fail> {
-    let mut scene = open(rt, ONE, None).ok_or("no worker")?;
-    let is_right = is_run(&mut scene);
-    assert!(rt; scene.ends(is_right, &["lane w0 1 2"], 0));
-    Ok(())
+fn a_build_is_run_and_reported(rt: HostRuntime) {
+    assert!(rt; RUN.goes(rt));
 }
 
-// Whether a reader sees the log grow while the build runs.
-fn is_read<R>(scene: &mut Scene<R>) -> bool
-where
-    R: Wait + Threads + Clock + RandomSource + AllocGlobal + Net<Stream = TcpStream> + Copy + Drop,
-{
-    let Scene { stage, hand } = scene;
-    hand.runs(0, "a")
-        && hand.says(0, Letter::O, "x\n")
-        && stage.shows(
+/// A reader sees the log grow while the build runs.
+static READ: Play = Play {
+    config: ONE,
+    session: None,
+    acts: &[
+        Act::Runs(0, "a"),
+        Act::Says(0, Letter::O, "x\n"),
+        Act::Shows(
             "/api/v2/logs/0/contents",
             "{\"logchunks\":[{\"content\":\"ox\\n\",\"firstline\":0,\"logid\":0}],\"meta\":{}}",
-        )
-        && stage.shows(
+        ),
+        Act::Shows(
             "/api/v2/logs/0",
             "{\"logs\":[{\"complete\":false,\"logid\":0,\"name\":\"stdio\",\"num_lines\":1,\"type\":\"s\"}],\"meta\":{}}",
-        )
-        && hand.says(0, Letter::E, "y\n")
-        && hand.exits(0, 0)
-        && stage.shows(
+        ),
+        Act::Says(0, Letter::E, "y\n"),
+        Act::Exits(0, 0),
+        Act::Shows(
             "/api/v2/logs/0",
             "{\"logs\":[{\"complete\":true,\"logid\":0,\"name\":\"stdio\",\"num_lines\":2,\"type\":\"s\"}],\"meta\":{}}",
-        )
-        && stage.reports("build 0 SUCCESS")
-}
+        ),
+        Act::Reports("build 0 SUCCESS"),
+    ],
+    last: &["lane w0 1 2"],
+    status: 0,
+};
 
 #[test]
-fn a_log_is_read_while_its_build_runs(rt: HostRuntime) -> Result<(), Fail> {
-    let mut scene = open(rt, ONE, None).ok_or("no worker")?;
-    let is_right = is_read(&mut scene);
-    assert!(rt; scene.ends(is_right, &["lane w0 1 2"], 0));
-    Ok(())
+fn a_log_is_read_while_its_build_runs(rt: HostRuntime) {
+    assert!(rt; READ.goes(rt));
 }
 
 #[test]
@@ -104,33 +105,32 @@ fn an_input_that_ends_at_once_ends_an_idle_master(rt: HostRuntime) -> Result<(),
     Ok(())
 }
 
-// Whether a build that runs is cancelled at its step, but for one that always runs, and one that
-// waits at once.
-fn is_cancelled<R>(scene: &mut Scene<R>) -> bool
-where
-    R: Wait + Threads + Clock + RandomSource + AllocGlobal + Net<Stream = TcpStream> + Copy + Drop,
-{
-    let Scene { stage, hand } = scene;
-    hand.runs(0, "a")
-        && stage.writes("cancel 1")
-        && stage.writes("cancel 2")
-        && stage.writes("cancel")
-        && stage.writes("cancel 0")
-        && hand.interrupts(0)
-        && hand.breaks_off(0)
-        && hand.runs(1, "c")
-        && hand.is_idle()
-        && hand.exits(1, 0)
-        && stage.reports("build 0 CANCELLED")
-        && stage.reports("build 1 CANCELLED")
-}
+/// A build that runs is cancelled at its step, but for one that always runs, and one that waits at
+/// once.
+static CANCEL: Play = Play {
+    config: CANCELLED,
+    session: None,
+    acts: &[
+        Act::Runs(0, "a"),
+        Act::Writes("cancel 1"),
+        Act::Writes("cancel 2"),
+        Act::Writes("cancel"),
+        Act::Writes("cancel 0"),
+        Act::Interrupts(0),
+        Act::BreaksOff(0),
+        Act::Runs(1, "c"),
+        Act::IsIdle,
+        Act::Exits(1, 0),
+        Act::Reports("build 0 CANCELLED"),
+        Act::Reports("build 1 CANCELLED"),
+    ],
+    last: &["lane w0 2 0"],
+    status: 1,
+};
 
 #[test]
-fn a_running_and_a_waiting_build_are_cancelled(rt: HostRuntime) -> Result<(), Fail> {
-    let mut scene = open(rt, CANCELLED, None).ok_or("no worker")?;
-    let is_right = is_cancelled(&mut scene);
-    assert!(rt; scene.ends(is_right, &["lane w0 2 0"], 1));
-    Ok(())
+fn a_running_and_a_waiting_build_are_cancelled(rt: HostRuntime) {
+    assert!(rt; CANCEL.goes(rt));
 }
 
 // Whether a second build waits for the lock of the first, which runs.
@@ -169,74 +169,70 @@ fn a_lock_is_held_by_one_build_at_a_time(rt: HostRuntime) -> Result<(), Fail> {
     Ok(())
 }
 
-// Whether a build whose worker leaves between two steps ends RETRY.
-fn is_lost<R>(scene: Scene<R>) -> bool
-where
-    R: Wait + Threads + Clock + RandomSource + AllocGlobal + Net<Stream = TcpStream> + Copy + Drop,
-{
-    let Scene { stage, hand } = scene;
-    let mut hand = hand;
-    let is_run = hand.performs(0, "a", "x\n", 0);
-    drop(hand);
-    let is_right = is_run && stage.awaits("worker w0 lost, ") && stage.reports("build 0 RETRY");
-    stage.finishes(is_right, 1)
-}
+/// A worker leaves between two steps of its build.
+static LOST: [Act; 6] = [
+    Act::Runs(0, "a"),
+    Act::Says(0, Letter::O, "x\n"),
+    Act::Exits(0, 0),
+    Act::Leaves,
+    Act::Awaits("worker w0 lost, "),
+    Act::Reports("build 0 RETRY"),
+];
 
 #[test]
 fn a_worker_that_is_lost_between_two_steps_costs_the_build(rt: HostRuntime) -> Result<(), Fail> {
-    let scene = open(rt, TWO_STEPS, None).ok_or("no worker")?;
-    assert!(rt; is_lost(scene));
+    let mut scene = open(rt, TWO_STEPS, None).ok_or("no worker")?;
+    let is_right = scene.plays(&LOST);
+    assert!(rt; scene.finishes(is_right, 1));
     Ok(())
 }
 
-// Whether a session goes on over a second connection, and no line is lost or doubled.
-fn is_resumed<R>(scene: &mut Scene<R>) -> bool
-where
-    R: Wait + Threads + Clock + RandomSource + AllocGlobal + Net<Stream = TcpStream> + Copy + Drop,
-{
-    let Scene { stage, hand } = scene;
-    hand.runs(0, "a")
-        && hand.says(0, Letter::O, "x\n")
-        && hand.leaves()
-        && stage.awaits("worker w0 cut, closed")
-        && hand.says_later(0, Letter::O, "y\n")
-        && hand.returns("w0", "p", "s")
-        && hand.exits(0, 0)
-        && stage.reports("build 0 SUCCESS")
-        && stage.shows(
+/// A session goes on over a second connection, and no line is lost or doubled.
+static RESUME: Play = Play {
+    config: RESUMABLE,
+    session: Some("s"),
+    acts: &[
+        Act::Runs(0, "a"),
+        Act::Says(0, Letter::O, "x\n"),
+        Act::Leaves,
+        Act::Awaits("worker w0 cut, closed"),
+        Act::SaysLater(0, "y\n"),
+        Act::Returns,
+        Act::Exits(0, 0),
+        Act::Reports("build 0 SUCCESS"),
+        Act::Shows(
             "/api/v2/logs/0/contents",
             "{\"logchunks\":[{\"content\":\"ox\\noy\\n\",\"firstline\":0,\"logid\":0}],\"meta\":{}}",
-        )
-}
+        ),
+    ],
+    last: &["lane w0 1 2"],
+    status: 0,
+};
 
 #[test]
-fn a_session_goes_on_after_a_cut(rt: HostRuntime) -> Result<(), Fail> {
-    let mut scene = open(rt, RESUMABLE, Some("s")).ok_or("no worker")?;
-    let is_right = is_resumed(&mut scene);
-    assert!(rt; scene.ends(is_right, &["lane w0 1 2"], 0));
-    Ok(())
+fn a_session_goes_on_after_a_cut(rt: HostRuntime) {
+    assert!(rt; RESUME.goes(rt));
 }
 
-// Whether a session that isn't resumed in time is given up, with its command and its build; and a
-// later login begins another one.
-fn is_given_up<R>(scene: &mut Scene<R>) -> bool
-where
-    R: Wait + Threads + Clock + RandomSource + AllocGlobal + Net<Stream = TcpStream> + Copy + Drop,
-{
-    let Scene { stage, hand } = scene;
-    hand.runs(0, "a")
-        && hand.says(0, Letter::O, "x\n")
-        && hand.leaves()
-        && stage.awaits("worker w0 cut, ")
-        && stage.awaits("worker w0 lost, not resumed in time")
-        && stage.reports("build 0 RETRY")
-        && !hand.returns("w0", "p", "s")
-}
+/// A session that isn't resumed in time is given up, with its command and its build; and a later
+/// login begins another one.
+static GIVEN_UP: Play = Play {
+    config: SHORT,
+    session: Some("s"),
+    acts: &[
+        Act::Runs(0, "a"),
+        Act::Says(0, Letter::O, "x\n"),
+        Act::Leaves,
+        Act::Awaits("worker w0 cut, "),
+        Act::Awaits("worker w0 lost, not resumed in time"),
+        Act::Reports("build 0 RETRY"),
+        Act::IsForgotten,
+    ],
+    last: &["lane w0 1 1"],
+    status: 1,
+};
 
 #[test]
-fn a_session_that_is_not_resumed_is_given_up(rt: HostRuntime) -> Result<(), Fail> {
-    let mut scene = open(rt, SHORT, Some("s")).ok_or("no worker")?;
-    let is_right = is_given_up(&mut scene);
-    assert!(rt; scene.ends(is_right, &["lane w0 1 1"], 1));
-    Ok(())
+fn a_session_that_is_not_resumed_is_given_up(rt: HostRuntime) {
+    assert!(rt; GIVEN_UP.goes(rt));
 }

@@ -1,6 +1,7 @@
 //! Builds on workers that are started on demand.
 
-use crate::stage::{Scene, Stage, start};
+use crate::play::Act;
+use crate::stage::{Stage, start};
 use bm_lines::Letter;
 use std::alloc::AllocGlobal;
 use std::net::{Net, TcpStream};
@@ -52,38 +53,34 @@ fn a_program_that_is_not_there_costs_the_build(rt: HostRuntime) -> Result<(), Fa
     Ok(())
 }
 
-// Whether the three steps come to a failure, the logs to what the worker said, and the worker is
-// told to shut down once it is idle.
-fn is_stepped<R>(scene: &mut Scene<R>) -> bool
-where
-    R: Wait + Threads + Clock + RandomSource + AllocGlobal + Net<Stream = TcpStream> + Copy + Drop,
-{
-    let Scene { stage, hand } = scene;
-    hand.runs(0, "echo a; echo b >&2; exit 3")
-        && hand.says(0, Letter::H, "sh -c echo a; echo b >&2; exit 3\n")
-        && hand.says(0, Letter::O, "a\n")
-        && hand.says(0, Letter::E, "b\n")
-        && hand.says(0, Letter::H, "program finished with exit code 3\n")
-        && hand.exits(0, 3)
-        && hand.runs(1, "y")
-        && hand.says(1, Letter::H, "echo y\n")
-        && hand.says(1, Letter::O, "y\n")
-        && hand.says(1, Letter::H, "program finished with exit code 0\n")
-        && hand.exits(1, 0)
-        && stage.reports("build 0 FAILURE")
-        && stage.shows(
-            "/api/v2/logs/1/contents",
-            "{\"logchunks\":[{\"content\":\"hecho y\\noy\\nhprogram finished with exit code 0\\n\",\"firstline\":0,\"logid\":1}],\"meta\":{}}",
-        )
-        && hand.shuts_down()
-}
+/// The three steps come to a failure, the logs to what the worker said, and the worker is told to
+/// shut down once it is idle.
+static STEPPED: [Act; 14] = [
+    Act::Runs(0, "echo a; echo b >&2; exit 3"),
+    Act::Says(0, Letter::H, "sh -c echo a; echo b >&2; exit 3\n"),
+    Act::Says(0, Letter::O, "a\n"),
+    Act::Says(0, Letter::E, "b\n"),
+    Act::Says(0, Letter::H, "program finished with exit code 3\n"),
+    Act::Exits(0, 3),
+    Act::Runs(1, "y"),
+    Act::Says(1, Letter::H, "echo y\n"),
+    Act::Says(1, Letter::O, "y\n"),
+    Act::Says(1, Letter::H, "program finished with exit code 0\n"),
+    Act::Exits(1, 0),
+    Act::Reports("build 0 FAILURE"),
+    Act::Shows(
+        "/api/v2/logs/1/contents",
+        "{\"logchunks\":[{\"content\":\"hecho y\\noy\\nhprogram finished with exit code 0\\n\",\"firstline\":0,\"logid\":1}],\"meta\":{}}",
+    ),
+    Act::ShutsDown,
+];
 
 #[test]
 fn three_steps_on_a_latent_worker_come_to_a_failure(rt: HostRuntime) -> Result<(), Fail> {
     let stage = start(rt, STEPS).ok_or("no master")?;
     let is_started = stage.awaits("program of w0 started");
-    let mut scene = stage.joined(None).ok_or("no worker")?;
-    let is_right = is_started && is_stepped(&mut scene);
-    assert!(rt; scene.ends(is_right, &["lane w0 2 7"], 1));
+    let scene = stage.joined(None).ok_or("no worker")?;
+    let comes = scene.goes_through(&STEPPED, &["lane w0 2 7"], 1);
+    assert!(rt; is_started && comes);
     Ok(())
 }

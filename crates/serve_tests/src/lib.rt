@@ -10,6 +10,8 @@ mod latent;
 #[cfg(test)]
 mod logins;
 #[cfg(test)]
+mod play;
+#[cfg(test)]
 mod stage;
 #[cfg(test)]
 mod streams;

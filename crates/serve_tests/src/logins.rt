@@ -1,7 +1,8 @@
 //! Logins that are refused, and addresses that can't be bound.
 
-use crate::stage::{Scene, Stage, refused, start};
-use bm_link::LinkFault;
+use crate::play::Act;
+use crate::stage::{Stage, refused, start};
+use bm_lines::Letter;
 use std::alloc::AllocGlobal;
 use std::net::{Net, TcpListener, TcpStream};
 use std::random::RandomSource;
@@ -15,65 +16,52 @@ const ONE: &str = "worker = [{name=\"w0\",password=\"p\"}]
 build = [{worker=\"w0\", step=[{name=\"s\",command=[\"a\"]}]}]
 ";
 
-fn is_refused<R>(stage: &Stage<R>, name: &str, password: &str) -> bool
-where
-    R: Wait + Threads + Clock + RandomSource + AllocGlobal + Net<Stream = TcpStream> + Copy + Drop,
-{
-    matches!(stage.worker(name, password, None), Err(LinkFault::BadLogin))
-}
-
 // Whether logins under a wrong name or password are refused.
 fn are_refused<R>(stage: &Stage<R>) -> bool
 where
     R: Wait + Threads + Clock + RandomSource + AllocGlobal + Net<Stream = TcpStream> + Copy + Drop,
 {
     for (name, password) in &[("w0", "q"), ("w1", "p"), ("", "")] {
-        if !is_refused(stage, name, password) {
+        if !stage.refuses(name, password) {
             return false;
         }
     }
     stage.awaits("connection refused, bad login")
 }
 
-// Whether a second login under a name is refused, while the first one goes on.
-fn is_guarded<R>(scene: &mut Scene<R>) -> bool
-where
-    R: Wait + Threads + Clock + RandomSource + AllocGlobal + Net<Stream = TcpStream> + Copy + Drop,
-{
-    let Scene { stage, hand } = scene;
-    hand.runs(0, "a")
-        && is_refused(stage, "w0", "p")
-        && stage.awaits("login refused, already up: w0")
-        && hand.exits(0, 0)
-        && stage.reports("build 0 SUCCESS")
-}
+/// A second login under a name is refused, while the first one goes on.
+static GUARDED: [Act; 5] = [
+    Act::Runs(0, "a"),
+    Act::IsAlone,
+    Act::Awaits("login refused, already up: w0"),
+    Act::Exits(0, 0),
+    Act::Reports("build 0 SUCCESS"),
+];
 
 #[test]
 fn bad_and_second_logins_are_refused(rt: HostRuntime) -> Result<(), Fail> {
     let stage = start(rt, ONE).ok_or("no master")?;
     let are_bad = are_refused(&stage);
-    let mut scene = stage.joined(None).ok_or("no worker")?;
-    let is_right = are_bad && is_guarded(&mut scene);
-    assert!(rt; scene.ends(is_right, &["lane w0 1 0"], 0));
+    let scene = stage.joined(None).ok_or("no worker")?;
+    let comes = scene.goes_through(&GUARDED, &["lane w0 1 0"], 0);
+    assert!(rt; are_bad && comes);
     Ok(())
 }
 
-// Whether the build is run beside a connection that says nothing.
-fn is_prompt<R>(scene: &mut Scene<R>) -> bool
-where
-    R: Wait + Threads + Clock + RandomSource + AllocGlobal + Net<Stream = TcpStream> + Copy + Drop,
-{
-    let Scene { stage, hand } = scene;
-    hand.performs(0, "a", "x\n", 0) && stage.reports("build 0 SUCCESS")
-}
+/// The build is run beside a connection that says nothing.
+static PROMPT: [Act; 4] = [
+    Act::Runs(0, "a"),
+    Act::Says(0, Letter::O, "x\n"),
+    Act::Exits(0, 0),
+    Act::Reports("build 0 SUCCESS"),
+];
 
 #[test]
 fn who_says_nothing_holds_nobody_up(rt: HostRuntime) -> Result<(), Fail> {
     let stage = start(rt, ONE).ok_or("no master")?;
     let silent = TcpStream::connect(&rt, stage.workers)?;
-    let mut scene = stage.joined(None).ok_or("no worker")?;
-    let is_right = is_prompt(&mut scene);
-    assert!(rt; scene.ends(is_right, &["lane w0 1 1"], 0));
+    let scene = stage.joined(None).ok_or("no worker")?;
+    assert!(rt; scene.goes_through(&PROMPT, &["lane w0 1 1"], 0));
     drop(silent);
     Ok(())
 }

@@ -395,9 +395,9 @@ where
         are_right && ended == status && output.try_recv(&rt).is_err()
     }
 
-    /// Ends the input, if all was right before. Whether the master ends with this status, whatever it
-    /// writes.
-    pub fn finishes(self, was_right: bool, status: u8) -> bool {
+    // Ends the input, if all was right before. Whether the master ends with this status, whatever it
+    // writes.
+    fn finishes(self, was_right: bool, status: u8) -> bool {
         if !was_right {
             return false;
         }
@@ -419,6 +419,11 @@ where
         session: Option<&str>,
     ) -> Result<Hand<R>, LinkFault> {
         Hand::connect(self.rt, self.workers, name, password, session)
+    }
+
+    /// Whether a login is refused.
+    pub fn refuses(&self, name: &str, password: &str) -> bool {
+        matches!(self.worker(name, password, None), Err(LinkFault::BadLogin))
     }
 
     /// The master, with the worker `w0` that has logged in.
@@ -478,6 +483,15 @@ where
     pub fn ends(self, was_right: bool, lines: &[&str], status: u8) -> bool {
         let Scene { stage, hand } = self;
         let is_right = stage.ends(was_right, lines, status);
+        drop(hand);
+        is_right
+    }
+
+    /// Ends the input, if all was right before. Whether the master ends with this status, whatever it
+    /// writes.
+    pub fn finishes(self, was_right: bool, status: u8) -> bool {
+        let Scene { stage, hand } = self;
+        let is_right = stage.finishes(was_right, status);
         drop(hand);
         is_right
     }
