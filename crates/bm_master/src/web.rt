@@ -61,11 +61,11 @@ impl WebStop {
         rt: &R,
         alloc: Global,
     ) -> Result<Option<oneshot::Receiver<()>>, AllocError> {
-        let (going_on, stopped) = oneshot::channel(alloc)?;
         let mut signal = self.signal.lock(rt);
         if signal.is_over {
             return Ok(None);
         }
+        let (going_on, stopped) = oneshot::channel(alloc)?;
         signal.going_on = Some(going_on);
         Ok(Some(stopped))
     }
