@@ -19,7 +19,7 @@ const MOST_BUILDS: usize = 10_000;
 
 /// The workers, the locks, and the builds by number. A build holds a slot of its worker and its
 /// locks from its start until it is released.
-#[derive(Debug, Drop)]
+#[derive(Drop)]
 pub struct Board {
     workers: Vec<Worker>,
     maxima: Vec<u32>,

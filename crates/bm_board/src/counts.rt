@@ -11,7 +11,7 @@ use std::alloc::{AllocError, Global};
 use std::marker::Model;
 
 /// What the builds of a board hold, counted as it changes.
-#[derive(Debug, Drop)]
+#[derive(Drop)]
 pub struct Counts {
     // Of each worker, how many slots are taken.
     taken: Vec<u8>,

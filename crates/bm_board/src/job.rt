@@ -13,7 +13,7 @@ use std::alloc::Global;
 use std::marker::Model;
 
 /// Where a build stands.
-#[derive(Clone, Copy, Debug)]
+#[derive(Clone, Copy)]
 pub enum Phase {
     /// It was not started.
     Waiting,
@@ -24,7 +24,7 @@ pub enum Phase {
 }
 
 /// A build that was started: where it runs, and its first step.
-#[derive(Clone, Copy, Debug, PartialEq, Eq)]
+#[derive(Clone, Copy, PartialEq, Eq)]
 pub struct Started {
     /// The worker's place on the board.
     pub worker: usize,
@@ -32,7 +32,7 @@ pub struct Started {
 }
 
 /// A build on the board.
-#[derive(Debug, Drop)]
+#[derive(Drop)]
 pub struct Job {
     build: Build,
     phase: Phase,

@@ -13,7 +13,7 @@ pub trait Copied: Sized {
 }
 
 /// Items in their order. Contracts see them as a list.
-#[derive(Debug, Drop)]
+#[derive(Drop)]
 pub struct Listed<T> {
     pub(crate) vec: Vec<T>,
 }

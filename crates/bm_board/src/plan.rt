@@ -7,7 +7,7 @@ use bm_lines::Text;
 use std::alloc::AllocError;
 
 /// How a build holds a lock.
-#[derive(Clone, Copy, Debug, PartialEq, Eq)]
+#[derive(Clone, Copy, PartialEq, Eq)]
 pub enum Mode {
     /// Beside others, up to the lock's maximum.
     Counting,
@@ -16,7 +16,7 @@ pub enum Mode {
 }
 
 /// A lock that a build needs, by its place on the board.
-#[derive(Clone, Copy, Debug, PartialEq, Eq)]
+#[derive(Clone, Copy, PartialEq, Eq)]
 pub struct LockUse {
     pub lock: usize,
     pub mode: Mode,
@@ -41,7 +41,7 @@ impl Copied for Text {
 pub type Words = Listed<Text>;
 
 /// A step of a build: a command, and what its outcome means for the build.
-#[derive(Debug, Drop)]
+#[derive(Drop)]
 pub struct StepPlan {
     pub name: Text,
     pub argv: Words,
@@ -70,7 +70,7 @@ pub type StepPlans = Listed<StepPlan>;
 
 /// A build: its worker, by its place on the board, the locks that it holds while it runs, and its
 /// steps.
-#[derive(Debug, Drop)]
+#[derive(Drop)]
 pub struct Build {
     pub worker: usize,
     pub locks: LockUses,

@@ -1,7 +1,7 @@
 //! A worker as the board sees it.
 
 /// A worker as the board sees it.
-#[derive(Clone, Copy, Debug)]
+#[derive(Clone, Copy)]
 pub struct Worker {
     /// How many builds it runs at a time.
     pub slots: u8,

@@ -52,7 +52,7 @@ impl<Y: Yard, S> Model for Desk<Y, S> {
 }
 
 /// What a clerk waits for.
-#[derive(Clone, Copy, Debug, PartialEq, Eq)]
+#[derive(Clone, Copy, PartialEq, Eq)]
 pub(crate) enum Rest {
     /// An order, however long it takes: the lane is down.
     Order,

@@ -39,7 +39,7 @@ pub enum Order<S> {
 }
 
 /// What came of an order to start or to interrupt a command.
-#[derive(Clone, Copy, Debug, PartialEq, Eq)]
+#[derive(Clone, Copy, PartialEq, Eq)]
 pub enum Told {
     /// The command with this number was started.
     Started(u64),

@@ -9,7 +9,7 @@ use bm_rules::LossCause;
 use bm_session::Refusal;
 
 /// What a clerk tells the foreman.
-#[derive(Clone, Copy, Debug, PartialEq, Eq)]
+#[derive(Clone, Copy, PartialEq, Eq)]
 pub enum Notice {
     /// The worker logged in, and a session begins. Where its lane was cut, `Lost` comes before.
     Attached,
@@ -28,7 +28,7 @@ pub enum Notice {
 }
 
 /// How a lane stands.
-#[derive(Clone, Copy, Debug, PartialEq, Eq)]
+#[derive(Clone, Copy, PartialEq, Eq)]
 pub enum Standing {
     Up,
     Cut,

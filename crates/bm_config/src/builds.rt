@@ -23,7 +23,7 @@ use toml::{Table, Value};
 const MOST_BUILDS: usize = 10_000;
 
 /// The workers and the locks that builds name.
-#[derive(Debug, Drop)]
+#[derive(Drop)]
 pub(crate) struct Places {
     pub workers: Listed<WorkerConfig>,
     pub locks: Listed<LockConfig>,

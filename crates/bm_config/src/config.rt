@@ -5,7 +5,7 @@ use bm_lines::Text;
 use std::net::SocketAddr;
 
 /// What a build master is to do.
-#[derive(Debug, Drop)]
+#[derive(Drop)]
 pub struct Config {
     /// Where it listens for workers. Port 0 lets the system choose.
     pub listen: SocketAddr,
@@ -24,7 +24,7 @@ pub struct Config {
 }
 
 /// A worker of a configuration.
-#[derive(Debug, Drop)]
+#[derive(Drop)]
 pub struct WorkerConfig {
     /// Its name, which no other worker has and which isn't empty.
     pub name: Text,
@@ -40,7 +40,7 @@ pub struct WorkerConfig {
 }
 
 /// A lock of a configuration.
-#[derive(Debug, Drop)]
+#[derive(Drop)]
 pub struct LockConfig {
     /// Its name, which no other lock has.
     pub name: Text,

@@ -23,7 +23,7 @@ pub enum ConfigFault {
 }
 
 /// Why a part of a table isn't taken.
-#[derive(Clone, Copy, Debug, PartialEq, Eq)]
+#[derive(Clone, Copy, PartialEq, Eq)]
 pub enum Fault {
     /// The key's value is at fault.
     At(Key),

@@ -13,7 +13,7 @@ use std::thread::Threads;
 use tungstenite::MaskKeys;
 
 /// How a connection ended.
-#[derive(Clone, Copy, Debug, PartialEq, Eq)]
+#[derive(Clone, Copy, PartialEq, Eq)]
 pub enum Left {
     /// The master asked for the end of the worker, or closed the connection.
     Done,

@@ -9,7 +9,7 @@ use crate::refusal::Refusal;
 use std::alloc::{AllocError, Global};
 
 /// What a request is answered.
-#[derive(Debug, Drop)]
+#[derive(Drop)]
 pub struct Answer {
     /// The status code.
     pub status: u16,

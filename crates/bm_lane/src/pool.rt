@@ -12,7 +12,7 @@ use std::thread::{Promise, PromisedHandle, Threads};
 use thiserror::Error;
 
 /// What a worker may do at its turn.
-#[derive(Clone, Copy, Debug, PartialEq, Eq)]
+#[derive(Clone, Copy, PartialEq, Eq)]
 pub enum Pass {
     /// Drain the lane.
     Go,
@@ -32,7 +32,7 @@ pub trait Gate {
 }
 
 /// How many drains of all workers took an item, and how many met want of memory.
-#[derive(Clone, Copy, Debug, PartialEq, Eq)]
+#[derive(Clone, Copy, PartialEq, Eq)]
 pub struct PoolReport {
     pub took: u128,
     pub refused: u128,

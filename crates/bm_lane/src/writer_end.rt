@@ -15,7 +15,7 @@ use std::marker::{Model, PhantomData};
 use std::sync::{Arc, Wait};
 
 /// What a drain found.
-#[derive(Clone, Copy, Debug, PartialEq, Eq)]
+#[derive(Clone, Copy, PartialEq, Eq)]
 pub enum Drained {
     /// An item, which viewers are shown from now on.
     Took,

@@ -7,7 +7,7 @@ use crate::text::Text;
 use std::alloc::AllocError;
 
 /// The stream that a line came from: standard output, standard error, or the worker's header.
-#[derive(Clone, Copy, Debug, PartialEq, Eq)]
+#[derive(Clone, Copy, PartialEq, Eq)]
 pub enum Letter {
     O,
     E,
@@ -28,7 +28,7 @@ impl Letter {
 }
 
 /// A line of a log, without the `\n` at its end.
-#[derive(Debug, Drop)]
+#[derive(Drop)]
 pub struct Line {
     pub letter: Letter,
     pub text: Text,

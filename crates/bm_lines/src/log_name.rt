@@ -17,7 +17,7 @@ pub const MOST_NAME_BYTES: usize = 255;
 /// The name of a log: 1 to 255 bytes of UTF-8 (this project's profile).
 ///
 /// `stdio` takes no memory, and copies of another name share its text.
-#[derive(Debug, Drop)]
+#[derive(Drop)]
 pub struct LogName {
     /// None for `stdio`.
     text: Option<Arc<Text>>,

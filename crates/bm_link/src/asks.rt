@@ -14,7 +14,7 @@ use std::io::{Read, Write};
 use tungstenite::{NoMask, WebSocket};
 
 /// What a master asks of a worker besides its orders.
-#[derive(Debug, Drop)]
+#[derive(Drop)]
 pub enum Ask {
     /// To print a text.
     Print(Text),

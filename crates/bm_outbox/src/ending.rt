@@ -8,7 +8,7 @@ use bm_work::Finish;
 use std::alloc::{AllocError, Global};
 
 /// How a command ended.
-#[derive(Clone, Copy, Debug, PartialEq, Eq)]
+#[derive(Clone, Copy, PartialEq, Eq)]
 pub enum Ending {
     /// Its process gave this exit code; -1 stands for none.
     Code(i64),

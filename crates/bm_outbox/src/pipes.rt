@@ -6,7 +6,7 @@ ghost use Rattle.bm_outbox.specs.Pipes.{with_end, are_over, exit_code};
 use bm_lines::Letter;
 
 /// Which pipes of a command are open.
-#[derive(Clone, Copy, Debug, PartialEq, Eq)]
+#[derive(Clone, Copy, PartialEq, Eq)]
 pub struct Pipes {
     pub output: bool,
     pub errors: bool,

@@ -6,7 +6,7 @@ ghost use Rattle.std.specs.Prelude.{◌≡◌, ◌+◌, ◌≤◌, nat_lt, if◌
 const MOST: u32 = 10;
 
 /// How many times in a row a worker has connected again.
-#[derive(Clone, Copy, Debug, PartialEq, Eq)]
+#[derive(Clone, Copy, PartialEq, Eq)]
 pub struct Tries {
     pub made: u32,
     pub ghost few: { made ≤ 10 },

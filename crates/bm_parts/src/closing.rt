@@ -13,7 +13,7 @@ use std::sync::{Mutex, Wait};
 const TRIES: usize = 3;
 
 /// Why a lane could not be settled.
-#[derive(Clone, Copy, Debug, PartialEq, Eq)]
+#[derive(Clone, Copy, PartialEq, Eq)]
 pub enum Loose {
     /// The ends are not those of one lane, or one of them is missing.
     Mixed,
@@ -69,7 +69,7 @@ pub struct AllEnds<Y: Yard, W: Wait + Drop> {
 }
 
 /// How much a lane has had.
-#[derive(Clone, Copy, Debug, PartialEq, Eq)]
+#[derive(Clone, Copy, PartialEq, Eq)]
 pub struct Tally {
     /// How many commands were started on it.
     pub commands: u64,

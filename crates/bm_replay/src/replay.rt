@@ -14,7 +14,7 @@ use std::io;
 use std::io::{BufWriter, Read, Write};
 
 /// Why a replay ends before its script does.
-#[derive(Debug, Drop)]
+#[derive(Drop)]
 enum Halt {
     /// A line of another form, with its number, counted from 1.
     NotUnderstood(u64),

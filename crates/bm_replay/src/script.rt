@@ -18,7 +18,7 @@ pub const MOST_BYTES: usize = 67_108_864;
 const PIECE: usize = 65_536;
 
 /// What a line of a script asks that is neither a message nor a drain.
-#[derive(Clone, Copy, Debug, PartialEq, Eq)]
+#[derive(Clone, Copy, PartialEq, Eq)]
 pub enum Request<'a> {
     /// A connection of the worker begins.
     Up,
@@ -45,7 +45,7 @@ pub enum Request<'a> {
 }
 
 /// What a line of a script is.
-#[derive(Clone, Copy, Debug, PartialEq, Eq)]
+#[derive(Clone, Copy, PartialEq, Eq)]
 pub enum ScriptLine<'a> {
     /// An empty line or a comment.
     Blank,

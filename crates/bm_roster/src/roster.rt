@@ -24,7 +24,7 @@ struct Waiting {
 }
 
 //// What a cancel met.
-#[derive(Clone, Copy, Debug, PartialEq, Eq)]
+#[derive(Clone, Copy, PartialEq, Eq)]
 pub enum Cancelled {
     /// The build waited, and has ended CANCELLED.
     Waiting,

@@ -4,7 +4,7 @@ ghost use Rattle.std.specs.Prelude.{◌≡◌, ◌+◌, ◌*◌};
 
 /// The log of a command on a lane, under the id that the web knows it by: the command's number
 /// times the number of lanes, plus the lane's place.
-#[derive(Clone, Copy, Debug, PartialEq, Eq)]
+#[derive(Clone, Copy, PartialEq, Eq)]
 pub struct LogId {
     pub command: u64,
     pub lane: u64,

@@ -6,7 +6,7 @@ use std::marker::Model;
 
 /// Counts whole ticks by a clock, for a thread that doesn't wake at each of them: none is lost and
 /// none counted twice. Times are in milliseconds since some moment.
-#[derive(Debug, Drop)]
+#[derive(Drop)]
 pub struct Pace {
     /// How long a tick is.
     tick: u64,

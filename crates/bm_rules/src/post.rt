@@ -13,7 +13,7 @@ use std::marker::Model;
 /// is attached. One that is latent takes them while it is substantiated; its process is started
 /// once a build waits for it, and its worker is told to shut down once it has been idle for long
 /// enough.
-#[derive(Debug, Drop)]
+#[derive(Drop)]
 pub struct Post {
     latent: Option<Latent>,
     attached: bool,

@@ -4,7 +4,7 @@ ghost use Rattle.std.specs.Prelude.{◌≡◌};
 ghost use Rattle.bm_rules.specs.Reasons.{loss_text, refusal_text};
 
 /// Why a worker's connection was cut or its session given up.
-#[derive(Clone, Copy, Debug, PartialEq, Eq)]
+#[derive(Clone, Copy, PartialEq, Eq)]
 pub enum LossCause {
     /// The connection ended.
     Closed,
@@ -49,7 +49,7 @@ impl LossCause {
 }
 
 /// Why a connection isn't taken up as a worker's.
-#[derive(Clone, Copy, Debug, PartialEq, Eq)]
+#[derive(Clone, Copy, PartialEq, Eq)]
 pub enum LoginRefusal {
     /// The user or the password is wrong.
     BadLogin,

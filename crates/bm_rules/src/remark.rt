@@ -14,7 +14,7 @@ use std::io::Write;
 
 /// A line of a build master's standard error: something that its operator asks about. Names are
 /// shown on one line (`one_line`). Nothing here has room for a password.
-#[derive(Clone, Copy, Debug)]
+#[derive(Clone, Copy)]
 pub enum Remark<'a> {
     /// A worker logged in, and a session began: `worker NAME logged in`.
     LoggedIn {

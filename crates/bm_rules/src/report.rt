@@ -10,7 +10,7 @@ use std::io::Write;
 use std::net::SocketAddr;
 
 /// A line of a build master's standard output.
-#[derive(Clone, Copy, Debug)]
+#[derive(Clone, Copy)]
 pub enum Report<'a> {
     /// It listens at these addresses, for workers and for the web: `listening ADDR ADDR`.
     Listening {

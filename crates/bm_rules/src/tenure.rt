@@ -9,7 +9,7 @@ use std::marker::Model;
 /// How long a lane whose connection was cut waits for its worker to resume the session. A lane is
 /// given up once as many ticks have passed since the cut as its worker may take, and at once where
 /// nobody is awaited: where the worker was told to shut down, or its process ended.
-#[derive(Debug, Drop)]
+#[derive(Drop)]
 pub struct Tenure {
     limit: u32,
     cut: Option<u32>,

@@ -1,7 +1,7 @@
 //! What happens to a worker, and what a build master then does.
 
 /// What happens to a worker, in the words of its master.
-#[derive(Clone, Copy, Debug, PartialEq, Eq)]
+#[derive(Clone, Copy, PartialEq, Eq)]
 pub enum WorkerEvent {
     /// A build waits for it. To be told as long as one does: at each tick, and after each change.
     Wanted,
@@ -24,7 +24,7 @@ pub enum WorkerEvent {
 }
 
 /// What is to be done with the process of a worker.
-#[derive(Clone, Copy, Debug, PartialEq, Eq)]
+#[derive(Clone, Copy, PartialEq, Eq)]
 pub enum ProcessDuty {
     /// Nothing.
     None,
@@ -35,7 +35,7 @@ pub enum ProcessDuty {
 }
 
 /// What is to be done after something happened to a worker.
-#[derive(Clone, Copy, Debug, PartialEq, Eq)]
+#[derive(Clone, Copy, PartialEq, Eq)]
 pub struct Duty {
     /// Whether the worker takes builds from now on: the board is told so (`Board::set_ready`).
     pub ready: bool,

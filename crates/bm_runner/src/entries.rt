@@ -9,7 +9,7 @@ use std::alloc::{AllocError, Global};
 use std::marker::Model;
 
 /// The entries that a port keeps, oldest first.
-#[derive(Debug, Drop)]
+#[derive(Drop)]
 pub struct Entries {
     vec: Vec<Told>,
 }

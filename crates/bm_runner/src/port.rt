@@ -4,7 +4,7 @@ use bm_board::StepPlan;
 use bm_session::Results;
 
 /// What a port told of one step that it started.
-#[derive(Clone, Copy, Debug, PartialEq, Eq)]
+#[derive(Clone, Copy, PartialEq, Eq)]
 pub struct Told {
     /// The command's number.
     pub k: u64,
@@ -15,7 +15,7 @@ pub struct Told {
 }
 
 /// What a port says of a command that it started.
-#[derive(Clone, Copy, Debug, PartialEq, Eq)]
+#[derive(Clone, Copy, PartialEq, Eq)]
 pub enum Polled {
     /// It runs.
     Running,

@@ -9,7 +9,7 @@ use bm_session::Results;
 use std::alloc::{AllocError, Global};
 
 /// How a build's steps ended, and the build.
-#[derive(Debug, Drop)]
+#[derive(Drop)]
 pub struct Report {
     /// One outcome for each step.
     pub outcomes: Outcomes,

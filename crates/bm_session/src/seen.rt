@@ -3,7 +3,7 @@
 use crate::reply::Verdict;
 
 /// The request numbers from `first` to `last`, and the verdict that each first got.
-#[derive(Clone, Copy, Debug, PartialEq, Eq)]
+#[derive(Clone, Copy, PartialEq, Eq)]
 pub struct Seen {
     pub first: u64,
     pub last: u64,

@@ -24,7 +24,7 @@ pub const MOST_OPEN: usize = 4;
 pub const MOST_EVENTS: usize = 999_999;
 
 /// Whether a lane's worker is there.
-#[derive(Clone, Copy, Debug, PartialEq, Eq)]
+#[derive(Clone, Copy, PartialEq, Eq)]
 pub enum Link {
     Down,
     Up,
@@ -32,7 +32,7 @@ pub enum Link {
 }
 
 /// An open command.
-#[derive(Clone, Copy, Debug)]
+#[derive(Clone, Copy)]
 pub struct Open {
     pub command: u64,
     /// The number of the order that started it.

@@ -8,7 +8,7 @@ use std::alloc::AllocError;
 use thiserror::Error;
 
 /// Lines of a log that a viewer asked for.
-#[derive(Debug, Drop)]
+#[derive(Drop)]
 pub struct Chunk {
     /// The place that was asked for, also where the log ends before it.
     pub first_line: u64,
@@ -32,7 +32,7 @@ impl Chunk {
 }
 
 /// How far a log is.
-#[derive(Clone, Copy, Debug, PartialEq, Eq)]
+#[derive(Clone, Copy, PartialEq, Eq)]
 pub struct LogState {
     /// How many lines it has; 2^64-1 where it has more.
     pub lines: u64,

@@ -6,7 +6,7 @@ use std::alloc::{AllocError, Allocator};
 use std::marker::Model;
 
 /// Text that a value keeps.
-#[derive(Debug, Drop)]
+#[derive(Drop)]
 pub struct Text<A: Allocator> {
     string: String<A>,
 }

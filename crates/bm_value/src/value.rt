@@ -11,7 +11,7 @@ use std::alloc::{AllocError, Allocator, Global};
 
 /// A MessagePack value, whose parts lie in the allocator `A`.
 #[cycle(value)]
-#[derive(Debug, Drop)]
+#[derive(Drop)]
 pub enum Value<A: Allocator = Global> {
     Nil,
     Bool(bool),
@@ -39,21 +39,21 @@ impl<A: Allocator + Copy> Value<A> {
 
 /// The items of an array, in order.
 #[cycle(value)]
-#[derive(Debug, Drop)]
+#[derive(Drop)]
 pub struct Items<A: Allocator> {
     pub vec: Vec<Value<A>, A>,
 }
 
 /// The pairs of a map, in order. Keys are of any kind, and the same key may come twice.
 #[cycle(value)]
-#[derive(Debug, Drop)]
+#[derive(Drop)]
 pub struct Pairs<A: Allocator> {
     pub vec: Vec<Pair<A>, A>,
 }
 
 /// A key and its value.
 #[cycle(value)]
-#[derive(Debug, Drop)]
+#[derive(Drop)]
 pub struct Pair<A: Allocator> {
     pub key: Value<A>,
     pub value: Value<A>,

@@ -9,7 +9,7 @@ use std::alloc::{AllocError, AllocFailed};
 use thiserror::Error;
 
 /// What a message that was heard asks the worker to do.
-#[derive(Debug, Drop)]
+#[derive(Drop)]
 pub enum WorkAct {
     /// Start the command.
     Run { command: u64, argv: Argv },

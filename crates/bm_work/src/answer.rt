@@ -11,7 +11,7 @@ use bm_value::{Pair, Pairs, Value};
 use std::alloc::{AllocError, Global};
 
 /// What a worker answers to a request.
-#[derive(Clone, Copy, Debug, PartialEq, Eq)]
+#[derive(Clone, Copy, PartialEq, Eq)]
 pub enum Answer {
     /// The request is taken: nil.
     Done,

@@ -12,7 +12,7 @@ use std::alloc::{AllocError, Global};
 use std::marker::Model;
 
 /// A program and its words, in order.
-#[derive(Debug, Drop)]
+#[derive(Drop)]
 pub struct Argv {
     words: Vec<Text>,
 }

@@ -15,14 +15,14 @@ use bm_value::{Bytes, Num};
 use std::alloc::{AllocError, Global};
 
 /// A request to be sent: its number and its bytes.
-#[derive(Debug, Drop)]
+#[derive(Drop)]
 pub struct Sent {
     pub seq: u64,
     pub bytes: Bytes<Global>,
 }
 
 /// How a command ended.
-#[derive(Debug, Drop)]
+#[derive(Drop)]
 pub enum Finish {
     /// With an exit code.
     Rc(i64),

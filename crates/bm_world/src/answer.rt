@@ -6,7 +6,7 @@ use bm_store::Chunk;
 use std::alloc::AllocError;
 
 /// What a lane answers to a step.
-#[derive(Debug, Drop)]
+#[derive(Drop)]
 pub enum Answer {
     /// The event was taken: what the master sends.
     Heard(Reply),
