@@ -106,14 +106,25 @@ where
         text.len() <= 65_536 && self.core.say(command, letter, text).is_ok()
     }
 
-    /// Logs in again, with the same core. Whether the session goes on.
+    /// Logs in again, with the same core, and says again what has no answer. Whether it is answered that the
+    /// session goes on.
     pub fn returns(&mut self, name: &str, password: &str, session: &str) -> bool {
+        self.logs_in_again(name, password, session) == Some(Attached::Resumed) && self.resends()
+    }
+
+    /// Logs in again. Whether it is answered that another session begins.
+    pub fn begins_anew(&mut self, name: &str, password: &str, session: &str) -> bool {
+        self.logs_in_again(name, password, session) == Some(Attached::New)
+    }
+
+    // The answer to another login, over whose connection it goes on; None where it was refused.
+    fn logs_in_again(&mut self, name: &str, password: &str, session: &str) -> Option<Attached> {
         match dial(self.rt, self.address, name, password, Some(session)) {
             Ok((link, attached)) => {
                 self.link = link;
-                attached == Attached::Resumed && self.resends()
+                Some(attached)
             }
-            Err(_) => false,
+            Err(_) => None,
         }
     }
 

@@ -118,7 +118,7 @@ where
             Act::Leaves => hand.leaves(),
             Act::SaysLater(command, text) => hand.says_later(command, Letter::O, text),
             Act::Returns => hand.returns("w0", "p", "s"),
-            Act::IsForgotten => !hand.returns("w0", "p", "s"),
+            Act::IsForgotten => hand.begins_anew("w0", "p", "s"),
             Act::IsAlone => stage.refuses("w0", "p"),
             Act::Writes(line) => stage.writes(line),
             Act::Reports(line) => stage.reports(line),
