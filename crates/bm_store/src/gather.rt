@@ -12,8 +12,18 @@ use crate::placed::Placed;
 use bm_lines::{Line, Text, append_content};
 use std::alloc::{AllocError, Global};
 
+/// A place between two: half way, or `reach` before the end, whichever is later.
+fn probe(low: usize, high: usize, reach: usize) -> usize
+    requires { (low + 1 < high) × (0 < reach) }
+    ensures { (low < result) × (result < high) }
+{
+    let middle = low + (high - low) / 2;
+    middle.max(high.saturating_sub(reach))
+}
+
 /// The place of the last block that begins at or before the line `offset` (0 where there is none),
-/// and how many of its lines stand before that line.
+/// and how many of its lines stand before that line. Who follows a log asks near its end: so the search
+/// goes back from there by steps that double, and then by halves.
 fn seek(blocks: &[Placed], offset: u64) -> (usize, u64)
     requires { blocks.now ≡ placed (map block_at blocks.now) }
     ensures inside { result.0 ≤ length blocks.now }
@@ -24,14 +34,16 @@ fn seek(blocks: &[Placed], offset: u64) -> (usize, u64)
     let mut low = 0;
     let mut before = 0;
     let mut high = blocks.len();
+    let mut reach = 1;
     while high - low > 1 {
-        let middle = low + (high - low) / 2;
-        let first = blocks[middle].first;
+        let place = probe(low, high, reach);
+        let first = blocks[place].first;
         if first <= offset {
-            low = middle;
+            low = place;
             before = first;
         } else {
-            high = middle;
+            high = place;
+            reach = reach.saturating_add(reach);
         }
     }
     (low, offset - before)
