@@ -3,10 +3,13 @@
 use crate::lane::POLLING;
 
 pub const USAGE: &str =
-    "usage: bench [lane flow|drain ITEMS POLLING | link link|plain|lane UPDATES | web lane|drain|same LINES]";
+    "usage: bench [lane flow|drain ITEMS POLLING | link link|plain|lane UPDATES | web lane|drain|same LINES TOGETHER]";
 
 /// The most lines that a served log is given.
 const MOST_LINES: u64 = 100_000;
+
+/// As many lines of 64 bytes fit into a text that a worker sends.
+const MOST_TOGETHER: u64 = 1_024;
 
 /// The work through a lane that is timed.
 #[derive(Clone, Copy)]
@@ -58,6 +61,8 @@ pub struct WebJob {
     pub kind: Kind,
     /// How many lines the log has.
     pub lines: u64,
+    /// How many of them an update has at most.
+    pub together: u64,
 }
 
 /// What the words ask for.
@@ -104,17 +109,30 @@ fn read_link(work: &str, updates: &str) -> Option<LinkJob> {
     })
 }
 
-fn read_web(kind: &str, lines: &str) -> Option<WebJob> {
+// How many lines the log has, and how many an update.
+fn read_lines(lines: &str, together: &str) -> Option<(u64, u64)> {
+    match (lines.parse::<u64>(), together.parse::<u64>()) {
+        (Ok(lines), Ok(together))
+            if lines <= MOST_LINES && 0 < together && together <= MOST_TOGETHER => {
+            Some((lines, together))
+        }
+        _ => None,
+    }
+}
+
+fn read_web(kind: &str, lines: &str, together: &str) -> Option<WebJob> {
     let kind = match kind {
         "lane" => Kind::Lane,
         "drain" => Kind::Drain,
         "same" => Kind::Same,
         _ => return None,
     };
-    match lines.parse::<u64>() {
-        Ok(lines) if lines <= MOST_LINES => Some(WebJob { kind, lines }),
-        _ => None,
-    }
+    let (lines, together) = read_lines(lines, together)?;
+    Some(WebJob {
+        kind,
+        lines,
+        together,
+    })
 }
 
 // What three words or four ask for, by the first of them.
@@ -126,7 +144,11 @@ fn read_work(part: &str, rest: &[String]) -> Option<Job> {
             polling.as_str(),
         )?)),
         ("link", [work, updates]) => Some(Job::Link(read_link(work.as_str(), updates.as_str())?)),
-        ("web", [kind, lines]) => Some(Job::Web(read_web(kind.as_str(), lines.as_str())?)),
+        ("web", [kind, lines, together]) => Some(Job::Web(read_web(
+            kind.as_str(),
+            lines.as_str(),
+            together.as_str(),
+        )?)),
         _ => None,
     }
 }

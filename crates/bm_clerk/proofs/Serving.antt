@@ -13,7 +13,7 @@ use Rattle.bm_link.specs.Link.{LinkState, Turned}
 use Rattle.bm_link.specs.Orders.{Starts as LinkStarts, Interrupts as LinkInterrupts}
 use Rattle.bm_rules.specs.Tenure.{Term, begun, dismissed}
 use Rattle.bm_clerk.specs.declared.door.Told.{Told}
-use Rattle.bm_clerk.specs.declared.notice.Standing.TheVariants.{Up, Cut, Down}
+use Rattle.bm_rules.specs.declared.standing.Standing.TheVariants.{Up, Cut, Down}
 use Rattle.bm_clerk.specs.Notices.{is_awaited, standing_of}
 use Rattle.bm_clerk.specs.Desks.{Seat, kept, counting, term_in, renewed, told_start, told_interrupt, TakesUp, Attaches, Turns, Starts, Interrupts, ShutsDown}
 

@@ -27,8 +27,8 @@ use Rattle.bm_clerk.specs.declared.desk.Rest.{Rest}
 use Rattle.bm_clerk.specs.declared.desk.Rest.TheVariants as rest
 use Rattle.bm_clerk.specs.declared.door.Told.{Told}
 use Rattle.bm_clerk.specs.declared.door.Told.TheVariants as told
-use Rattle.bm_clerk.specs.declared.notice.Standing.{Standing}
-use Rattle.bm_clerk.specs.declared.notice.Standing.TheVariants as standing
+use Rattle.bm_rules.specs.declared.standing.Standing.{Standing}
+use Rattle.bm_rules.specs.declared.standing.Standing.TheVariants as standing
 use Rattle.bm_clerk.specs.Notices.{standing_of}
 
 -- a lane's reader's end, what the lane carries from one link to the next, the link by which it is

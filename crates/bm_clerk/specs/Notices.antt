@@ -9,8 +9,8 @@ use Rattle.bm_rules.specs.declared.reasons.LossCause.{LossCause}
 use Rattle.bm_rules.specs.declared.reasons.LossCause.TheVariants as loss
 use Rattle.bm_clerk.specs.declared.notice.Notice.{Notice}
 use Rattle.bm_clerk.specs.declared.notice.Notice.TheVariants as notice
-use Rattle.bm_clerk.specs.declared.notice.Standing.{Standing}
-use Rattle.bm_clerk.specs.declared.notice.Standing.TheVariants.{Up, Cut, Down}
+use Rattle.bm_rules.specs.declared.standing.Standing.{Standing}
+use Rattle.bm_rules.specs.declared.standing.Standing.TheVariants.{Up, Cut, Down}
 
 abbrev pub standing_of : Trace → Standing
 standing_of t = if is_up t then Up else (if is_cut t then Cut else Down)

@@ -9,11 +9,11 @@ ghost use Rattle.bm_clerk.specs.Desks.{Attaches, Expires, GivesUp, Interrupts, S
 ghost use Rattle.bm_clerk.specs.Notices.{standing_of};
 
 use crate::door::Told;
-use crate::notice::{Standing, standing_of};
+use crate::notice::standing_of;
 use bm_lane::{HearRefusal, ReaderEnd, Yard};
 use bm_lines::Text;
 use bm_link::{Ask, Attached, Carry, LinkFault, MasterLink, Turn};
-use bm_rules::Tenure;
+use bm_rules::{Standing, Tenure};
 use bm_session::Refusal;
 use bumpalo::Bump;
 use std::alloc::Global;
@@ -113,7 +113,7 @@ fn settle<Y: Yard, S: Drop>(
     ensures tenure { tenure.new ≡ counting reader.now tenure.old }
 {
     let standing = standing_of(reader);
-    if standing != Standing::Up {
+    if !standing.keeps_link() {
         *link = None;
     }
     match standing {

@@ -5,7 +5,7 @@ ghost use Rattle.bm_clerk.specs.Notices.{loss_of, notice_of, standing_of};
 
 use bm_lane::{HearRefusal, ReaderEnd, Yard};
 use bm_link::LinkFault;
-use bm_rules::LossCause;
+use bm_rules::{LossCause, Standing};
 use bm_session::Refusal;
 
 /// What a clerk tells the foreman.
@@ -25,14 +25,6 @@ pub enum Notice {
     /// A command was refused, since the lane has had as many events as it may. A loss and a
     /// declined login tell that by their cause.
     Filled,
-}
-
-/// How a lane stands.
-#[derive(Clone, Copy, PartialEq, Eq)]
-pub enum Standing {
-    Up,
-    Cut,
-    Down,
 }
 
 /// How the lane stands.

@@ -6,9 +6,8 @@ use Rattle.std.specs.List.{slice_split, onto_first}
 use Rattle.std.proofs.lemmas.List.Splits.{length-slice_split}
 use Rattle.std.proofs.lemmas.Bool.Decides.{nat_tests}
 use Rattle.memchr.specs.Find.{Nowhere, Passes, is_byte}
-use Rattle.bm_lines.specs.declared.line.Letter.{Letter}
-use Rattle.bm_lines.specs.declared.line.Line.{Line}
-use Rattle.bm_lines.specs.Lines.{without_last_empty}
+use Rattle.bm_lines.specs.declared.letter.Letter.{Letter}
+use Rattle.bm_lines.specs.Lines.{Line, without_last_empty}
 
 -- whether a byte ends a line
 abbrev pub ends : ℕ → Bool
@@ -27,7 +26,7 @@ without-cons : (ps : List (List ℕ)) → 0 < length ps → without_last_empty (
 without-cons [] h = absurd (omega arith)
 without-cons (p ∷ ps) h = refl
 
-some_parts : (text : List ℕ) → 0 < length (parts text)
+pub some_parts : (text : List ℕ) → 0 < length (parts text)
 some_parts text = omega (arith, length-slice_split (λ c. c == 10) text)
 
 -- an end of line at the end of a text makes no part of its own
@@ -80,3 +79,8 @@ lettered letter part = record { letter = letter; text = part }
 pub lettered_now-map : (letter : Letter) (ps : List (Bor (List ℕ))) → map {B = Line} (λ p. record { letter = letter; text = p.now }) ps ≡ map (lettered letter) (map (λ p. p.now) ps)
 lettered_now-map letter [] = refl
 lettered_now-map letter (p ∷ ps) = ap (λ ls. lettered letter p.now ∷ ls) (lettered_now-map letter ps)
+
+-- and one line more for a part more
+pub lettered_now-next : (letter : Letter) (ps : List (Bor (List ℕ))) (p : Bor (List ℕ)) → map {B = Line} (λ p. record { letter = letter; text = p.now }) (ps ++ p ∷ []) ≡ map {B = Line} (λ p. record { letter = letter; text = p.now }) ps ++ lettered letter p.now ∷ []
+lettered_now-next letter [] p = refl
+lettered_now-next letter (q ∷ ps) p = ap (λ ls. lettered letter q.now ∷ ls) (lettered_now-next letter ps p)

@@ -5,7 +5,7 @@ use Rattle.std.specs.Option.{option_map, option_to_list}
 use Rattle.std.specs.List.{position_or_len, list_any}
 use Rattle.std.proofs.lemmas.Slice.Eq.{bytes_eq-Decides}
 use Rattle.bm_lines.specs.Names.{Name}
-use Rattle.bm_lines.specs.declared.line.Line.{Line}
+use Rattle.bm_lines.specs.Lines.{Line}
 use Rattle.bm_lines.specs.declared.parcel.Part.{Part}
 use Rattle.bm_lines.specs.Parcels.{are_distinct, block_under, blocks_under, with_item}
 

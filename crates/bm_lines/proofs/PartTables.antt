@@ -4,7 +4,7 @@ use Rattle.std.specs.Prelude.{bytes_eq}
 use Rattle.std.specs.List.{position_or_len}
 use Rattle.std.proofs.lemmas.List.{map-append, length-map}
 use Rattle.bm_lines.specs.Names.{Name}
-use Rattle.bm_lines.specs.declared.line.Line.{Line}
+use Rattle.bm_lines.specs.Lines.{Line}
 use Rattle.bm_lines.specs.declared.name_table.NameTable.{NameTable}
 use Rattle.bm_lines.specs.declared.parcel.Part.{Part}
 use Rattle.bm_lines.specs.Parcels.{names_of, with_item}

@@ -1,6 +1,6 @@
 -- Worked examples, which compute.
 use Rattle.std.specs.Prelude.{◌≡◌, refl, List, [], ◌∷◌, codes, Some, None}
-use Rattle.bm_lines.specs.declared.line.Letter.TheVariants.{O, E, H}
+use Rattle.bm_lines.specs.declared.letter.Letter.TheVariants.{O, E, H}
 use Rattle.bm_lines.specs.declared.parcel.Part.{Part}
 use Rattle.bm_lines.specs.Names.{stdio}
 use Rattle.bm_lines.specs.Lines.{lines_of, content_of}

@@ -5,5 +5,5 @@ pub mod Parcels
 -- How lists lie in memory, and the places of many names. They help proofs; outside this crate they
 -- say what a `NameTable` holds, and no more.
 pub mod OneOrMany
-pub mod Shared
+pub mod Contents
 pub mod Places

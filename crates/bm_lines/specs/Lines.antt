@@ -1,9 +1,13 @@
 -- The lines of a text, and the text of lines.
 use Rattle.std.specs.Prelude.{ℕ, ◌==◌, List, [], ◌∷◌, ◌++◌, map}
 use Rattle.std.specs.List.{slice_split, flat_map}
-use Rattle.bm_lines.specs.declared.line.Letter.{Letter}
-use Rattle.bm_lines.specs.declared.line.Letter.TheVariants.{O, E, H}
-use Rattle.bm_lines.specs.declared.line.Line.{Line}
+use Rattle.bm_lines.specs.declared.letter.Letter.{Letter}
+use Rattle.bm_lines.specs.declared.letter.Letter.TheVariants.{O, E, H}
+
+-- a line of a log, without the \n at its end, and the stream that it came from
+pub record Line : Type 0 where
+  pub letter : Letter
+  pub text : List ℕ
 
 abbrev pub without_last_empty : List (List ℕ) → List (List ℕ)
 without_last_empty [] = []

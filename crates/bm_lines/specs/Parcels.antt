@@ -3,7 +3,7 @@ use Rattle.std.specs.Prelude.{Bool, true, not, ◌&&◌, List, [], ◌∷◌, �
 use Rattle.std.specs.List.{list_any}
 use Rattle.std.specs.Option.{option_map}
 use Rattle.bm_lines.specs.Names.{Name}
-use Rattle.bm_lines.specs.declared.line.Line.{Line}
+use Rattle.bm_lines.specs.Lines.{Line}
 use Rattle.bm_lines.specs.declared.parcel.Part.{Part}
 
 -- the names of the parts

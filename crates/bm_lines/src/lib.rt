@@ -5,7 +5,8 @@
 #![tactic(auto)]
 
 mod block;
-mod line;
+mod content;
+mod letter;
 mod log_name;
 mod name_table;
 mod one_or_many;
@@ -13,8 +14,8 @@ mod parcel;
 mod parcel_builder;
 mod text;
 
-pub use block::{Block, append_content, content, cut};
-pub use line::{Letter, Line};
+pub use block::{Block, cut};
+pub use letter::Letter;
 pub use log_name::{LogName, MOST_NAME_BYTES, STDIO};
 pub use name_table::{FEW_NAMES, NameTable};
 pub use parcel::{Parcel, Part};

@@ -10,7 +10,7 @@ ghost use Rattle.bm_lines.specs.Parcels.{are_distinct, names_of, with_item, bloc
 ghost use Rattle.bm_lines.specs.Places.{HasPlaces};
 
 use crate::block::{Block, cut};
-use crate::line::Letter;
+use crate::letter::Letter;
 use crate::log_name::LogName;
 use crate::name_table::NameTable;
 use crate::one_or_many::OneOrMany;

@@ -5,7 +5,7 @@ ghost use Rattle.bm_lines.specs.Lines.{lines_of};
 ghost use Rattle.bm_lines.specs.Parcels.{names_of, with_item};
 ghost use Rattle.bm_lines.specs.Places.{HasPlaces};
 
-use crate::line::Letter;
+use crate::letter::Letter;
 use crate::log_name::LogName;
 use crate::name_table::{FEW_NAMES, NameTable};
 use crate::parcel::{Parcel, Part};

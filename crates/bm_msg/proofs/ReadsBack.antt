@@ -8,7 +8,7 @@ use Rattle.bm_value.specs.Field.{field}
 use Rattle.bm_value.specs.View.{trees_of}
 use Rattle.bm_value.proofs.Unique.{spelled_once}
 use Rattle.bm_lines.specs.Names.{IsLogName}
-use Rattle.bm_lines.specs.declared.line.Letter.TheVariants.{O, E, H}
+use Rattle.bm_lines.specs.declared.letter.Letter.TheVariants.{O, E, H}
 use Rattle.bm_msg.specs.declared.field.Field.{Field}
 use Rattle.bm_msg.specs.declared.field.Field.TheVariants.{Text, Named, Rc}
 use Rattle.bm_msg.specs.Items.{is_log_name, fields_of}

@@ -3,7 +3,7 @@ use Rattle.std.specs.Prelude.{◌≡◌, refl, pos, [], ◌∷◌, codes, Some, 
 use Rattle.std.proofs.Common.{lit<, ap, sym}
 use Rattle.std.proofs.lemmas.Fmt.{decimal_digit}
 use Rattle.bm_value.specs.Tree.{Tree, nil, int, bits64, str, array, dict, none, item, no_pairs, pair}
-use Rattle.bm_lines.specs.declared.line.Letter.TheVariants.{O, E, H}
+use Rattle.bm_lines.specs.declared.letter.Letter.TheVariants.{O, E, H}
 use Rattle.bm_lines.specs.Names.{stdio}
 use Rattle.bm_msg.specs.declared.field.Field.TheVariants.{Text, Named, Rc}
 use Rattle.bm_msg.specs.Items.{item_fields}

@@ -1,7 +1,7 @@
 -- What the fields of an update carry.
 use Rattle.std.specs.Prelude.{ℤ, List, [], ◌∷◌, Option, Some, None, fold}
 use Rattle.std.specs.Option.{option_or}
-use Rattle.bm_lines.specs.declared.line.Letter.TheVariants.{O}
+use Rattle.bm_lines.specs.declared.letter.Letter.TheVariants.{O}
 use Rattle.bm_lines.specs.declared.parcel.Part.{Part}
 use Rattle.bm_lines.specs.Names.{stdio}
 use Rattle.bm_lines.specs.Lines.{lines_of}

@@ -2,8 +2,8 @@
 use Rattle.std.specs.Prelude.{ℕ, Bool, ◌&&◌, List, [], ◌∷◌, ◌++◌, length, codes, Option, Some, None, bytes_eq, nat_le, if◌then◌else◌}
 use Rattle.std.specs.Option.{option_map, option_and_then}
 use Rattle.bm_value.specs.Tree.{Tree, str, int, array, Trees, none, item}
-use Rattle.bm_lines.specs.declared.line.Letter.{Letter}
-use Rattle.bm_lines.specs.declared.line.Letter.TheVariants.{O, E, H}
+use Rattle.bm_lines.specs.declared.letter.Letter.{Letter}
+use Rattle.bm_lines.specs.declared.letter.Letter.TheVariants.{O, E, H}
 use Rattle.bm_msg.specs.declared.field.Field.{Field}
 use Rattle.bm_msg.specs.declared.field.Field.TheVariants.{Text, Named, Rc}
 

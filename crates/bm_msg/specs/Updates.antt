@@ -1,6 +1,6 @@
 -- Updates of one text.
 use Rattle.std.specs.Prelude.{◌≡◌, ℕ, List, [], ◌∷◌, codes, Some}
-use Rattle.bm_lines.specs.declared.line.Letter.{Letter}
+use Rattle.bm_lines.specs.declared.letter.Letter.{Letter}
 use Rattle.bm_value.specs.Field.{field}
 use Rattle.bm_value.specs.Tree.{Tree, array, none, item}
 use Rattle.bm_msg.specs.declared.field.Field.TheVariants.{Text}

@@ -5,9 +5,8 @@ use Rattle.std.proofs.lemmas.List.{append-nil, length-append, map-append}
 use Rattle.std.proofs.Math.Seq.{get_or-append_seam}
 use Rattle.std.proofs.lemmas.List.Concat.{flat_map-append}
 use Rattle.std.proofs.lemmas.List.Splits.{length-slice_split}
-use Rattle.bm_lines.specs.Lines.{without_last_empty, lines_of}
-use Rattle.bm_lines.specs.declared.line.Letter.{Letter}
-use Rattle.bm_lines.specs.declared.line.Line.{Line}
+use Rattle.bm_lines.specs.Lines.{Line, without_last_empty, lines_of}
+use Rattle.bm_lines.specs.declared.letter.Letter.{Letter}
 use Rattle.bm_outbox.specs.Joining.{IsWhole, Fit, AreApart, Adds, lines_in, whole_of}
 
 abbrev parts : List ℕ → List (List ℕ)

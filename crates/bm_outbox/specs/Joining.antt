@@ -1,9 +1,8 @@
 -- Texts of one pipe that are joined.
 use Rattle.std.specs.Prelude.{◌≡◌, ◌≤◌, ◌+◌, ◌⊎◌, ℕ, List, [], ◌∷◌, ◌++◌, length, map, All, ⊤}
 use Rattle.std.specs.List.{flat_map}
-use Rattle.bm_lines.specs.Lines.{lines_of}
-use Rattle.bm_lines.specs.declared.line.Letter.{Letter}
-use Rattle.bm_lines.specs.declared.line.Line.{Line}
+use Rattle.bm_lines.specs.Lines.{Line, lines_of}
+use Rattle.bm_lines.specs.declared.letter.Letter.{Letter}
 use Rattle.bm_outbox.specs.declared.said.Said.{Said}
 
 -- the most bytes of a text that is said

@@ -1,7 +1,7 @@
 -- Which pipes of a command are open.
 use Rattle.std.specs.Prelude.{Bool, false, not, ◌&&◌, ℤ, negsuc, Option, Some, None}
-use Rattle.bm_lines.specs.declared.line.Letter.{Letter}
-use Rattle.bm_lines.specs.declared.line.Letter.TheVariants.{O, E, H}
+use Rattle.bm_lines.specs.declared.letter.Letter.{Letter}
+use Rattle.bm_lines.specs.declared.letter.Letter.TheVariants.{O, E, H}
 use Rattle.bm_outbox.specs.declared.pipes.Pipes.{Pipes}
 
 -- after the end of the pipe with this letter; a command has no pipe of headers

@@ -8,8 +8,7 @@ use Rattle.std.proofs.lemmas.Option.{slice_get_within}
 use mathlib.Core.Path.{fun_ext}
 use Rattle.bm_session.proofs.Snoc.{list_any-push}
 use Rattle.bm_session.proofs.Visible.{IsPrefix-more}
-use Rattle.bm_lines.specs.declared.line.Line.{Line}
-use Rattle.bm_lines.specs.Lines.{lines_of}
+use Rattle.bm_lines.specs.Lines.{Line, lines_of}
 use Rattle.bm_lines.specs.Names.{stdio}
 use mathlib.Core.List.{IsPrefix}
 use Rattle.bm_session.specs.Trace.{Trace, commands, is_open, is_up, is_cut, is_new, log, was_taken}

@@ -1,7 +1,7 @@
 -- A log is a prefix of what was said.
 use Rattle.std.proofs.Common.{◌≡◌, sym, ◌∙◌, ap, ℕ, true, List, [], ◌∷◌, ◌++◌, append_assoc}
 use Rattle.std.proofs.lemmas.List.{append-nil}
-use Rattle.bm_lines.specs.declared.line.Line.{Line}
+use Rattle.bm_lines.specs.Lines.{Line}
 use Rattle.bm_session.proofs.Taken.{and-left, and-right}
 use Rattle.bm_work.specs.Stream.{said}
 use Rattle.bm_replay.specs.Schedule.{Act, reported_by, reported, Scene, opening, is_allowed, after, scene_after, is_schedule_from, is_schedule}

@@ -8,7 +8,7 @@ use Rattle.bm_session.proofs.Taken.{was_taken-push, is_open-push, not-up}
 use Rattle.bm_session.specs.declared.event.Event.{Event}
 use Rattle.bm_session.specs.declared.event.Event.TheVariants.{Up, In, Stop, Cut, Down}
 use Rattle.bm_session.specs.declared.event.Body.TheVariants.{Answered}
-use Rattle.bm_lines.specs.declared.line.Line.{Line}
+use Rattle.bm_lines.specs.Lines.{Line}
 use Rattle.bm_lines.specs.Names.{stdio}
 use Rattle.bm_lines.specs.Parcels.{blocks_under}
 use Rattle.bm_session.specs.Events.{is_go, is_down_event, is_complete_of, is_update_of, parcel_of}

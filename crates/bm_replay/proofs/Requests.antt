@@ -10,13 +10,12 @@ use Rattle.bm_session.proofs.Pushed.{next, added, commands-push, is_new-push, lo
 use Rattle.bm_session.proofs.Taken.{is_open-push, not-up}
 use Rattle.bm_session.proofs.Visible.{same-arms}
 use Rattle.bm_session.specs.declared.event.Event.{Event}
-use Rattle.bm_lines.specs.declared.line.Line.{Line}
+use Rattle.bm_lines.specs.Lines.{Line, lines_of}
 use Rattle.bm_lines.specs.Names.{stdio}
 use Rattle.bm_lines.specs.Parcels.{blocks_under}
 use Rattle.bm_session.specs.Events.{is_go, is_down_event, is_request, request_number, is_complete_of, is_update_of, parcel_of}
 use mathlib.Core.List.{IsPrefix}
 use Rattle.bm_session.specs.Trace.{Trace, begins_session, updates, starts, refuses, commands, ends_at, is_open, is_up, is_cut, is_new, is_new_number, is_fresh, log, joined, refusal}
-use Rattle.bm_lines.specs.Lines.{lines_of}
 use Rattle.bm_work.specs.Stream.{Report, text, code, over, said}
 use Rattle.bm_replay.specs.Schedule.{command_of, Worker, as_heard, is_end_of, has_run, have_ended, was_started, was_refused, requests_taken}
 use Rattle.bm_replay.proofs.Lists.{take-next, or-left, or-right, or-first}

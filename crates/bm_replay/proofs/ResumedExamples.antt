@@ -1,8 +1,8 @@
 -- Resumed schedules that compute: good ones, and what is none.
 use Rattle.std.specs.Prelude.{◌≡◌, refl, ℕ, true, false, List, [], ◌∷◌, ◌++◌, pos, codes}
 use Rattle.std.specs.List.{list_any}
-use Rattle.bm_lines.specs.declared.line.Letter.TheVariants.{O}
-use Rattle.bm_lines.specs.declared.line.Line.{Line}
+use Rattle.bm_lines.specs.declared.letter.Letter.TheVariants.{O}
+use Rattle.bm_lines.specs.Lines.{Line}
 use Rattle.bm_lines.specs.Names.{stdio}
 use Rattle.bm_session.specs.declared.event.Event.TheVariants.{Up, Go, Cut, Down}
 use Rattle.bm_session.specs.Events.{is_down_event}

@@ -1,8 +1,8 @@
 -- Schedules that compute: good ones, and what is none. Each that is none breaks one condition alone, and the log shows why the
 -- condition is there.
 use Rattle.std.specs.Prelude.{◌≡◌, refl, ℕ, true, false, List, [], ◌∷◌, ◌++◌, pos, codes, length}
-use Rattle.bm_lines.specs.declared.line.Letter.TheVariants.{O}
-use Rattle.bm_lines.specs.declared.line.Line.{Line}
+use Rattle.bm_lines.specs.declared.letter.Letter.TheVariants.{O}
+use Rattle.bm_lines.specs.Lines.{Line}
 use Rattle.bm_lines.specs.Names.{stdio}
 use Rattle.bm_session.specs.declared.event.Event.TheVariants.{Up, Go, Cut, Down}
 use Rattle.bm_session.specs.Trace.{log}

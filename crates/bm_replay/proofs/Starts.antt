@@ -10,7 +10,7 @@ use Rattle.bm_session.proofs.Pushed.{next, commands-push, is_new-push, ending-pu
 use Rattle.bm_session.proofs.Taken.{is_open-push, not-started, not-up, ends-no}
 use Rattle.bm_session.proofs.Visible.{IsPrefix-refl}
 use Rattle.bm_session.specs.declared.event.Event.TheVariants.{Up, Go}
-use Rattle.bm_lines.specs.declared.line.Line.{Line}
+use Rattle.bm_lines.specs.Lines.{Line}
 use Rattle.bm_lines.specs.Names.{stdio}
 use mathlib.Core.List.{IsPrefix}
 use Rattle.bm_session.specs.Trace.{Trace, commands, ends_at, ending, is_open, is_up, is_cut, is_new, log, joined, refusal}

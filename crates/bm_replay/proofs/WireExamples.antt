@@ -1,7 +1,7 @@
 -- Why a worker can say nothing of a command with a number of 2^63 or more: no tree is the message of such a request.
 use Rattle.std.proofs.Common.{◌<◌, ◌^◌, Some, None, arith}
 use Rattle.std.specs.Prelude.{codes, pos}
-use Rattle.bm_lines.specs.declared.line.Letter.TheVariants.{O}
+use Rattle.bm_lines.specs.declared.letter.Letter.TheVariants.{O}
 use Rattle.bm_msg.specs.Meaning.{request}
 use Rattle.bm_work.specs.Stream.{Report, text, code, over, asked_by, sent}
 use Rattle.bm_replay.specs.Wire.{AreRead}

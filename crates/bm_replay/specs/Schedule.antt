@@ -2,7 +2,7 @@
 -- and its lane meets.
 use Rattle.std.specs.Prelude.{ℕ, Bool, true, false, ◌==◌, not, ◌&&◌, nat_lt, nat_le, List, [], ◌∷◌, ◌++◌, length, Option, Some, None, if◌then◌else◌, flat_map, count_by, option_map, is_none, slice_get, fold}
 use Rattle.std.specs.List.{list_any}
-use Rattle.bm_lines.specs.declared.line.Letter.{Letter}
+use Rattle.bm_lines.specs.declared.letter.Letter.{Letter}
 use Rattle.bm_msg.specs.Meaning.{request}
 use Rattle.bm_session.specs.declared.event.Event.{Event}
 use Rattle.bm_session.specs.declared.event.Event.TheVariants.{Up, In}

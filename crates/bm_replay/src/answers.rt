@@ -1,6 +1,6 @@
 //! The lines that answer a script's requests.
 
-use bm_lines::{Block, content};
+use bm_lines::Block;
 use bm_session::{Reply, Results, Verdict};
 use bm_world::Answer;
 use std::alloc::Global;
@@ -47,11 +47,11 @@ pub fn write_log<W: Write>(
     log: &Block,
     outcome: Option<Results>,
 ) -> io::Result<()> {
-    let count = log.lines().len();
+    let count = log.len();
     match outcome {
         None => writeln!(output, "log {command} {count} open")?,
         Some(result) => writeln!(output, "log {command} {count} {result}")?,
     }
-    let text = content(alloc, log.lines())?;
+    let text = log.content(alloc)?;
     output.write_all(text.as_bytes())
 }

@@ -1,5 +1,6 @@
 -- The whole meaning of these rules, to be believed.
 pub mod Tenure
+pub mod Standing
 pub mod Post
 pub mod Cancel
 pub mod Exit

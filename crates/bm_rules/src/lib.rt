@@ -12,6 +12,7 @@ mod post;
 mod reasons;
 mod remark;
 mod report;
+mod standing;
 mod tenure;
 mod worker_event;
 
@@ -24,5 +25,6 @@ pub use post::Post;
 pub use reasons::{LoginRefusal, LossCause};
 pub use remark::Remark;
 pub use report::Report;
+pub use standing::Standing;
 pub use tenure::Tenure;
 pub use worker_event::{Duty, ProcessDuty, WorkerEvent};

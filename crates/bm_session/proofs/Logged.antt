@@ -4,7 +4,7 @@ use Rattle.std.specs.Prelude.{◌==◌, is_none}
 use Rattle.std.proofs.lemmas.Bool.Decides.{nat_tests}
 use Rattle.std.proofs.Common.{arith}
 use Rattle.std.proofs.lemmas.List.{append-nil, length-take-le, take_more, take-append-drop}
-use Rattle.bm_lines.specs.declared.line.Line.{Line}
+use Rattle.bm_lines.specs.Lines.{Line}
 use Rattle.bm_lines.specs.Names.{Name}
 use Rattle.bm_lines.specs.Parcels.{blocks_under}
 use Rattle.bm_session.proofs.Pushed.{next, added, blocks-push, log-push}

@@ -9,7 +9,7 @@ use Rattle.std.proofs.lemmas.List.Elements.{filter_map-append}
 use Rattle.std.proofs.lemmas.List.Sums.{fold-append}
 use Rattle.bm_session.proofs.Snoc.{after_last-push, list_any-push, count_by-push, find-push, filter-push, filter_map-push}
 use Rattle.bm_session.specs.declared.event.Event.{Event}
-use Rattle.bm_lines.specs.declared.line.Line.{Line}
+use Rattle.bm_lines.specs.Lines.{Line}
 use Rattle.bm_session.specs.Events.{is_up_event, is_cut_event, is_interruption, is_border, is_go, is_order, is_request, parcel_of, rc_of}
 use Rattle.bm_lines.specs.Names.{Name}
 use Rattle.bm_lines.specs.Parcels.{blocks_under}

@@ -1,11 +1,10 @@
 -- Worked rows on traces: each is a closed example, which computes.
 use Rattle.std.specs.Prelude.{◌≡◌, refl, ℕ, pos, Bool, true, false, List, [], ◌∷◌, ◌++◌, Some, None, map}
 use Rattle.std.proofs.Common.{arith}
-use Rattle.bm_lines.specs.Lines.{lines_of}
+use Rattle.bm_lines.specs.Lines.{Line, lines_of}
 use Rattle.bm_lines.specs.Names.{Name, stdio}
 use Rattle.bm_lines.specs.Parcels.{with_item}
-use Rattle.bm_lines.specs.declared.line.Letter.TheVariants.{O, E, H}
-use Rattle.bm_lines.specs.declared.line.Line.{Line}
+use Rattle.bm_lines.specs.declared.letter.Letter.TheVariants.{O, E, H}
 use Rattle.bm_session.specs.declared.event.Event.{Event}
 use Rattle.bm_session.specs.declared.event.Event.TheVariants.{Up, In, Go, Stop, Cut, Down}
 use Rattle.bm_session.specs.declared.event.Body.TheVariants.{Auth, Update, Complete, BadArgs, NoSuchOp, Answered}

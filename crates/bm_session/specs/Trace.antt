@@ -15,7 +15,7 @@ use Rattle.bm_session.specs.declared.results.Results.{Results}
 use Rattle.bm_session.specs.declared.results.Results.TheVariants.{Success, Failure, Exception, Retry, Cancelled}
 use Rattle.bm_session.specs.declared.refusal.Refusal.{Refusal}
 use Rattle.bm_session.specs.declared.refusal.Refusal.TheVariants.{NotUp, AlreadyUp, TooManyOpen, NoSuchCommand, Full}
-use Rattle.bm_lines.specs.declared.line.Line.{Line}
+use Rattle.bm_lines.specs.Lines.{Line}
 use Rattle.bm_lines.specs.Parcels.{blocks_under}
 use Rattle.bm_lines.specs.Names.{Name, stdio}
 

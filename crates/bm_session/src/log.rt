@@ -1,12 +1,12 @@
 //! The logs of a trace, by one walk.
-ghost use Rattle.std.specs.Prelude.{◌≡◌, ◌++◌, ◌||◌, true, not, if◌then◌else◌, IfOk, []};
+ghost use Rattle.std.specs.Prelude.{◌≡◌, ◌++◌, ◌||◌, true, not, if◌then◌else◌, IfOk, OnOk, []};
 ghost use Rattle.bm_lines.specs.Parcels.{blocks_under};
 ghost use Rattle.bm_session.specs.Events.{is_update_of, parcel_of};
 ghost use Rattle.bm_session.specs.Trace.{blocks, log as log_of, joined, is_empty, was_taken};
 
 use crate::event::{Body, Event};
 use crate::table::Table;
-use bm_lines::{Line, Parcel};
+use bm_lines::{Block, Parcel};
 use std::alloc::{AllocError, Global};
 
 /// Whether the parcel has a part with the name.
@@ -23,24 +23,13 @@ fn has_part(parcel: &Parcel, name: &str) -> bool
 }
 
 /// Appends the lines of the parcel's part with the name, if it has one.
-fn append_part(lines: &mut Vec<Line>, parcel: &Parcel, name: &str) -> Result<(), AllocError>
-    ensures { IfOk result (λ u. lines.new.items
-        ≡ lines.old.items ++ joined (blocks_under name.now parcel.now)) }
+fn append_part(log: &mut Block, parcel: &Parcel, name: &str) -> Result<(), AllocError>
+    ensures { OnOk result (log.new ≡ log.old ++ joined (blocks_under name.now parcel.now)) }
 {
     for part in parcel.parts() {
         if part.name.is(name) {
-            append_lines(lines, part.block.lines())?;
+            log.extend(&part.block)?;
         }
-    }
-    Ok(())
-}
-
-/// Appends copies of the lines.
-fn append_lines(out: &mut Vec<Line>, lines: &[Line]) -> Result<(), AllocError>
-    ensures { IfOk result (λ u. out.new.items ≡ out.old.items ++ lines.now) }
-{
-    for line in lines {
-        out.push(line.copy()?)?;
     }
     Ok(())
 }
@@ -69,13 +58,13 @@ fn found_after(found: bool, counts: bool, event: &Event, command: u64, name: &st
 
 /// Appends the lines that the event, if it counts, adds to the log.
 fn append_added(
-    lines: &mut Vec<Line>,
+    log: &mut Block,
     counts: bool,
     event: &Event,
     command: u64,
     name: &str,
 ) -> Result<(), AllocError>
-    ensures { IfOk result (λ u. lines.new.items ≡ lines.old.items ++ joined (if counts
+    ensures { OnOk result (log.new ≡ log.old ++ joined (if counts
         then (if is_update_of command event.now then blocks_under name.now (parcel_of event.now)
         else []) else [])) }
 {
@@ -92,7 +81,7 @@ fn append_added(
             },
         ) => {
             if *k == command {
-                append_part(lines, parcel, name)
+                append_part(log, parcel, name)
             } else {
                 Ok(())
             }
@@ -108,19 +97,19 @@ pub fn walk(
     t: &[Event],
     command: u64,
     name: &str,
-) -> Result<(bool, Vec<Line>), AllocError>
+) -> Result<(bool, Block), AllocError>
     requires { was_taken t.now ≡ true }
     ensures found { IfOk result (λ r. r.0 ≡ not (is_empty (blocks t.now command name.now))) }
-    ensures lines { IfOk result (λ r. r.1.items ≡ log_of t.now command name.now) }
+    ensures log { IfOk result (λ r. r.1 ≡ log_of t.now command name.now) }
 {
     let mut table = Table::new(alloc)?;
     let mut found = false;
-    let mut lines = Vec::new(alloc);
+    let mut log = Block::new(alloc);
     for i in 0..t.len() {
         let event = &t[i];
         let counts = table.follow(event)?;
         found = found_after(found, counts, event, command, name);
-        append_added(&mut lines, counts, event, command, name)?;
+        append_added(&mut log, counts, event, command, name)?;
     }
-    Ok((found, lines))
+    Ok((found, log))
 }

@@ -115,11 +115,11 @@ impl Session {
         if command >= self.table.commands() {
             return Ok(None);
         }
-        let (found, lines) = log::walk(alloc, self.events.as_slice(), command, name)?;
+        let (found, log) = log::walk(alloc, self.events.as_slice(), command, name)?;
         if name != STDIO && !found {
             return Ok(None);
         }
-        Ok(Some(Block::from_lines(alloc, lines)?))
+        Ok(Some(log))
     }
 
     /// How the command ended, or None while it is open or isn't there.

@@ -19,7 +19,7 @@ use Rattle.bm_session.specs.declared.item.Item.{Item}
 use Rattle.bm_session.specs.declared.item.Item.TheVariants.{Lines, End, Gone}
 use Rattle.bm_session.specs.declared.results.Results.{Results}
 use Rattle.bm_session.specs.declared.results.Results.TheVariants.{Retry}
-use Rattle.bm_lines.specs.declared.line.Line.{Line}
+use Rattle.bm_lines.specs.Lines.{Line}
 use mathlib.Core.Path.{fun_ext}
 use Rattle.bm_lines.specs.Names.{Name}
 use Rattle.bm_lines.specs.Parcels.{blocks_under}

@@ -4,9 +4,8 @@ use Rattle.std.specs.Prelude.{◌⊎◌, map, slice_get}
 use Rattle.std.proofs.lemmas.List.{append-nil, take-append-drop, length-take, drop_all}
 use Rattle.std.proofs.lemmas.List.Concat.{flat_map-append}
 use Rattle.std.proofs.Math.Seq.{drop-append-add}
-use Rattle.bm_lines.specs.Lines.{content_of}
+use Rattle.bm_lines.specs.Lines.{Line, content_of}
 use Rattle.bm_lines.proofs.Contents.{content_of-append}
-use Rattle.bm_lines.specs.declared.line.Line.{Line}
 use Rattle.bm_session.specs.Trace.{joined, slice}
 use Rattle.bm_store.specs.declared.placed.Placed.{Placed}
 use Rattle.bm_store.specs.Book.{placed}

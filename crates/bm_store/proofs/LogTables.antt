@@ -8,7 +8,7 @@ use Rattle.std.proofs.lemmas.List.Folds.{find_at}
 use Rattle.std.proofs.lemmas.Option.{slice_get_past}
 use Rattle.bm_lines.specs.Names.{Name}
 use Rattle.bm_lines.specs.Places.{HasPlaces, HasPlacesIfAny, place_in}
-use Rattle.bm_lines.specs.declared.line.Line.{Line}
+use Rattle.bm_lines.specs.Lines.{Line}
 use Rattle.bm_lines.specs.declared.name_table.NameTable.{NameTable}
 use Rattle.bm_lines.proofs.FirstPlaces.{position-map}
 use Rattle.bm_store.specs.Kept.{Named, names_kept, with_block}

@@ -5,7 +5,7 @@ use Rattle.std.proofs.lemmas.List.{length-map, map-append}
 use mathlib.Core.Path.{fun_ext}
 use Rattle.bm_lines.specs.Names.{Name, stdio}
 use Rattle.bm_lines.specs.Parcels.{blocks_under}
-use Rattle.bm_lines.specs.declared.line.Line.{Line}
+use Rattle.bm_lines.specs.Lines.{Line}
 use Rattle.bm_lines.specs.declared.parcel.Part.{Part}
 use Rattle.bm_session.proofs.Taken.{and-left, and-right}
 use Rattle.bm_session.specs.Trace.{is_empty, joined, slice}

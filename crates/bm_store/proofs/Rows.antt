@@ -1,9 +1,8 @@
 -- Worked books, which compute.
 use Rattle.std.specs.Prelude.{◌≡◌, refl, ℕ, List, [], ◌∷◌, Some, None, map, codes}
 use Rattle.bm_lines.specs.Names.{Name, stdio}
-use Rattle.bm_lines.specs.Lines.{lines_of}
-use Rattle.bm_lines.specs.declared.line.Letter.TheVariants.{O}
-use Rattle.bm_lines.specs.declared.line.Line.{Line}
+use Rattle.bm_lines.specs.Lines.{Line, lines_of}
+use Rattle.bm_lines.specs.declared.letter.Letter.TheVariants.{O}
 use Rattle.bm_session.specs.declared.item.Item.{Item}
 use Rattle.bm_session.specs.declared.item.Item.TheVariants.{Open, Lines, End, Gone}
 use Rattle.bm_session.specs.declared.results.Results.TheVariants.{Success, Failure, Retry}

@@ -10,7 +10,7 @@ use Rattle.std.proofs.lemmas.Slice.Eq.{bytes_eq-Decides}
 use Rattle.std.proofs.lemmas.Bool.Decides.{nat_tests}
 use Rattle.bm_lines.specs.Names.{Name}
 use Rattle.bm_lines.specs.Parcels.{blocks_under}
-use Rattle.bm_lines.specs.declared.line.Line.{Line}
+use Rattle.bm_lines.specs.Lines.{Line}
 use Rattle.bm_lines.specs.declared.parcel.Part.{Part}
 use Rattle.bm_session.proofs.Taken.{and-left, and-right}
 use Rattle.bm_store.specs.Kept.{Named, blocks_of, with_block, with_parts, without_block, have_blocks}

@@ -2,9 +2,8 @@
 use Rattle.std.specs.Prelude.{ℕ, zero, suc, ◌==◌, ◌+◌, ◌-◌, ◌^◌, min, if◌then◌else◌, List, [], ◌∷◌, ◌++◌, length, map, Option, Some, None, is_none, fold, Bool, ◌||◌, not, bytes_eq, slice_get, option_and_then}
 use Rattle.std.specs.List.{sum_by}
 use Rattle.bm_lines.specs.Names.{Name, stdio}
-use Rattle.bm_lines.specs.Lines.{content_of}
+use Rattle.bm_lines.specs.Lines.{Line, content_of}
 use Rattle.bm_lines.specs.Parcels.{blocks_under}
-use Rattle.bm_lines.specs.declared.line.Line.{Line}
 use Rattle.bm_lines.specs.declared.parcel.Part.{Part}
 use Rattle.bm_session.specs.declared.item.Item.{Item}
 use Rattle.bm_session.specs.declared.item.Item.TheVariants.{Open, Lines, End, Gone}

@@ -1,7 +1,7 @@
 -- The book as it lies in memory: lists, in the place of maps from names.
 use Rattle.std.specs.Prelude.{Bool, true, ◌&&◌, nat_le, ◌-◌, ◌==◌, is_none, List, [], ◌∷◌, ◌++◌, length, take, map, fold, Option, Some, None, bytes_eq, if◌then◌else◌}
 use Rattle.bm_lines.specs.Names.{Name}
-use Rattle.bm_lines.specs.declared.line.Line.{Line}
+use Rattle.bm_lines.specs.Lines.{Line}
 use Rattle.bm_lines.specs.declared.parcel.Part.{Part}
 use Rattle.bm_session.specs.declared.item.Item.{Item}
 use Rattle.bm_session.specs.declared.item.Item.TheVariants.{Open, Lines, End, Gone}

@@ -1,7 +1,7 @@
 -- Laws of books.
 use Rattle.std.specs.Prelude.{◌≡◌, ℕ, ◌≤◌, Option, Some, None, if◌then◌else◌, List, take, true}
 use Rattle.bm_lines.specs.Names.{Name}
-use Rattle.bm_lines.specs.declared.line.Line.{Line}
+use Rattle.bm_lines.specs.Lines.{Line}
 use Rattle.bm_session.specs.Trace.{Trace, has_log, log, slice, visible, productive, items, was_taken}
 use Rattle.bm_session.specs.declared.item.Item.{Item}
 use Rattle.bm_store.specs.Book.{book, logs, after_item, chunk_in}

@@ -1,6 +1,6 @@
 -- Blocks with their places.
 use Rattle.std.specs.Prelude.{◌≡◌, ℕ, List, length, map}
-use Rattle.bm_lines.specs.declared.line.Line.{Line}
+use Rattle.bm_lines.specs.Lines.{Line}
 use Rattle.bm_session.specs.Trace.{joined}
 use Rattle.bm_store.specs.declared.placed.Placed.{Placed}
 use Rattle.bm_store.specs.Book.{placed}

@@ -9,7 +9,7 @@ ghost use Rattle.bm_store.specs.declared.placed.Placed.{Placed};
 
 use crate::chunk::Chunk;
 use crate::placed::Placed;
-use bm_lines::{Line, Text, append_content};
+use bm_lines::Text;
 use std::alloc::{AllocError, Global};
 
 /// A place between two: half way, or `reach` before the end, whichever is later.
@@ -49,16 +49,6 @@ fn seek(blocks: &[Placed], offset: u64) -> (usize, u64)
     (low, offset - before)
 }
 
-/// The lines behind the first `skip`, `limit` at most.
-fn window(lines: &[Line], skip: u64, limit: u64) -> &[Line]
-    ensures { result.now ≡ take limit (drop skip lines.now) }
-{
-    let from = lines.len().min(skip as usize);
-    let rest = &lines[from..];
-    let count = rest.len().min(limit as usize);
-    &rest[..count]
-}
-
 /// Appends the content of the lines of all blocks behind the first `skip`, of `limit` lines at
 /// most, and counts them.
 fn gather(out: &mut String, blocks: &[Placed], skip: u64, limit: u64) -> Result<u64, AllocError>
@@ -74,11 +64,9 @@ fn gather(out: &mut String, blocks: &[Placed], skip: u64, limit: u64) -> Result<
         if left == 0 {
             break;
         }
-        let lines = placed.block.lines();
-        let part = window(lines, skip, left);
-        append_content(out, part)?;
-        skip = skip.saturating_sub(lines.len() as u64);
-        left -= part.len() as u64;
+        let taken = placed.block.append_to(out, skip, left)?;
+        left -= taken;
+        skip = skip.saturating_sub(placed.block.len() as u64);
     }
     Ok(limit - left)
 }

@@ -35,7 +35,7 @@ impl NamedLog {
     pub fn new(alloc: Global, name: LogName, block: Block) -> Result<NamedLog, AllocError>
         ensures { IfOk result (λ l. l ≡ record { name = name; blocks = block ∷ [] }) }
     {
-        let lines = block.lines().len() as u64;
+        let lines = block.len() as u64;
         let mut blocks = Vec::new(alloc);
         blocks.push(Placed { first: 0, block })?;
         Ok(NamedLog {
@@ -73,7 +73,7 @@ impl NamedLog {
         ensures err { OnErr result (self.new ≡ self.old) }
     {
         let first = self.lines;
-        let Some(lines) = first.checked_add(block.lines().len() as u64) else {
+        let Some(lines) = first.checked_add(block.len() as u64) else {
             return Err(AllocError);
         };
         self.blocks.reserve(1)?;

@@ -1,7 +1,7 @@
 -- The pieces of an update of one text, one behind the other, are its written form.
 use Rattle.std.proofs.Common.{◌≡◌, ℕ, pos, codes, List, [], ◌++◌, append_assoc, append-nil}
 use Rattle.std.specs.Fmt.{decimal}
-use Rattle.bm_lines.specs.declared.line.Letter.{Letter}
+use Rattle.bm_lines.specs.declared.letter.Letter.{Letter}
 use Rattle.bm_value.specs.Tree.{int, str}
 use Rattle.bm_value.specs.Writing.{written, map_head, array_head}
 use Rattle.bm_msg.specs.Trees.{stream_of}

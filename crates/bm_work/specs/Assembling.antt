@@ -1,6 +1,6 @@
 -- A pipe's texts as they come together.
 use Rattle.std.specs.Prelude.{◌≡◌, ℕ, ◌<◌, List, [], length}
-use Rattle.bm_lines.specs.declared.line.Letter.{Letter}
+use Rattle.bm_lines.specs.declared.letter.Letter.{Letter}
 use Rattle.bm_work.specs.Cuts.{longest, texts_of, left_of}
 
 -- the stream that the pipe is, and the bytes that no text has yet

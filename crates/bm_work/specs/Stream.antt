@@ -1,9 +1,8 @@
 -- What a worker says of its commands: its requests, numbered in the order in which it says them.
 use Rattle.std.specs.Prelude.{ℕ, ◌+◌, ◌==◌, ℤ, not, List, [], ◌∷◌, Option, if◌then◌else◌, filter, flat_map}
 use Rattle.std.specs.List.{list_any}
-use Rattle.bm_lines.specs.declared.line.Letter.{Letter}
-use Rattle.bm_lines.specs.declared.line.Line.{Line}
-use Rattle.bm_lines.specs.Lines.{lines_of}
+use Rattle.bm_lines.specs.declared.letter.Letter.{Letter}
+use Rattle.bm_lines.specs.Lines.{Line, lines_of}
 use Rattle.bm_value.specs.Writing.{written}
 use Rattle.bm_msg.specs.declared.field.Field.TheVariants as field
 use Rattle.bm_msg.specs.Meaning.{Asked, update, complete, request}

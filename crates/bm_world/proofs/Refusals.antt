@@ -1,7 +1,7 @@
 -- Why an event is refused.
 use Rattle.std.proofs.Common.{◌≡◌, ap, Bool, true, false, cond, ◌&&◌, Option, Some, None}
 use Rattle.std.specs.Prelude.{is_some, nat_le, ◌+◌, ◌∷◌, [], ◌++◌, nat_lt, List, ℕ}
-use Rattle.bm_lines.specs.declared.line.Line.{Line}
+use Rattle.bm_lines.specs.Lines.{Line}
 use Rattle.bm_session.specs.declared.event.Event.{Event}
 use Rattle.bm_session.specs.declared.event.Event.TheVariants.{Up, Go, Stop, Down}
 use Rattle.bm_session.specs.declared.refusal.Refusal.{Refusal}

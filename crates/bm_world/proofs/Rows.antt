@@ -1,9 +1,8 @@
 -- Worked scripts, which compute.
 use Rattle.std.specs.Prelude.{◌≡◌, refl, ℕ, List, [], ◌∷◌, None, codes}
 use Rattle.bm_lines.specs.Names.{Name, stdio}
-use Rattle.bm_lines.specs.Lines.{lines_of}
-use Rattle.bm_lines.specs.declared.line.Letter.TheVariants.{O}
-use Rattle.bm_lines.specs.declared.line.Line.{Line}
+use Rattle.bm_lines.specs.Lines.{Line, lines_of}
+use Rattle.bm_lines.specs.declared.letter.Letter.TheVariants.{O}
 use Rattle.bm_session.specs.declared.event.Event.{Event}
 use Rattle.bm_session.specs.declared.event.Event.TheVariants.{Up, In, Go, Stop, Cut, Down}
 use Rattle.bm_session.specs.declared.event.Body.TheVariants.{Update}

@@ -3,9 +3,7 @@
 mod many_names;
 mod memory;
 
-use bm_lines::{
-    Block, Letter, Line, LogName, Parcel, ParcelBuilder, STDIO, Text, append_content, content, cut,
-};
+use bm_lines::{Block, Letter, LogName, Parcel, ParcelBuilder, STDIO, Text, cut};
 use std::alloc::{AllocError, Global};
 use std::test::Fail;
 
@@ -14,7 +12,7 @@ type Item = (&'static str, Letter, &'static str);
 
 /// Whether the block has the content.
 fn is_told(alloc: Global, block: &Block, want: &str) -> bool {
-    match content(alloc, block.lines()) {
+    match block.content(alloc) {
         Ok(content) => content.as_str() == want,
         Err(_) => false,
     }
@@ -114,6 +112,55 @@ fn a_copy_keeps_its_lines_when_the_block_grows(rt: HostRuntime) -> Result<(), Fa
     Ok(())
 }
 
+/// Lines of each letter, the second without a text, of three texts.
+fn joined(alloc: Global) -> Result<Block, AllocError> {
+    let mut block = cut(alloc, Letter::O, "ä\n")?;
+    block.add(Letter::E, "\n")?;
+    block.extend(&Block::new(alloc))?;
+    block.extend(&cut(alloc, Letter::H, "y\nz")?)?;
+    Ok(block)
+}
+
+/// Where a slice of four lines begins and how many lines it has at most; how many it has, and their
+/// content behind a text.
+type Slice = (u64, u64, u64, &'static str);
+
+static SLICES: [Slice; 8] = [
+    (0, 4, 4, ">oä\ne\nhy\nhz\n"),
+    (0, u64::MAX, 4, ">oä\ne\nhy\nhz\n"),
+    (0, 1, 1, ">oä\n"),
+    (1, 2, 2, ">e\nhy\n"),
+    (3, 9, 1, ">hz\n"),
+    (2, 0, 0, ">"),
+    (4, 1, 0, ">"),
+    (u64::MAX, u64::MAX, 0, ">"),
+];
+
+fn is_slice(alloc: Global, block: &Block, (skip, limit, count, want): Slice) -> bool {
+    let Ok(mut out) = String::from_str(alloc, ">") else {
+        return false;
+    };
+    match block.append_to(&mut out, skip, limit) {
+        Ok(lines) => lines == count && out.as_str() == want,
+        Err(_) => false,
+    }
+}
+
+#[test]
+fn slices_of_joined_lines_are_appended(rt: HostRuntime) -> Result<(), Fail> {
+    let block = joined(rt.alloc())?;
+    assert!(rt; block.len() == 4);
+    for slice in &SLICES {
+        assert!(rt;
+            is_slice(rt.alloc(), &block, *slice),
+            "{} {}",
+            slice.0,
+            slice.1
+        );
+    }
+    Ok(())
+}
+
 fn is_its_copy(text: &Text) -> bool {
     match text.copy() {
         Ok(copy) => text.is(&copy),
@@ -121,38 +168,9 @@ fn is_its_copy(text: &Text) -> bool {
     }
 }
 
-/// The line, behind a copy of it.
-fn twice(alloc: Global, line: Line) -> Result<Vec<Line>, AllocError> {
-    let mut lines = Vec::new(alloc);
-    lines.push(line.copy()?)?;
-    lines.push(line)?;
-    Ok(lines)
-}
-
-/// Whether the text has the lines' content behind it, once that is appended.
-fn is_appended(alloc: Global, lines: &[Line], text: &str, want: &str) -> bool {
-    let Ok(mut out) = String::from_str(alloc, text) else {
-        return false;
-    };
-    append_content(&mut out, lines).is_ok() && out.as_str() == want
-}
-
-fn is_a_block(alloc: Global, lines: Vec<Line>, text: &str, want: &str) -> bool {
-    match Block::from_lines(alloc, lines) {
-        Ok(block) => is_appended(alloc, block.lines(), text, want),
-        Err(_) => false,
-    }
-}
-
 #[test]
-fn lines_make_a_block_and_contents_join(rt: HostRuntime) -> Result<(), Fail> {
-    let alloc = rt.alloc();
-    let line = Line {
-        letter: Letter::O,
-        text: Text::from_str(alloc, "a")?,
-    };
-    assert!(rt; is_its_copy(&line.text));
-    assert!(rt; is_a_block(alloc, twice(alloc, line)?, ">", ">oa\noa\n"));
+fn a_text_is_its_copy(rt: HostRuntime) -> Result<(), Fail> {
+    assert!(rt; is_its_copy(&Text::from_str(rt.alloc(), "a")?));
     Ok(())
 }
 

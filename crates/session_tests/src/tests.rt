@@ -7,7 +7,7 @@ mod rows;
 pub(crate) mod script;
 mod texts;
 
-use bm_lines::{Block, Parcel, content};
+use bm_lines::{Block, Parcel};
 use bm_session::*;
 use script::{Ask, Gives, Script, event, given};
 use std::alloc::{AllocError, Global};
@@ -183,9 +183,9 @@ fn log_of(alloc: Global, session: &Session, name: &str) -> Result<Option<Block>,
 
 /// The text of the block, made once more after want of memory.
 fn text_of(alloc: Global, block: &Block) -> Result<String, AllocError> {
-    match content(alloc, block.lines()) {
+    match block.content(alloc) {
         Ok(text) => Ok(text),
-        Err(_) => content(alloc, block.lines()),
+        Err(_) => block.content(alloc),
     }
 }
 

@@ -134,7 +134,7 @@ fn filled<Y: Yard, R: Wait + Drop>(
     ends: &mut Ends<Y, R>,
     job: WebJob,
 ) -> Option<Served<Y>> {
-    if !fill(rt, alloc, ends, job.lines) {
+    if !fill(rt, alloc, ends, job.lines, job.together) {
         return None;
     }
     let viewers = mem::replace(&mut ends.viewers, Vec::new(alloc));

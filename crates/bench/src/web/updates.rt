@@ -83,19 +83,46 @@ pub fn show_lines<Y: Yard, R: Wait + Drop>(
     Some(shown)
 }
 
-/// Shows two commands: the first has so many numbered lines, the second has ended, with one line in
-/// a log of another name.
+// An update of command 0 by the lines with the numbers from `first` to `end`.
+fn text(alloc: Global, seq: u64, first: u64, end: u64) -> Result<Event, AllocError> {
+    let mut text = String::new(alloc);
+    for number in first..end {
+        text.push_str(format!(in alloc; "{number:063}\n")?.as_str())?;
+    }
+    update(alloc, seq, 0, LogName::stdio(), text.as_str())
+}
+
+// Shows so many lines, in updates that have so many of them at most. It answers whether all were taken.
+fn show_texts<Y: Yard, R: Wait + Drop>(
+    rt: &R,
+    alloc: Global,
+    ends: &mut Ends<Y, R>,
+    lines: u64,
+    together: u64,
+) -> bool {
+    for seq in 0..lines {
+        let first = seq.saturating_mul(together);
+        let end = first.saturating_add(together).min(lines);
+        if first < end && !shows(rt, ends, text(alloc, seq, first, end)) {
+            return false;
+        }
+    }
+    true
+}
+
+/// Shows two commands: the first has so many numbered lines, in updates of so many at most, the
+/// second has ended, with one line in a log of another name.
 pub fn fill<Y: Yard, R: Wait + Drop>(
     rt: &R,
     alloc: Global,
     ends: &mut Ends<Y, R>,
     lines: u64,
+    together: u64,
 ) -> bool {
-    let is_ended = AtomicBool::new(false);
     is_taken(ends.reader.up(rt))
         && starts(rt, ends)
         && starts(rt, ends)
-        && show_lines(rt, alloc, ends, 0, lines, &is_ended).is_some()
+        && show_texts(rt, alloc, ends, lines, together)
         && shows(rt, ends, odd_line(alloc))
         && shows(rt, ends, Ok(complete()))
 }

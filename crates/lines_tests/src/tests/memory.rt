@@ -4,9 +4,7 @@
 //! that one refused. In the gate no request is refused, so what is asserted behind an error doesn't
 //! run there; what the calls make is asserted.
 
-use bm_lines::{
-    Block, Letter, Line, LogName, Parcel, ParcelBuilder, Text, append_content, content, cut,
-};
+use bm_lines::{Block, Letter, LogName, Parcel, ParcelBuilder, Text, cut};
 use std::alloc::{AllocError, Global};
 use std::test::Fail;
 
@@ -25,9 +23,9 @@ fn name_of(alloc: Global, name: &str) -> Option<LogName> {
     again(|| LogName::new(alloc, name)).ok()?
 }
 
-/// Whether the lines have the content.
-fn is_told(alloc: Global, lines: &[Line], want: &str) -> bool {
-    match again(|| content(alloc, lines)) {
+/// Whether the block has the content.
+fn is_told(alloc: Global, block: &Block, want: &str) -> bool {
+    match again(|| block.content(alloc)) {
         Ok(content) => content.as_str() == want,
         Err(_) => false,
     }
@@ -37,14 +35,14 @@ fn is_told(alloc: Global, lines: &[Line], want: &str) -> bool {
 /// as before.
 fn takes(alloc: Global, block: &mut Block, text: &str, before: &str) -> bool {
     block.add(Letter::O, text).is_ok()
-        || is_told(alloc, block.lines(), before) && block.add(Letter::O, text).is_ok()
+        || is_told(alloc, block, before) && block.add(Letter::O, text).is_ok()
 }
 
 /// Whether the block grows, and what shares its lines doesn't.
 fn grows(alloc: Global, block: &mut Block, shared: &Block) -> bool {
     takes(alloc, block, "z\n", "ex\ne\ney\n")
-        && is_told(alloc, block.lines(), "ex\ne\ney\noz\n")
-        && is_told(alloc, shared.lines(), "ex\ne\ney\n")
+        && is_told(alloc, block, "ex\ne\ney\noz\n")
+        && is_told(alloc, shared, "ex\ne\ney\n")
 }
 
 fn grows_apart(alloc: Global, block: &mut Block) -> bool {
@@ -63,16 +61,10 @@ fn refused_block_keeps_its_lines(rt: HostRuntime) -> Result<(), Fail> {
 }
 
 /// Whether the text `> ` gets the block's content, at the second time where memory was refused and
-/// the text still begins so.
+/// the text is as before.
 fn gets(text: &mut String, block: &Block) -> bool {
-    if append_content(text, block.lines()).is_ok() {
-        return true;
-    }
-    if !text.as_str().starts_with("> ") {
-        return false;
-    }
-    text.truncate(2);
-    append_content(text, block.lines()).is_ok()
+    block.append_to(text, 0, 2).is_ok()
+        || text.as_str() == "> " && block.append_to(text, 0, 2).is_ok()
 }
 
 fn is_appended(alloc: Global, block: &Block) -> bool {
@@ -90,10 +82,27 @@ fn refused_content_can_be_appended_again(rt: HostRuntime) -> Result<(), Fail> {
     Ok(())
 }
 
+/// Whether the block gets the lines of the other, at the second time where memory was refused and
+/// its content is as before.
+fn is_extended(alloc: Global, block: &mut Block, other: &Block) -> bool {
+    let is_longer = block.extend(other).is_ok()
+        || is_told(alloc, block, "oa\n") && block.extend(other).is_ok();
+    is_longer && is_told(alloc, block, "oa\neb\ne\n")
+}
+
+#[test]
+fn refused_lines_leave_those_before(rt: HostRuntime) -> Result<(), Fail> {
+    let alloc = rt.alloc();
+    let mut block = again(|| cut(alloc, Letter::O, "a"))?;
+    let other = again(|| cut(alloc, Letter::E, "b\n\n"))?;
+    assert!(rt; is_extended(alloc, &mut block, &other));
+    Ok(())
+}
+
 /// Whether the parcel has the content under the name.
 fn has(alloc: Global, parcel: &Parcel, name: &str, want: &str) -> bool {
     match parcel.of(name) {
-        Some(block) => is_told(alloc, block.lines(), want),
+        Some(block) => is_told(alloc, block, want),
         None => false,
     }
 }

@@ -9,7 +9,7 @@ use super::desk::{Answer, BAD, Call, Desk, HEARD, Links, NOTED, Outcome, Trial, 
 use super::lengths::binary;
 use super::{AUTH, COMPLETE_THREE, DONE, ORDER, TRUE, UPDATE};
 use bm_lane::{ReaderEnd, Yard};
-use bm_lines::{Parcel, STDIO, content};
+use bm_lines::{Parcel, STDIO};
 use bm_link::*;
 use bm_msg::{NUMBER_LIMIT, write_answer};
 use bm_session::{Body, Event, Results};
@@ -202,7 +202,7 @@ impl<Y: Yard, W: Wait + Drop> Desk<Y, W> {
         }
         let mut lines = false;
         for part in parcel.parts() {
-            let is_logged = match content(alloc, part.block.lines()) {
+            let is_logged = match part.block.content(alloc) {
                 Ok(text) => {
                     lines |= !text.is_empty();
                     self.logged(part.name.as_str(), text.as_str())

@@ -4,7 +4,7 @@ use super::turn::Gives::{self, Blocks, Counts, NoLog, Slice, State, Taken};
 use super::turn::Turn::*;
 use super::turn::slice;
 use super::{Row, goes_through};
-use bm_lines::{Line, content};
+use bm_lines::Block;
 use bm_session::Results;
 use bm_store::{Book, Placed};
 use std::alloc::Global;
@@ -91,10 +91,10 @@ fn is_slice_copied(book: &Book, wanted: &Gives) -> bool {
     }
 }
 
-/// Whether the lines have the content, at the second try where memory was refused.
-fn is_told(alloc: Global, lines: &[Line], wanted: &str) -> bool {
-    let told = match content(alloc, lines) {
-        Err(_) => content(alloc, lines),
+/// Whether the block has the content, at the second try where memory was refused.
+fn is_told(alloc: Global, block: &Block, wanted: &str) -> bool {
+    let told = match block.content(alloc) {
+        Err(_) => block.content(alloc),
         told => told,
     };
     match told {
@@ -110,7 +110,7 @@ fn is_copied(alloc: Global, placed: &Placed) -> bool {
         copy => copy,
     };
     match copy {
-        Ok(copy) => copy.first == 0 && is_told(alloc, copy.block.lines(), "oa\nob\n"),
+        Ok(copy) => copy.first == 0 && is_told(alloc, &copy.block, "oa\nob\n"),
         Err(_) => false,
     }
 }

@@ -193,5 +193,5 @@ fn are_placed(wanted: &[(u64, usize)], blocks: &[Placed]) -> bool {
 }
 
 fn is_placed(wanted: &(u64, usize), placed: &Placed) -> bool {
-    placed.first == wanted.0 && placed.block.lines().len() == wanted.1
+    placed.first == wanted.0 && placed.block.len() == wanted.1
 }

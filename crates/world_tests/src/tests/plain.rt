@@ -3,7 +3,7 @@
 ghost use Rattle.bm_session.specs.Session.{IsPlanFor};
 
 use super::script::{Script, event};
-use bm_lines::{Block, Text, content};
+use bm_lines::{Block, Text};
 use bm_session::{Event, Plan, Refusal, Session};
 use bm_store::Chunk;
 use bm_world::*;
@@ -59,18 +59,20 @@ fn takes_all(alloc: Global, session: &mut Session, scripts: &[Script], count: us
 
 /// The asked lines of a log.
 fn part(alloc: Global, block: &Block, offset: u64, limit: u64) -> Result<Answer, AllocError> {
-    let lines = block.lines();
-    let from = lines.len().min(offset as usize);
-    let rest = &lines[from..];
-    let asked = &rest[..rest.len().min(limit as usize)];
-    match content(alloc, asked) {
-        Ok(text) => Ok(Answer::Chunk(Chunk {
-            first_line: offset,
-            lines: asked.len() as u64,
-            content: Text::from_string(text),
-        })),
-        Err(error) => Err(error),
+    let text = block.content(alloc)?;
+    let mut content = String::new(alloc);
+    let mut lines = 0;
+    for (place, line) in (0u64..).zip(text.as_str().split_inclusive('\n')) {
+        if offset <= place && lines < limit {
+            content.push_str(line)?;
+            lines += 1;
+        }
     }
+    Ok(Answer::Chunk(Chunk {
+        first_line: offset,
+        lines,
+        content: Text::from_string(content),
+    }))
 }
 
 impl Plain {

@@ -4,4 +4,4 @@ use Rattle.bm_session.specs.Trace.{joined}
 use Rattle.bm_session.proofs.log.append_part.Given as goal
 
 abbrev pub invariant-loop-part : goal.invariant-loop-part
-invariant-loop-part l = l.lines.items ≡ l.initial.lines.items ++ joined (blocks_under l.name (take l.part-index l.part-items))
+invariant-loop-part l = l.log ≡ l.initial.log ++ joined (blocks_under l.name (take l.part-index l.part-items))

@@ -23,8 +23,8 @@ loop-i-preserved c =
           c.found_after-found.ensures
           ∙ ap (λ b. b || not (is_empty (carried_if c.in_ok-counts.counts c.args.command c.args.name.now x))) before.found
           ∙ sym (blocks_next t c.in_ok-counts.counts i c.args.command c.args.name.now x counts c.loop-i-test.true c.index-t-i.is);
-      lines =
+      log =
           c.in_ok-append_added.ensures
-          ∙ ap (λ ls. ls ++ joined (carried_if c.in_ok-counts.counts c.args.command c.args.name.now x)) before.lines
+          ∙ ap (λ ls. ls ++ joined (carried_if c.in_ok-counts.counts c.args.command c.args.name.now x)) before.log
           ∙ sym (log_next t c.in_ok-counts.counts i c.args.command c.args.name.now x counts c.loop-i-test.true c.index-t-i.is);
     }

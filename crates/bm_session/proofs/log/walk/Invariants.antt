@@ -10,5 +10,5 @@ invariant-loop-i l = record {
   few : l.table.orders ≤ l.i;
   places : 4 ≤ vec_capacity l.table.opened;
   found : l.found ≡ not (is_empty (blocks (take l.i l.t) l.command l.name));
-  lines : l.lines.items ≡ log (take l.i l.t) l.command l.name;
+  log : l.log ≡ log (take l.i l.t) l.command l.name;
 }

@@ -1,7 +1,7 @@
 use Rattle.std.proofs.Common.{◌≡◌, ◌∷◌, [], ◌++◌, ◌∙◌, sym, ap, List, Some, None}
 use Rattle.std.specs.Prelude.{slice_get, position}
 use Rattle.std.proofs.lemmas.Option.{get_or_from_slice_get}
-use Rattle.bm_lines.specs.declared.line.Line.{Line}
+use Rattle.bm_lines.specs.Lines.{Line}
 use Rattle.bm_store.specs.Kept.{Named}
 use Rattle.bm_store.proofs.Shelves.{is_named, position-some, position-none, with_block-set, with_block-new}
 use Rattle.bm_store.proofs.command_logs.add_at.Goals as goal

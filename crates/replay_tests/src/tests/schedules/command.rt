@@ -2,7 +2,7 @@
 
 use super::counts::Kind;
 use super::wrong::{Wrong, holds};
-use bm_lines::{Letter, Line, Text};
+use bm_lines::{Letter, Text};
 use bm_session::Results;
 use bm_store::Chunk;
 use bm_work::{Argv, WorkAct};
@@ -133,25 +133,21 @@ impl Command {
     }
 
     /// The log is what was said, as far as the master took it.
-    pub fn has_log(&self, lines: &[Line]) -> Result<(), Wrong> {
-        let mut rest = self.said.as_bytes();
-        for line in lines {
-            let Some(behind) = behind(rest, line) else {
-                return Err(Wrong::Differs("a log is no front of what was said"));
-            };
-            rest = behind;
+    pub fn has_log(&self, lines: usize, content: &str) -> Result<(), Wrong> {
+        if !self.said.as_str().starts_with(content) {
+            return Err(Wrong::Differs("a log is no front of what was said"));
         }
-        if lines.len() != self.taken {
+        if lines != self.taken || content.lines().count() != lines {
             return Err(Wrong::Differs("a log isn't what was taken"));
         }
         holds(self.taken <= self.lines, "more was taken than was said")
     }
 
     /// The log is all that was said. Answers whether that has lines.
-    pub fn has_whole_log(&self, lines: &[Line]) -> Result<bool, Wrong> {
-        self.has_log(lines)?;
-        holds(lines.len() == self.lines, "a whole log lacks lines")?;
-        Ok(!lines.is_empty())
+    pub fn has_whole_log(&self, lines: usize, content: &str) -> Result<bool, Wrong> {
+        self.has_log(lines, content)?;
+        holds(lines == self.lines, "a whole log lacks lines")?;
+        Ok(lines > 0)
     }
 
     /// What a viewer sees is a front of the log, and no less than a viewer saw before.
@@ -276,13 +272,6 @@ fn sign(letter: Letter) -> &'static str {
         Letter::E => "e",
         Letter::H => "h",
     }
-}
-
-/// What stands behind the line, where that comes first.
-fn behind<'a>(said: &'a [u8], line: &Line) -> Option<&'a [u8]> {
-    let text = said.strip_prefix(sign(line.letter).as_bytes())?;
-    let end = text.strip_prefix(line.text.as_str().as_bytes())?;
-    end.strip_prefix(b"\n".as_slice())
 }
 
 /// What stands behind the first line end.

@@ -1,7 +1,7 @@
 use Rattle.std.proofs.Common.{◌≡◌, ◌∙◌, sym, ap, Some, None, bytes_eq, length, List}
 use Rattle.std.specs.Prelude.{find}
 use Rattle.bm_lines.specs.Names.{stdio}
-use Rattle.bm_lines.specs.declared.line.Line.{Line}
+use Rattle.bm_lines.specs.Lines.{Line}
 use Rattle.bm_session.specs.Trace.{joined}
 use Rattle.bm_store.specs.Kept.{Named, Kept}
 use Rattle.bm_store.proofs.Meaning.{find-blocks, find-no-blocks}

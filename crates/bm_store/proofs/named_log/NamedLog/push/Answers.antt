@@ -7,7 +7,6 @@ pub invariant_of-self-2 : goal.invariant_of-self-2
 invariant_of-self-2 c =
     let items : c.push_reserved.new.self.items ≡ c.self.inside.blocks.items ++ (record { first = c.self.inside.lines; block = c.args.block }) ∷ [] =
     c.push_reserved.ensures.items ∙ ap (λ ps. ps ++ (record { first = c.self.inside.lines; block = c.args.block }) ∷ []) c.in_ok-reserve.ensures.items in
-    let size : length c.lines.result.now ≡ length c.args.block = ap length c.lines.ensures in
-    let sum : c.in-Some.lines ≡ c.self.inside.lines + length c.args.block = c.in-Some.ensures.1 ∙ ap (λ n. c.self.inside.lines + n) size in
+    let sum : c.in-Some.lines ≡ c.self.inside.lines + length c.args.block = c.in-Some.ensures.1 ∙ ap (λ n. c.self.inside.lines + n) c.len.ensures in
     subst (λ ps. IsPlacing ps c.in-Some.lines) (sym items)
     (IsPlacing-push c.self.inside.blocks.items (record { first = c.self.inside.lines; block = c.args.block }) c.in-Some.lines c.self.invariant sum)

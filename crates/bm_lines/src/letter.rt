@@ -1,10 +1,7 @@
-//! A line of a log.
+//! Where a line of a log came from.
 
-ghost use Rattle.std.specs.Prelude.{◌≡◌, ◌∷◌, [], IfOk};
+ghost use Rattle.std.specs.Prelude.{◌≡◌, ◌∷◌, []};
 ghost use Rattle.bm_lines.specs.Lines.{letter_code};
-
-use crate::text::Text;
-use std::alloc::AllocError;
 
 /// The stream that a line came from: standard output, standard error, or the worker's header.
 #[derive(Clone, Copy, PartialEq, Eq)]
@@ -24,24 +21,5 @@ impl Letter {
             Letter::E => "e",
             Letter::H => "h",
         }
-    }
-}
-
-/// A line of a log, without the `\n` at its end.
-#[derive(Drop)]
-pub struct Line {
-    pub letter: Letter,
-    pub text: Text,
-}
-
-impl Line {
-    /// An equal line.
-    pub fn copy(&self) -> Result<Line, AllocError>
-        ensures { IfOk result (λ l. l ≡ self.now) }
-    {
-        Ok(Line {
-            letter: self.letter,
-            text: self.text.copy()?,
-        })
     }
 }
