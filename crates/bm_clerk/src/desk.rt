@@ -1,10 +1,11 @@
 //! A lane's reader's end with the link by which it is up.
 
-ghost use Rattle.std.specs.Prelude.{◌≡◌, [], nat_lt, true, None};
+ghost use Rattle.std.specs.Prelude.{◌≡◌, [], nat_lt, true, None, if◌then◌else◌};
 ghost use Rattle.bm_session.specs.Trace.{is_up};
 ghost use Rattle.bm_link.specs.Carries.{new_carried};
+ghost use Rattle.bm_rules.specs.Standing.{keeps_link};
 ghost use Rattle.bm_rules.specs.Tenure.{kept as kept_term, dismissed};
-ghost use Rattle.bm_clerk.specs.Desks.{counting, kept, renewed, rest_of, told_interrupt, told_start, told_unlinked};
+ghost use Rattle.bm_clerk.specs.Desks.{counting, kept, renewed, rest_of, term_in, told_interrupt, told_start, told_unlinked};
 ghost use Rattle.bm_clerk.specs.Desks.{Attaches, Expires, GivesUp, Interrupts, ShutsDown, Starts, TakesUp, Ticks, Turns, with_term};
 ghost use Rattle.bm_clerk.specs.Notices.{standing_of};
 
@@ -113,9 +114,23 @@ fn settle<Y: Yard, S: Drop>(
     ensures tenure { tenure.new ≡ counting reader.now tenure.old }
 {
     let standing = standing_of(reader);
+    keep(link, standing);
+    count(tenure, standing);
+}
+
+/// Lets the link of a lane go that keeps none.
+fn keep<S: Drop>(link: &mut Option<MasterLink<S>>, standing: Standing)
+    ensures { link.new ≡ (if keeps_link standing then link.old else None) }
+{
     if !standing.keeps_link() {
         *link = None;
     }
+}
+
+/// Counts ticks while the lane is cut.
+fn count(tenure: &mut Tenure, standing: Standing)
+    ensures { tenure.new ≡ term_in standing tenure.old }
+{
     match standing {
         Standing::Up => {}
         Standing::Cut => tenure.cut(),
