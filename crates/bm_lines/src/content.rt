@@ -6,7 +6,7 @@ ghost use Rattle.bm_lines.specs.Lines.{lines_of, content_of};
 ghost use Rattle.bm_lines.specs.Contents.{IsContent};
 
 use crate::letter::Letter;
-use memchr::memchr_iter;
+use memchr::{memchr, memchr_iter};
 use std::alloc::{AllocError, Global};
 use std::marker::Model;
 
@@ -37,6 +37,29 @@ impl Content {
         ensures { IfOk result (λ c. c ≡ lines_of letter text.now) }
     {
         let parts = text.strip_suffix('\n').unwrap_or(text);
+        match memchr(b'\n', parts.as_bytes()) {
+            Some(_) => Content::of_parts(alloc, letter, parts),
+            None => Content::of_line(alloc, letter, parts),
+        }
+    }
+
+    /// One line, as most updates have.
+    fn of_line(alloc: Global, letter: Letter, line: &str) -> Result<Content, AllocError>
+        ensures { IfOk result (λ c. c ≡ record { letter = letter; text = line.now } ∷ []) }
+    {
+        let mut text = String::with_capacity(alloc, line.len().saturating_add(2))?;
+        write_line(&mut text, letter, line)?;
+        Ok(Content {
+            text,
+            begins: Vec::new(alloc),
+        })
+    }
+
+    /// A line for each part between the characters `\n`.
+    fn of_parts(alloc: Global, letter: Letter, parts: &str) -> Result<Content, AllocError>
+        ensures { IfOk result (λ c. c ≡ map (λ part. record { letter = letter; text = part })
+            (slice_split (λ c. c == 10) parts.now)) }
+    {
         let later = memchr_iter(b'\n', parts.as_bytes()).count();
         let bytes = parts.len().saturating_add(later).saturating_add(2);
         let mut text = String::with_capacity(alloc, bytes)?;
