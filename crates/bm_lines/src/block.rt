@@ -110,6 +110,10 @@ impl Block {
             return Ok(0);
         };
         let lines = content.count();
+        if skip == 0 && lines as u64 <= limit {
+            out.push_str(content.as_str())?;
+            return Ok(lines as u64);
+        }
         let from = lines.min(skip as usize);
         let count = (lines - from).min(limit as usize);
         out.push_str(content.slice(from, from + count))?;
@@ -117,12 +121,12 @@ impl Block {
     }
 
     /// For each line its letter in lower case, its text and `\n`.
-    pub fn content(&self, alloc: Global) -> Result<String, AllocError>
-        ensures { IfOk result (λ s. string_bytes s ≡ content_of self.now) }
+    pub fn content(&self) -> &str
+        ensures { result.now ≡ content_of self.now }
     {
         match &self.content {
-            Some(content) => String::from_str(alloc, content.slice(0, content.count())),
-            None => Ok(String::new(alloc)),
+            Some(content) => content.as_str(),
+            None => "",
         }
     }
 }

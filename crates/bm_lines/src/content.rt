@@ -88,6 +88,13 @@ impl Content {
         self.begins[number - 1]
     }
 
+    /// The content of all lines.
+    pub fn as_str(&self) -> &str
+        ensures { result.now ≡ content_of self.now }
+    {
+        self.text.as_str()
+    }
+
     /// The content of the lines from the one up to the other.
     pub fn slice(&self, from: usize, to: usize) -> &str
         requires { from ≤ to }

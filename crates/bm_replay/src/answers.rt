@@ -3,7 +3,6 @@
 use bm_lines::Block;
 use bm_session::{Reply, Results, Verdict};
 use bm_world::Answer;
-use std::alloc::Global;
 use std::io;
 use std::io::Write;
 
@@ -41,7 +40,6 @@ fn write_reply<W: Write>(output: &mut W, reply: Reply, silent: &str) -> io::Resu
 /// Writes how many lines a command's log has and how the command ended, if it did, and then the
 /// lines.
 pub fn write_log<W: Write>(
-    alloc: Global,
     output: &mut W,
     command: u64,
     log: &Block,
@@ -52,6 +50,5 @@ pub fn write_log<W: Write>(
         None => writeln!(output, "log {command} {count} open")?,
         Some(result) => writeln!(output, "log {command} {count} {result}")?,
     }
-    let text = log.content(alloc)?;
-    output.write_all(text.as_bytes())
+    output.write_all(log.content().as_bytes())
 }

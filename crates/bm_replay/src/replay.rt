@@ -175,7 +175,7 @@ impl Lane {
             None => Ok(writeln!(output, "no log")?),
             Some(log) => {
                 let outcome = session.outcome(command);
-                Ok(write_log(self.alloc, output, command, &log, outcome)?)
+                Ok(write_log(output, command, &log, outcome)?)
             }
         }
     }

@@ -10,18 +10,10 @@ use std::test::Fail;
 /// A log's name, and a text under it.
 type Item = (&'static str, Letter, &'static str);
 
-/// Whether the block has the content.
-fn is_told(alloc: Global, block: &Block, want: &str) -> bool {
-    match block.content(alloc) {
-        Ok(content) => content.as_str() == want,
-        Err(_) => false,
-    }
-}
-
 /// Whether the parcel has one part, with the content.
-fn has_one(alloc: Global, parcel: &Parcel, want: &str) -> bool {
+fn has_one(parcel: &Parcel, want: &str) -> bool {
     match parcel.parts() {
-        [part] => is_told(alloc, &part.block, want),
+        [part] => part.block.content() == want,
         _ => false,
     }
 }
@@ -42,25 +34,25 @@ fn takes(
 
 fn is_cut_alone(alloc: Global, letter: Letter, text: &str, want: &str) -> bool {
     match cut(alloc, letter, text) {
-        Ok(block) => is_told(alloc, &block, want),
+        Ok(block) => block.content() == want,
         Err(_) => false,
     }
 }
 
 fn is_added(alloc: Global, letter: Letter, text: &str, want: &str) -> bool {
     let mut block = Block::new(alloc);
-    block.add(letter, text).is_ok() && is_told(alloc, &block, want)
+    block.add(letter, text).is_ok() && block.content() == want
 }
 
 fn is_built(alloc: Global, letter: Letter, text: &str, want: &str) -> bool {
     let mut builder = ParcelBuilder::new(alloc);
     let is_taken = takes(alloc, &mut builder, &LogName::stdio(), letter, text);
-    is_taken && has_one(alloc, &builder.into_parcel(), want)
+    is_taken && has_one(&builder.into_parcel(), want)
 }
 
 fn is_in_a_parcel(alloc: Global, letter: Letter, text: &str, want: &str) -> bool {
     match Parcel::of_str(alloc, LogName::stdio(), letter, text) {
-        Ok(parcel) => has_one(alloc, &parcel, want),
+        Ok(parcel) => has_one(&parcel, want),
         Err(_) => false,
     }
 }
@@ -90,17 +82,17 @@ fn texts_are_cut_at_line_ends_alone(rt: HostRuntime) {
 }
 
 /// Whether the copy of a block of one line stays as it is while the block grows.
-fn grows_apart(alloc: Global, block: &mut Block, copy: &Block) -> bool {
+fn grows_apart(block: &mut Block, copy: &Block) -> bool {
     block.add(Letter::E, "b").is_ok()
-        && is_told(alloc, copy, "oa\n")
-        && is_told(alloc, block, "oa\neb\n")
+        && copy.content() == "oa\n"
+        && block.content() == "oa\neb\n"
         && block.add(Letter::H, "c").is_ok()
-        && is_told(alloc, block, "oa\neb\nhc\n")
+        && block.content() == "oa\neb\nhc\n"
 }
 
-fn has_a_copy_apart(alloc: Global, block: &mut Block) -> bool {
+fn has_a_copy_apart(block: &mut Block) -> bool {
     match block.copy() {
-        Ok(copy) => grows_apart(alloc, block, &copy),
+        Ok(copy) => grows_apart(block, &copy),
         Err(_) => false,
     }
 }
@@ -108,7 +100,7 @@ fn has_a_copy_apart(alloc: Global, block: &mut Block) -> bool {
 #[test]
 fn a_copy_keeps_its_lines_when_the_block_grows(rt: HostRuntime) -> Result<(), Fail> {
     let mut block = cut(rt.alloc(), Letter::O, "a\n")?;
-    assert!(rt; has_a_copy_apart(rt.alloc(), &mut block));
+    assert!(rt; has_a_copy_apart(&mut block));
     Ok(())
 }
 
@@ -235,17 +227,17 @@ fn adds(alloc: Global, parcel: &mut Parcel, (name, letter, text): &Item) -> bool
 }
 
 /// Whether the parcel has the content under the name.
-fn has_part(alloc: Global, parcel: &Parcel, name: &str, want: &str) -> bool {
+fn has_part(parcel: &Parcel, name: &str, want: &str) -> bool {
     match parcel.of(name) {
-        Some(block) => is_told(alloc, block, want),
+        Some(block) => block.content() == want,
         None => false,
     }
 }
 
 /// Whether the parcel has the content under each name, and no other part.
-fn has(alloc: Global, parcel: &Parcel, wants: &[(&str, &str)]) -> bool {
+fn has(parcel: &Parcel, wants: &[(&str, &str)]) -> bool {
     for (name, want) in wants {
-        if !has_part(alloc, parcel, name, want) {
+        if !has_part(parcel, name, want) {
             return false;
         }
     }
@@ -266,9 +258,9 @@ fn parcel_of(alloc: Global, items: &[Item]) -> Option<Parcel> {
 /// Whether an item joins those of its name, and the copy that was made before stays as it is.
 fn joins_apart(alloc: Global, parcel: &mut Parcel, copy: &Parcel) -> bool {
     adds(alloc, parcel, &("stdio", Letter::E, "b\n"))
-        && has(alloc, parcel, &[("stdio", "oa\nos\neb\n"), ("l", "")])
+        && has(parcel, &[("stdio", "oa\nos\neb\n"), ("l", "")])
         && parcel.of("m").is_none()
-        && has(alloc, copy, &[("stdio", "oa\nos\n"), ("l", "")])
+        && has(copy, &[("stdio", "oa\nos\n"), ("l", "")])
 }
 
 fn joins(alloc: Global, parcel: &mut Parcel) -> bool {
@@ -308,9 +300,9 @@ fn built_of(alloc: Global, items: &[Item]) -> Option<Parcel> {
     Some(builder.into_parcel())
 }
 
-fn is_made(alloc: Global, parcel: Option<Parcel>, wants: &[(&str, &str)]) -> bool {
+fn is_made(parcel: Option<Parcel>, wants: &[(&str, &str)]) -> bool {
     match parcel {
-        Some(parcel) => has(alloc, &parcel, wants),
+        Some(parcel) => has(&parcel, wants),
         None => false,
     }
 }
@@ -329,8 +321,8 @@ fn given_texts_join_under_their_names(rt: HostRuntime) {
         ("l", "ob\noc\nob\noc\n"),
         ("m", "ob\noc\n"),
     ];
-    assert!(rt; is_made(rt.alloc(), built_of(rt.alloc(), &ITEMS), &WANTS));
-    assert!(rt; is_made(rt.alloc(), parcel_of(rt.alloc(), &ITEMS), &WANTS));
+    assert!(rt; is_made(built_of(rt.alloc(), &ITEMS), &WANTS));
+    assert!(rt; is_made(parcel_of(rt.alloc(), &ITEMS), &WANTS));
 }
 
 fn is_copied_empty(parcel: &Parcel) -> bool {
@@ -344,7 +336,7 @@ fn is_copied_empty(parcel: &Parcel) -> bool {
 fn is_kept_by_a_copy(alloc: Global, parcel: &mut Parcel) -> bool {
     match parcel.copy() {
         Ok(copy) => {
-            adds(alloc, parcel, &("l", Letter::O, "b")) && has(alloc, &copy, &[("stdio", "ea\n")])
+            adds(alloc, parcel, &("l", Letter::O, "b")) && has(&copy, &[("stdio", "ea\n")])
         }
         Err(_) => false,
     }

@@ -181,26 +181,15 @@ fn log_of(alloc: Global, session: &Session, name: &str) -> Result<Option<Block>,
     }
 }
 
-/// The text of the block, made once more after want of memory.
-fn text_of(alloc: Global, block: &Block) -> Result<String, AllocError> {
-    match block.content(alloc) {
-        Ok(text) => Ok(text),
-        Err(_) => block.content(alloc),
-    }
-}
-
 /// Whether the text of the block is this one.
-fn is_text(alloc: Global, block: &Block, wanted: Option<&str>) -> bool {
-    match text_of(alloc, block) {
-        Ok(text) => then_drop(wanted == Some(text.as_str()), text),
-        Err(_) => false,
-    }
+fn is_text(block: &Block, wanted: Option<&str>) -> bool {
+    wanted == Some(block.content())
 }
 
 /// Whether this is a log of command 0.
 fn has_log(alloc: Global, session: &Session, (name, wanted): &Log) -> bool {
     match log_of(alloc, session, name) {
-        Ok(Some(block)) => then_drop(is_text(alloc, &block, *wanted), block),
+        Ok(Some(block)) => then_drop(is_text(&block, *wanted), block),
         Ok(None) => wanted.is_none(),
         Err(_) => false,
     }
@@ -270,49 +259,49 @@ fn withdrawn_event_comes_back(rt: HostRuntime) -> Result<(), AllocError> {
 }
 
 /// Whether the parcel has these lines under the name `l`.
-fn are_lines(alloc: Global, parcel: &Parcel, lines: &str) -> bool {
+fn are_lines(parcel: &Parcel, lines: &str) -> bool {
     match parcel.of("l") {
-        Some(block) => is_text(alloc, block, Some(lines)),
+        Some(block) => is_text(block, Some(lines)),
         None => false,
     }
 }
 
 /// Whether the item has these lines of command 0.
-fn is_item(alloc: Global, item: &Item, lines: &str) -> bool {
+fn is_item(item: &Item, lines: &str) -> bool {
     match item {
-        Item::Lines(0, parcel) => are_lines(alloc, parcel, lines),
+        Item::Lines(0, parcel) => are_lines(parcel, lines),
         _ => false,
     }
 }
 
 /// Whether a copy of the item has these lines of command 0.
-fn is_copied_item(alloc: Global, item: &Item, lines: &str) -> bool {
+fn is_copied_item(item: &Item, lines: &str) -> bool {
     match item.copy() {
-        Ok(copy) => then_drop(is_item(alloc, &copy, lines), copy),
+        Ok(copy) => then_drop(is_item(&copy, lines), copy),
         Err(_) => false,
     }
 }
 
 /// Whether a run made a silent reply and an item with these lines of command 0, as has a copy of it.
-fn is_ran(alloc: Global, ran: &Ran, lines: &str) -> bool {
+fn is_ran(ran: &Ran, lines: &str) -> bool {
     match ran {
-        Ran::Done(Reply::Silent, Some(item)) => is_copied_item(alloc, item, lines),
+        Ran::Done(Reply::Silent, Some(item)) => is_copied_item(item, lines),
         _ => false,
     }
 }
 
 /// Whether a copy of what a run did is a silent reply and an item with these lines of command 0.
-fn is_copied_ran(alloc: Global, ran: &Ran, lines: &str) -> bool {
+fn is_copied_ran(ran: &Ran, lines: &str) -> bool {
     match ran.copy() {
-        Ok(copy) => then_drop(is_ran(alloc, &copy, lines), copy),
+        Ok(copy) => then_drop(is_ran(&copy, lines), copy),
         Err(_) => false,
     }
 }
 
 /// Whether a parcel has these lines after copies of what a run did with it, and of the item.
-fn is_copied_parcel(alloc: Global, parcel: Parcel, lines: &str) -> bool {
+fn is_copied_parcel(parcel: Parcel, lines: &str) -> bool {
     let ran = Ran::Done(Reply::Silent, Some(Item::Lines(0, parcel)));
-    then_drop(is_copied_ran(alloc, &ran, lines), ran)
+    then_drop(is_copied_ran(&ran, lines), ran)
 }
 
 /// The parcel of update 3 of command 0.
@@ -335,18 +324,18 @@ fn parcel_of(event: Event) -> Option<Parcel> {
 
 /// Whether the event is update 3 of command 0 with these lines, also after copies of what comes of
 /// it.
-fn is_update(alloc: Global, event: Event, lines: &str) -> bool {
+fn is_update(event: Event, lines: &str) -> bool {
     match parcel_of(event) {
-        Some(parcel) => is_copied_parcel(alloc, parcel, lines),
+        Some(parcel) => is_copied_parcel(parcel, lines),
         None => false,
     }
 }
 
 /// Whether a copy of the event is update 3 of command 0 with these lines, also after copies of what
 /// comes of it.
-fn is_copied_event(alloc: Global, event: &Event, lines: &str) -> bool {
+fn is_copied_event(event: &Event, lines: &str) -> bool {
     match event.copy() {
-        Ok(copy) => is_update(alloc, copy, lines),
+        Ok(copy) => is_update(copy, lines),
         Err(_) => false,
     }
 }
@@ -354,7 +343,7 @@ fn is_copied_event(alloc: Global, event: &Event, lines: &str) -> bool {
 /// Whether the lines of an update come through all copies.
 fn are_copied(alloc: Global) -> bool {
     match event(alloc, Script::In(3, Ask::Named("l", "x\ny\n"))) {
-        Ok(event) => then_drop(is_copied_event(alloc, &event, "ox\noy\n"), event),
+        Ok(event) => then_drop(is_copied_event(&event, "ox\noy\n"), event),
         Err(_) => false,
     }
 }

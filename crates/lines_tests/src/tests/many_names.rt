@@ -1,6 +1,6 @@
 //! A parcel of many names, put together with a table of them.
 
-use super::{has_part, is_told, takes};
+use super::{has_part, takes};
 use bm_lines::{Letter, LogName, Parcel, ParcelBuilder};
 use std::alloc::Global;
 
@@ -18,12 +18,12 @@ fn numbered(alloc: Global, number: u32) -> Option<LogName> {
 }
 
 /// Whether the part at the place has the name, and what was said under it.
-fn is_at(alloc: Global, parcel: &Parcel, place: u32, name: &LogName, said: &str) -> bool {
+fn is_at(parcel: &Parcel, place: u32, name: &LogName, said: &str) -> bool {
     match parcel.parts().get(place as usize) {
         Some(part) => {
             part.name.is_same(name)
-                && is_told(alloc, &part.block, said)
-                && has_part(alloc, parcel, name.as_str(), said)
+                && part.block.content() == said
+                && has_part(parcel, name.as_str(), said)
         }
         None => false,
     }
@@ -32,7 +32,7 @@ fn is_at(alloc: Global, parcel: &Parcel, place: u32, name: &LogName, said: &str)
 /// Whether the part at the place has its name, and what was said under it.
 fn has_place(alloc: Global, parcel: &Parcel, place: u32, said: &str) -> bool {
     match numbered(alloc, number_at(place)) {
-        Some(name) => is_at(alloc, parcel, place, &name, said),
+        Some(name) => is_at(parcel, place, &name, said),
         None => false,
     }
 }

@@ -23,31 +23,23 @@ fn name_of(alloc: Global, name: &str) -> Option<LogName> {
     again(|| LogName::new(alloc, name)).ok()?
 }
 
-/// Whether the block has the content.
-fn is_told(alloc: Global, block: &Block, want: &str) -> bool {
-    match again(|| block.content(alloc)) {
-        Ok(content) => content.as_str() == want,
-        Err(_) => false,
-    }
-}
-
 /// Whether the block takes the text, at the second time where memory was refused and its content is
 /// as before.
-fn takes(alloc: Global, block: &mut Block, text: &str, before: &str) -> bool {
+fn takes(block: &mut Block, text: &str, before: &str) -> bool {
     block.add(Letter::O, text).is_ok()
-        || is_told(alloc, block, before) && block.add(Letter::O, text).is_ok()
+        || block.content() == before && block.add(Letter::O, text).is_ok()
 }
 
 /// Whether the block grows, and what shares its lines doesn't.
-fn grows(alloc: Global, block: &mut Block, shared: &Block) -> bool {
-    takes(alloc, block, "z\n", "ex\ne\ney\n")
-        && is_told(alloc, block, "ex\ne\ney\noz\n")
-        && is_told(alloc, shared, "ex\ne\ney\n")
+fn grows(block: &mut Block, shared: &Block) -> bool {
+    takes(block, "z\n", "ex\ne\ney\n")
+        && block.content() == "ex\ne\ney\noz\n"
+        && shared.content() == "ex\ne\ney\n"
 }
 
-fn grows_apart(alloc: Global, block: &mut Block) -> bool {
+fn grows_apart(block: &mut Block) -> bool {
     match again(|| block.copy()) {
-        Ok(shared) => grows(alloc, block, &shared),
+        Ok(shared) => grows(block, &shared),
         Err(_) => false,
     }
 }
@@ -56,7 +48,7 @@ fn grows_apart(alloc: Global, block: &mut Block) -> bool {
 fn refused_block_keeps_its_lines(rt: HostRuntime) -> Result<(), Fail> {
     let alloc = rt.alloc();
     let mut block = again(|| cut(alloc, Letter::E, "x\n\ny"))?;
-    assert!(rt; grows_apart(alloc, &mut block));
+    assert!(rt; grows_apart(&mut block));
     Ok(())
 }
 
@@ -84,10 +76,10 @@ fn refused_content_can_be_appended_again(rt: HostRuntime) -> Result<(), Fail> {
 
 /// Whether the block gets the lines of the other, at the second time where memory was refused and
 /// its content is as before.
-fn is_extended(alloc: Global, block: &mut Block, other: &Block) -> bool {
+fn is_extended(block: &mut Block, other: &Block) -> bool {
     let is_longer = block.extend(other).is_ok()
-        || is_told(alloc, block, "oa\n") && block.extend(other).is_ok();
-    is_longer && is_told(alloc, block, "oa\neb\ne\n")
+        || block.content() == "oa\n" && block.extend(other).is_ok();
+    is_longer && block.content() == "oa\neb\ne\n"
 }
 
 #[test]
@@ -95,54 +87,53 @@ fn refused_lines_leave_those_before(rt: HostRuntime) -> Result<(), Fail> {
     let alloc = rt.alloc();
     let mut block = again(|| cut(alloc, Letter::O, "a"))?;
     let other = again(|| cut(alloc, Letter::E, "b\n\n"))?;
-    assert!(rt; is_extended(alloc, &mut block, &other));
+    assert!(rt; is_extended(&mut block, &other));
     Ok(())
 }
 
 /// Whether the parcel has the content under the name.
-fn has(alloc: Global, parcel: &Parcel, name: &str, want: &str) -> bool {
+fn has(parcel: &Parcel, name: &str, want: &str) -> bool {
     match parcel.of(name) {
-        Some(block) => is_told(alloc, block, want),
+        Some(block) => block.content() == want,
         None => false,
     }
 }
 
 /// Whether the parcel has the content under `l`, and no part where there is none.
-fn holds(alloc: Global, parcel: &Parcel, want: &str) -> bool {
+fn holds(parcel: &Parcel, want: &str) -> bool {
     if want.is_empty() {
         parcel.parts().is_empty()
     } else {
-        has(alloc, parcel, "l", want)
+        has(parcel, "l", want)
     }
 }
 
 /// Whether the parcel takes the text, at the second time where memory was refused and it has the
 /// content as before.
 fn takes_under(
-    alloc: Global,
     parcel: &mut Parcel,
     name: &LogName,
     (letter, text): (Letter, &str),
     before: &str,
 ) -> bool {
     parcel.add(name, letter, text).is_ok()
-        || holds(alloc, parcel, before) && parcel.add(name, letter, text).is_ok()
+        || holds(parcel, before) && parcel.add(name, letter, text).is_ok()
 }
 
 /// Whether the parcel takes a text under the name and another one under a copy of it.
-fn takes_both(alloc: Global, parcel: &mut Parcel, name: &LogName) -> bool {
+fn takes_both(parcel: &mut Parcel, name: &LogName) -> bool {
     match again(|| name.copy()) {
         Ok(copied) => {
-            takes_under(alloc, parcel, name, (Letter::O, "a\n"), "")
-                && takes_under(alloc, parcel, &copied, (Letter::E, "b\n"), "oa\n")
+            takes_under(parcel, name, (Letter::O, "a\n"), "")
+                && takes_under(parcel, &copied, (Letter::E, "b\n"), "oa\n")
         }
         Err(_) => false,
     }
 }
 
-fn is_copied(alloc: Global, parcel: &Parcel, want: &str) -> bool {
+fn is_copied(parcel: &Parcel, want: &str) -> bool {
     match again(|| parcel.copy()) {
-        Ok(copy) => copy.parts().len() == 1 && holds(alloc, &copy, want),
+        Ok(copy) => copy.parts().len() == 1 && holds(&copy, want),
         Err(_) => false,
     }
 }
@@ -152,8 +143,8 @@ fn refused_parcel_keeps_its_parts(rt: HostRuntime) -> Result<(), Fail> {
     let alloc = rt.alloc();
     let name = name_of(alloc, "l").ok_or("no name")?;
     let mut parcel = Parcel::new(alloc);
-    assert!(rt; takes_both(alloc, &mut parcel, &name));
-    assert!(rt; is_copied(alloc, &parcel, "oa\neb\n"));
+    assert!(rt; takes_both(&mut parcel, &name));
+    assert!(rt; is_copied(&parcel, "oa\neb\n"));
     Ok(())
 }
 
@@ -176,7 +167,7 @@ fn refused_text_leaves_the_parts(rt: HostRuntime) {
     for (name, text) in &SAID {
         assert!(rt; gives(alloc, &mut parcel, name, text));
     }
-    assert!(rt; has(alloc, &parcel, "l", "oa\nod\n") && has(alloc, &parcel, "stdio", "ob\noc\n"));
+    assert!(rt; has(&parcel, "l", "oa\nod\n") && has(&parcel, "stdio", "ob\noc\n"));
 }
 
 fn is_built(alloc: Global, builder: &mut ParcelBuilder, name: &LogName, text: &str) -> bool {
@@ -217,7 +208,7 @@ fn refused_table_leaves_the_parts(rt: HostRuntime) {
     let parcel = builder.into_parcel();
     assert!(rt; parcel.parts().len() == NAMES.len());
     for name in &NAMES {
-        assert!(rt; has(alloc, &parcel, name, "oa\nob\n"));
+        assert!(rt; has(&parcel, name, "oa\nob\n"));
     }
 }
 

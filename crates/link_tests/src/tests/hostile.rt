@@ -189,27 +189,22 @@ impl<Y: Yard, W: Wait + Drop> Desk<Y, W> {
                 command: 0,
                 parcel,
                 ..
-            } => self.has_logged(alloc, parcel),
+            } => self.has_logged(parcel),
             _ if self.logged(STDIO, "") => Some(false),
             _ => None,
         }
     }
 
     /// The logs of the command are what the parcel has, and there is a line; or there is none.
-    fn has_logged(&mut self, alloc: Global, parcel: &Parcel) -> Option<bool> {
+    fn has_logged(&mut self, parcel: &Parcel) -> Option<bool> {
         if parcel.of(STDIO).is_none() && !self.logged(STDIO, "") {
             return None;
         }
         let mut lines = false;
         for part in parcel.parts() {
-            let is_logged = match part.block.content(alloc) {
-                Ok(text) => {
-                    lines |= !text.is_empty();
-                    self.logged(part.name.as_str(), text.as_str())
-                }
-                Err(_) => false,
-            };
-            if !is_logged {
+            let text = part.block.content();
+            lines |= !text.is_empty();
+            if !self.logged(part.name.as_str(), text) {
                 return None;
             }
         }

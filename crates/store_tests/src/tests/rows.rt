@@ -4,10 +4,8 @@ use super::turn::Gives::{self, Blocks, Counts, NoLog, Slice, State, Taken};
 use super::turn::Turn::*;
 use super::turn::slice;
 use super::{Row, goes_through};
-use bm_lines::Block;
 use bm_session::Results;
 use bm_store::{Book, Placed};
-use std::alloc::Global;
 
 #[test]
 fn slices_run_over_blocks(rt: HostRuntime) {
@@ -91,33 +89,21 @@ fn is_slice_copied(book: &Book, wanted: &Gives) -> bool {
     }
 }
 
-/// Whether the block has the content, at the second try where memory was refused.
-fn is_told(alloc: Global, block: &Block, wanted: &str) -> bool {
-    let told = match block.content(alloc) {
-        Err(_) => block.content(alloc),
-        told => told,
-    };
-    match told {
-        Ok(told) => told.as_str() == wanted,
-        Err(_) => false,
-    }
-}
-
 /// Whether a copy of the block is the first one, with both lines.
-fn is_copied(alloc: Global, placed: &Placed) -> bool {
+fn is_copied(placed: &Placed) -> bool {
     let copy = match placed.copy() {
         Err(_) => placed.copy(),
         copy => copy,
     };
     match copy {
-        Ok(copy) => copy.first == 0 && is_told(alloc, &copy.block, "oa\nob\n"),
+        Ok(copy) => copy.first == 0 && copy.block.content() == "oa\nob\n",
         Err(_) => false,
     }
 }
 
-fn is_block_copied(alloc: Global, book: &Book) -> bool {
+fn is_block_copied(book: &Book) -> bool {
     match book.blocks(0, "stdio") {
-        Some([placed]) => is_copied(alloc, placed),
+        Some([placed]) => is_copied(placed),
         _ => false,
     }
 }
@@ -128,7 +114,7 @@ fn copies_are_equal(rt: HostRuntime) {
     static SECOND: Gives = Slice(1, 1, "ob\n");
     let mut book = Book::new(rt.alloc());
     goes_through(&rt, &mut book, &ROWS);
-    assert!(rt; is_slice_copied(&book, &SECOND) && is_block_copied(rt.alloc(), &book));
+    assert!(rt; is_slice_copied(&book, &SECOND) && is_block_copied(&book));
 }
 
 #[test]

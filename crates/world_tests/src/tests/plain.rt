@@ -59,10 +59,9 @@ fn takes_all(alloc: Global, session: &mut Session, scripts: &[Script], count: us
 
 /// The asked lines of a log.
 fn part(alloc: Global, block: &Block, offset: u64, limit: u64) -> Result<Answer, AllocError> {
-    let text = block.content(alloc)?;
     let mut content = String::new(alloc);
     let mut lines = 0;
-    for (place, line) in (0u64..).zip(text.as_str().split_inclusive('\n')) {
+    for (place, line) in (0u64..).zip(block.content().split_inclusive('\n')) {
         if offset <= place && lines < limit {
             content.push_str(line)?;
             lines += 1;

@@ -3,7 +3,7 @@
 use super::command::{Command, End, Words};
 use super::counts::Kind;
 use super::wrong::{Wrong, holds};
-use bm_lines::{Block, Letter};
+use bm_lines::Letter;
 use bm_session::{Refusal, Reply, Session, Verdict};
 use bm_store::Chunk;
 use bm_work::{Sent, WorkAct, WorkRefusal};
@@ -443,15 +443,8 @@ impl Ledger {
 
     fn compare_log(&self, session: &Session, place: usize, command: &Command) -> Result<(), Wrong> {
         match session.log(self.alloc, place as u64, "stdio") {
-            Ok(Some(log)) => command.has_log(log.len(), self.content(&log)?.as_str()),
+            Ok(Some(log)) => command.has_log(log.len(), log.content()),
             Ok(None) => Err(Wrong::Differs("a log isn't there")),
-            Err(_) => Err(Wrong::OutOfMemory),
-        }
-    }
-
-    fn content(&self, log: &Block) -> Result<String, Wrong> {
-        match log.content(self.alloc) {
-            Ok(content) => Ok(content),
             Err(_) => Err(Wrong::OutOfMemory),
         }
     }
@@ -469,7 +462,7 @@ impl Ledger {
             return Err(Wrong::Differs("a log is of no command"));
         };
         match session.log(self.alloc, place as u64, "stdio") {
-            Ok(Some(log)) => command.has_whole_log(log.len(), self.content(&log)?.as_str()),
+            Ok(Some(log)) => command.has_whole_log(log.len(), log.content()),
             Ok(None) => Err(Wrong::Differs("a log isn't there")),
             Err(_) => Err(Wrong::OutOfMemory),
         }
