@@ -134,10 +134,6 @@ split-at i ls = ap content_of (sym (take-append-drop i ls)) ∙ content_of-appen
 pub boundary : (ls : List Line) (i : ℕ) → IsCharBoundary (content_of ls) (length (content_of (take i ls)))
 boundary ls i = subst (λ t. IsCharBoundary t (length (content_of (take i ls)))) (sym (split-at i ls)) (boundary-of (content_of (take i ls)) (drop i ls))
 
--- a line alone
-pub one-line : (l : Line) (text begins before : List ℕ) → before ≡ [] → text ≡ before ++ content_of (l ∷ []) → begins ≡ [] → IsContent (l ∷ []) text begins
-one-line l text begins before none grown noted = record { exact = grown ∙ ap (λ t. t ++ content_of (l ∷ [])) none; places = noted }
-
 -- a line more at the end
 pub content-next : (ls : List Line) (l : Line) (text begins : List ℕ) → IsContent ls text begins
     → IsContent (ls ++ l ∷ []) (text ++ content_of (l ∷ [])) (begins ++ (if length text == 0 then [] else length text ∷ []))

@@ -6,4 +6,5 @@ pub mod Parcels
 -- say what a `NameTable` holds, and no more.
 pub mod OneOrMany
 pub mod Contents
+pub mod Shared
 pub mod Places

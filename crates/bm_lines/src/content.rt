@@ -2,16 +2,17 @@
 
 ghost use Rattle.std.specs.Prelude.{◌≡◌, ◌<◌, ◌≤◌, ◌+◌, ◌-◌, ◌^◌, ◌==◌, [], ◌∷◌, ◌++◌, length, map, take, drop, if◌then◌else◌, IfOk, OnOk, OnErr, All, string_bytes, IsCharBoundary};
 ghost use Rattle.std.specs.List.{slice_split};
-ghost use Rattle.bm_lines.specs.Lines.{lines_of, content_of};
-ghost use Rattle.bm_lines.specs.Contents.{IsContent};
+ghost use Rattle.bm_lines.specs.Lines.{content_of};
+ghost use Rattle.bm_lines.specs.Contents.{IsContent, lines_in};
 
 use crate::letter::Letter;
-use memchr::{memchr, memchr_iter};
+use crate::one_line::{OneLine, write_line};
+use memchr::memchr_iter;
 use std::alloc::{AllocError, Global};
 use std::marker::Model;
 
 /// At least one line, as one text: the content of the lines, and where each but the first begins in
-/// it. So any slice of them is a piece of the text, and one line takes no list.
+/// it. So any slice of them is a piece of the text.
 #[derive(Drop)]
 pub struct Content {
     text: String,
@@ -31,32 +32,8 @@ impl Model for Content {
 }
 
 impl Content {
-    /// The lines of a text that isn't empty.
-    pub fn of(alloc: Global, letter: Letter, text: &str) -> Result<Content, AllocError>
-        requires { 0 < length text.now }
-        ensures { IfOk result (λ c. c ≡ lines_of letter text.now) }
-    {
-        let parts = text.strip_suffix('\n').unwrap_or(text);
-        match memchr(b'\n', parts.as_bytes()) {
-            Some(_) => Content::of_parts(alloc, letter, parts),
-            None => Content::of_line(alloc, letter, parts),
-        }
-    }
-
-    /// One line, as most updates have.
-    fn of_line(alloc: Global, letter: Letter, line: &str) -> Result<Content, AllocError>
-        ensures { IfOk result (λ c. c ≡ record { letter = letter; text = line.now } ∷ []) }
-    {
-        let mut text = String::with_capacity(alloc, line.len().saturating_add(2))?;
-        write_line(&mut text, letter, line)?;
-        Ok(Content {
-            text,
-            begins: Vec::new(alloc),
-        })
-    }
-
     /// A line for each part between the characters `\n`.
-    fn of_parts(alloc: Global, letter: Letter, parts: &str) -> Result<Content, AllocError>
+    pub fn of(alloc: Global, letter: Letter, parts: &str) -> Result<Content, AllocError>
         ensures { IfOk result (λ c. c ≡ map (λ part. record { letter = letter; text = part })
             (slice_split (λ c. c == 10) parts.now)) }
     {
@@ -66,6 +43,16 @@ impl Content {
         let mut begins = Vec::with_capacity(alloc, later)?;
         write_parts(&mut text, &mut begins, letter, parts)?;
         Ok(Content { text, begins })
+    }
+
+    /// An equal line, in a text of its own.
+    pub fn of_line(alloc: Global, line: &OneLine) -> Result<Content, AllocError>
+        ensures { IfOk result (λ c. c ≡ line.now ∷ []) }
+    {
+        Ok(Content {
+            text: String::from_str(alloc, line.as_str())?,
+            begins: Vec::new(alloc),
+        })
     }
 
     /// How many lines they are.
@@ -115,15 +102,24 @@ impl Content {
         })
     }
 
-    /// Appends other lines.
-    pub fn append(&mut self, more: &Content) -> Result<(), AllocError>
-        ensures ok { OnOk result (self.new ≡ self.old ++ more.now) }
+    /// Where each line but the first begins in the text.
+    pub fn begins(&self) -> &[usize]
+        ensures places { IsContent self.now (content_of self.now) result.now }
+        ensures lines { lines_in result.now (content_of self.now) ≡ self.now }
+    {
+        self.begins.as_slice()
+    }
+
+    /// Appends other lines: their content, and where each but the first begins in it.
+    pub fn append(&mut self, more: &str, begins: &[usize]) -> Result<(), AllocError>
+        requires { IsContent (lines_in begins.now more.now) more.now begins.now }
+        ensures ok { OnOk result (self.new ≡ self.old ++ lines_in begins.now more.now) }
         ensures err { OnErr result (self.new ≡ self.old) }
     {
         let end = self.text.len();
-        self.text.reserve(more.text.len())?;
-        append_begins(&mut self.begins, end, more.begins.as_slice())?;
-        self.text.push_str(more.text.as_str())?;
+        self.text.reserve(more.len())?;
+        append_begins(&mut self.begins, end, begins)?;
+        self.text.push_str(more)?;
         Ok(())
     }
 }
@@ -157,16 +153,6 @@ fn write_begin(begins: &mut Vec<usize>, text: &str) -> Result<(), AllocError>
     }
     begins.push(text.len())?;
     Ok(())
-}
-
-/// Writes a line.
-fn write_line(text: &mut String, letter: Letter, part: &str) -> Result<(), AllocError>
-    ensures { OnOk result (string_bytes text.new
-        ≡ string_bytes text.old ++ content_of (record { letter = letter; text = part.now } ∷ [])) }
-{
-    text.push_str(letter.as_str())?;
-    text.push_str(part)?;
-    text.push('\n')
 }
 
 /// Appends where a text begins that is appended to another, and where the lines of that text begin

@@ -9,9 +9,11 @@ mod content;
 mod letter;
 mod log_name;
 mod name_table;
+mod one_line;
 mod one_or_many;
 mod parcel;
 mod parcel_builder;
+mod shared;
 mod text;
 
 pub use block::{Block, cut};

@@ -13,9 +13,7 @@ pub const LOG: &str = STDIO;
 
 // An update by a line that has its number.
 fn numbered(alloc: Global, seq: u64) -> Result<Event, AllocError> {
-    let line = format!(in alloc;
-        "line {seq} of the work that is timed, as long as a compiler writes\n"
-    )?;
+    let line = format!(in alloc; "line {seq} of the work\n")?;
     update(alloc, seq, 0, LogName::stdio(), line.as_str())
 }
 

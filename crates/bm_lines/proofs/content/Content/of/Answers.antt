@@ -1,26 +1,19 @@
-use Rattle.std.proofs.Common.{◌∙◌, ◌∷◌, [], ap, sym, refl, map, lit<, List, ℕ}
+use Rattle.std.proofs.Common.{◌<◌, map, length, string_bytes, arith}
 use Rattle.std.specs.Prelude.{◌==◌}
-use Rattle.std.specs.Borrow.{Bor}
 use Rattle.std.specs.List.{slice_split}
-use Rattle.std.proofs.lemmas.Result.{IfOk-weaker}
-use Rattle.std.proofs.lemmas.Str.Pattern.{strip_suffix_char}
-use Rattle.bm_lines.proofs.Cuts.{lettered, parts_stripped, parts-nowhere}
+use Rattle.std.proofs.lemmas.List.{length-map}
+use Rattle.bm_lines.proofs.Contents.{content-in, lines-of-content}
+use Rattle.bm_lines.proofs.Cuts.{lettered, some_parts}
 use Rattle.bm_lines.proofs.content.Content.of.Goals as goal
 
-pub returns-in-Some : goal.returns-in-Some
-returns-in-Some c =
-    let same = parts_stripped c.args.text.now c.strip_suffix.result c.args.text refl c.requires (strip_suffix_char 10 c.args.text.now c.strip_suffix.result c.strip_suffix.ensures.cases (lit< tt)) in
-    let lines = ap (map (lettered c.args.letter)) (ap (λ (t : Bor (List ℕ)). slice_split (λ b. b == 10) t.now) c.unwrap_or-parts.ensures ∙ same) in
-    IfOk-weaker c.of_parts.result _ _ (λ v h. h ∙ lines) c.of_parts.ensures
+pub invariant_of-result : goal.invariant_of-result
+invariant_of-result c =
+    let parts = slice_split (λ b. b == 10) c.args.parts.now in
+    let some : 0 < length (map (lettered c.args.letter) parts) = omega (arith, length-map parts (lettered c.args.letter), some_parts c.args.parts.now) in
+    content-in (map (lettered c.args.letter) parts) (string_bytes c.write_parts.new.text) c.write_parts.new.begins.items some c.in_ok-write_parts.ensures
 
-pub returns-in-None : goal.returns-in-None
-returns-in-None c =
-    let same = parts_stripped c.args.text.now c.strip_suffix.result c.args.text refl c.requires (strip_suffix_char 10 c.args.text.now c.strip_suffix.result c.strip_suffix.ensures.cases (lit< tt)) in
-    let one =
-    ap (λ line. line ∷ []) (sym c.as_bytes.ensures.value)
-    ∙ sym (parts-nowhere c.as_bytes.result.now c.in-None.ensures)
-    ∙ ap (slice_split (λ b. b == 10)) c.as_bytes.ensures.value
-    ∙ ap (λ (t : Bor (List ℕ)). slice_split (λ b. b == 10) t.now) c.unwrap_or-parts.ensures
-    ∙ same in
-    let lines = ap (map (lettered c.args.letter)) one in
-    IfOk-weaker c.of_line.result _ _ (λ v h. h ∙ lines) c.of_line.ensures
+pub returns : goal.returns
+returns c =
+    let parts = slice_split (λ b. b == 10) c.args.parts.now in
+    let some : 0 < length (map (lettered c.args.letter) parts) = omega (arith, length-map parts (lettered c.args.letter), some_parts c.args.parts.now) in
+    lines-of-content (map (lettered c.args.letter) parts) (string_bytes c.write_parts.new.text) c.write_parts.new.begins.items some c.in_ok-write_parts.ensures

@@ -6,3 +6,6 @@ invariant_of-self c = IsPlacing-pop c.self.inside.blocks.items c.pop.new.self.it
 
 pub invariant_of-self-in-Some-2 : goal.invariant_of-self-in-Some-2
 invariant_of-self-in-Some-2 c = IsPlacing-pop c.self.inside.blocks.items c.pop.new.self.items c.in-Some.last c.self.inside.lines c.self.invariant c.in-Some.ensures.items
+
+pub invariant_of-self-in-Some-3 : goal.invariant_of-self-in-Some-3
+invariant_of-self-in-Some-3 c = IsPlacing-pop c.self.inside.blocks.items c.pop.new.self.items c.in-Some.last c.self.inside.lines c.self.invariant c.in-Some.ensures.items
