@@ -74,9 +74,13 @@ impl Shared {
 
     /// Appends other lines. Where the old ones are shared, all others keep them as they are.
     pub fn extend(&mut self, alloc: Global, more: &Shared) -> Result<(), AllocError>
-        ensures ok { OnOk result (shared_lines self.new ≡ shared_lines self.old ++ shared_lines more.now) }
+        ensures ok { OnOk result (shared_lines self.new
+            ≡ shared_lines self.old ++ shared_lines more.now) }
         ensures err { OnErr result (shared_lines self.new ≡ shared_lines self.old) }
     {
+        if let Shared::Nothing = more {
+            return Ok(());
+        }
         match self {
             Shared::Nothing => *self = more.share()?,
             Shared::One(line) => {
