@@ -7,6 +7,7 @@ mod Kept
 pub mod Picking
 mod Prefixes
 mod Relays
+mod Remembering
 mod Counting
 mod Served
 mod Writing

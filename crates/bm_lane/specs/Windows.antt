@@ -1,7 +1,11 @@
 -- What a window onto the copy is to a contract.
-use Rattle.std.specs.Prelude.{◌≡◌, List, All}
+use Rattle.std.specs.Prelude.{◌≡◌, List, All, Some}
+use Rattle.left_right.specs.Sides.{view}
 use Rattle.bm_session.specs.declared.item.Item.{Item}
-use Rattle.bm_lane.specs.Fronts.{HistoryId}
+use Rattle.bm_store.specs.Book.{book}
+use Rattle.bm_store.specs.Paging.{HoldsPages}
+use Rattle.bm_lane.specs.Fronts.{Front, HistoryId}
+use Rattle.bm_lane.specs.declared.window.Eye.{Eye}
 
 -- which history it sees, and what it saw of that
 pub record Looked : Type 0 where
@@ -11,3 +15,7 @@ pub record Looked : Type 0 where
 -- each has seen this much of this history
 abbrev pub AllFresh : HistoryId → List Item → List Looked → Type 0
 AllFresh b seen ws = All (λ (w : Looked). (w.history ≡ b) × (w.seen ≡ seen)) ws
+
+-- the eye saw this last, and its pages are those of a log of that
+abbrev pub Remembers : Eye → Front → Type 0
+Remembers e f = (view e.reader.place ≡ Some f) × HoldsPages (book f.log) e.pages

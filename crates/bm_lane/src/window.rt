@@ -4,13 +4,17 @@ ghost use Rattle.left_right.specs.Sides.{view};
 ghost use Rattle.bm_lane.specs.Answers.{Answered, told, lines_of_book, state_of_book};
 ghost use Rattle.bm_lane.specs.Copies.{kept_book};
 ghost use Rattle.bm_lane.specs.Fronts.{Front as History};
+ghost use Rattle.bm_lane.specs.Windows.{Remembers};
+ghost use Rattle.bm_store.specs.Book.{book};
+ghost use Rattle.bm_store.specs.Paging.{HoldsPages};
 ghost use mathlib.Core.List.{IsPrefix};
 
 use crate::history::Front;
 use crate::published::{Grows, Published, Sees, Sight};
-use bm_store::{Book, Chunk, LogState, ViewRefusal};
+use bm_store::{Book, Chunk, LogState, Pages, ViewRefusal};
 use core::mem::replace_with;
 use left_right::reader::Reader;
+use std::alloc::Global;
 use std::marker::Model;
 
 pub type CopyReader = Reader<Published, Sight, Grows>;
@@ -39,10 +43,17 @@ struct Sighting<T: Drop> {
     answer: T,
 }
 
+/// A reader of the copy, with pages of the log that it was asked for last.
+#[derive(Drop)]
+pub struct Eye {
+    pub reader: CopyReader,
+    pub pages: Pages,
+}
+
 /// A reader of the copy, with what it saw last.
 #[derive(Drop)]
 pub struct Window {
-    reader: CopyReader,
+    eye: Eye,
     front: Front,
     count: u64,
 }
@@ -50,24 +61,23 @@ pub struct Window {
 impl Model for Window {
     ghost use Rattle.std.specs.Prelude.{◌≡◌, length, Some};
     ghost use Rattle.logbook.specs.Pages.{book_coded};
-    ghost use Rattle.bm_lane.specs.Windows.{Looked};
-    ghost use Rattle.left_right.specs.Sides.{view as seat_view};
+    ghost use Rattle.bm_lane.specs.Windows.{Looked, Remembers};
 
     ghost Value = { Looked };
 
     ghost view = { λ w. record { history = w.front.book; seen = w.front.log } };
 
-    ghost invariant = { λ w. (seat_view w.reader.place ≡ Some w.front)
-        × (w.count ≡ length w.front.log) };
+    ghost invariant = { λ w. Remembers w.eye w.front × (w.count ≡ length w.front.log) };
 }
 
-fn lines_in(seen: &Published, asked: &Asked<'_>) -> Result<Chunk, ViewRefusal>
-    requires { seen.now.book ≡ kept_book seen.now.front.log }
-    ensures { Answered (lines_of_book seen.now.front.log asked.now.command asked.now.name.now
+fn lines_in(seen: &Published, pages: &mut Pages, asked: &Asked<'_>) -> Result<Chunk, ViewRefusal>
+    requires book { seen.now.book ≡ kept_book seen.now.front.log }
+    requires pages { HoldsPages (book seen.now.front.log) pages.old }
+    ensures pages { HoldsPages (book seen.now.front.log) pages.new }
+    ensures answer { Answered (lines_of_book seen.now.front.log asked.now.command asked.now.name.now
         asked.now.offset asked.now.limit) result }
 {
-    seen.book
-        .slice(asked.command, asked.name, asked.offset, asked.limit)
+    seen.book.slice_by(pages, asked.command, asked.name, asked.offset, asked.limit)
 }
 
 fn state_in(seen: &Published, log: &LogOf<'_>) -> Result<LogState, ViewRefusal>
@@ -81,40 +91,46 @@ fn state_in(seen: &Published, log: &LogOf<'_>) -> Result<LogState, ViewRefusal>
 }
 
 fn look_for_lines(
-    reader: CopyReader,
+    eye: Eye,
     asked: &Asked<'_>,
-) -> (CopyReader, Option<Sighting<Result<Chunk, ViewRefusal>>>)
-    ensures { MatchOption result.1 (view result.0.place ≡ view reader.place)
-        (λ s. (view result.0.place ≡ Some s.front) × (s.count ≡ length s.front.log)
-        × ((f : History) → view reader.place ≡ Some f
+) -> (Eye, Option<Sighting<Result<Chunk, ViewRefusal>>>)
+    requires { (f : History) × Remembers eye f }
+    ensures { MatchOption result.1 ((f : History) → Remembers eye f → Remembers result.0 f)
+        (λ s. Remembers result.0 s.front × (s.count ≡ length s.front.log)
+        × ((f : History) → Remembers eye f
         → (s.front.book ≡ f.book) × IsPrefix f.log s.front.log)
         × Answered (lines_of_book s.front.log asked.now.command asked.now.name.now
         asked.now.offset asked.now.limit) s.answer) }
 {
+    let Eye { reader, pages } = eye;
+    let mut pages = pages;
     match reader.enter_as::<Sees>() {
         Ok(reading) => {
             let seen = reading.get();
             let sighting = Sighting {
                 front: seen.front.again(),
                 count: seen.count,
-                answer: lines_in(seen, asked),
+                answer: lines_in(seen, &mut pages, asked),
             };
-            (reading.leave(), Some(sighting))
+            let reader = reading.leave();
+            (Eye { reader, pages }, Some(sighting))
         }
-        Err(reader) => (reader, None),
+        Err(reader) => (Eye { reader, pages }, None),
     }
 }
 
 fn look_for_state(
-    reader: CopyReader,
+    eye: Eye,
     log: &LogOf<'_>,
-) -> (CopyReader, Option<Sighting<Result<LogState, ViewRefusal>>>)
-    ensures { MatchOption result.1 (view result.0.place ≡ view reader.place)
-        (λ s. (view result.0.place ≡ Some s.front) × (s.count ≡ length s.front.log)
-        × ((f : History) → view reader.place ≡ Some f
+) -> (Eye, Option<Sighting<Result<LogState, ViewRefusal>>>)
+    requires { (f : History) × Remembers eye f }
+    ensures { MatchOption result.1 ((f : History) → Remembers eye f → Remembers result.0 f)
+        (λ s. Remembers result.0 s.front × (s.count ≡ length s.front.log)
+        × ((f : History) → Remembers eye f
         → (s.front.book ≡ f.book) × IsPrefix f.log s.front.log)
         × (s.answer ≡ told (state_of_book s.front.log log.now.command log.now.name.now))) }
 {
+    let Eye { reader, pages } = eye;
     match reader.enter_as::<Sees>() {
         Ok(reading) => {
             let seen = reading.get();
@@ -123,20 +139,24 @@ fn look_for_state(
                 count: seen.count,
                 answer: state_in(seen, log),
             };
-            (reading.leave(), Some(sighting))
+            let reader = reading.leave();
+            (Eye { reader, pages }, Some(sighting))
         }
-        Err(reader) => (reader, None),
+        Err(reader) => (Eye { reader, pages }, None),
     }
 }
 
 impl Window {
     /// A window that has seen what the writer told.
-    pub fn over(reader: CopyReader, front: Front, count: u64) -> Window
+    pub fn over(alloc: Global, reader: CopyReader, front: Front, count: u64) -> Window
         requires { (view reader.place ≡ Some front) × (count ≡ length front.log) }
         ensures { result ≡ record { history = front.book; seen = front.log } }
     {
         Window {
-            reader,
+            eye: Eye {
+                reader,
+                pages: Pages::new(alloc),
+            },
             front,
             count,
         }
@@ -168,7 +188,7 @@ impl Window {
             front,
             count,
             answer,
-        } = replace_with(&mut self.reader, asked, look_for_lines)?;
+        } = replace_with(&mut self.eye, asked, look_for_lines)?;
         self.front = front;
         self.count = count;
         Some(answer)
@@ -185,7 +205,7 @@ impl Window {
             front,
             count,
             answer,
-        } = replace_with(&mut self.reader, log, look_for_state)?;
+        } = replace_with(&mut self.eye, log, look_for_state)?;
         self.front = front;
         self.count = count;
         Some(answer)

@@ -7,7 +7,7 @@ use crate::site::Answering;
 use futures::StreamExt;
 use hyper::rt::TokioTimer;
 use hyper::server::conn::http1;
-use std::alloc::AllocGlobal;
+use std::alloc::{AllocGlobal, Global};
 use std::hash::RandomState;
 use std::net::Net;
 use std::random::RandomSource;
@@ -21,6 +21,17 @@ use tokio::sync::{Semaphore, oneshot};
 
 /// How many milliseconds connections may go on after the stop.
 const GRACE: u64 = 200;
+
+/// A block of so many bytes, once it was freed, has the C library's heap keep all smaller ones that
+/// are freed later for those who ask next. Until then it gives large ones back to the system, and
+/// each answer of some 130 KB or more would have its pages made anew (`M_MMAP_THRESHOLD` and
+/// `M_TRIM_THRESHOLD` in the manual page `mallopt(3)`).
+const KEPT: usize = 16_777_216;
+
+// Has the heap keep what answers took. Where memory is wanting, it goes on as it did.
+fn keep_freed(alloc: Global) {
+    let _ = Vec::<u8>::with_capacity(alloc, KEPT);
+}
 
 /// What a server allows.
 #[derive(Clone, Copy)]
@@ -49,6 +60,7 @@ where
     requires { 0 < limits.workers }
 {
     let alloc = rt.alloc();
+    keep_freed(alloc);
     let mut runtime = Runtime::with_worker_threads(&rt, limits.workers)?;
     runtime.set_shutdown_timeout(Some(Duration::from_millis(GRACE)));
     let listener = TcpListener::from_std(listener, runtime.handle().reactor())?;

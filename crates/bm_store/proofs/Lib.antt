@@ -1,7 +1,9 @@
 pub mod Books
 pub mod Gathering
+pub mod Growing
 pub mod Looks
 pub mod Meaning
+pub mod Paging
 pub mod Places
 mod Rows
 pub mod Shelves

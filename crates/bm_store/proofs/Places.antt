@@ -27,7 +27,7 @@ placed_after-take n zero bs = refl
 placed_after-take n (suc i) [] = refl
 placed_after-take n (suc i) (b ∷ bs) = ap (λ l. (record { first = n; block = b }) ∷ l) (placed_after-take (n + length b) i bs)
 
-map-take : {A B : Type 0} (f : A → B) (i : ℕ) (xs : List A) → map f (take i xs) ≡ take i (map f xs)
+pub map-take : {A B : Type 0} (f : A → B) (i : ℕ) (xs : List A) → map f (take i xs) ≡ take i (map f xs)
 map-take f zero xs = refl
 map-take f (suc i) [] = refl
 map-take f (suc i) (x ∷ xs) = ap (λ l. f x ∷ l) (map-take f i xs)

@@ -5,4 +5,5 @@ pub mod Laws
 -- How a book lies in memory. They help proofs: the contracts of `Book::new` and `Book::apply` tie
 -- what they say to Book.
 pub mod Kept
+pub mod Paging
 pub mod Placing

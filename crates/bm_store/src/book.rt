@@ -3,11 +3,13 @@
 ghost use Rattle.std.specs.Prelude.{◌≡◌, ◌⊎◌, [], length, map, slice_get, Ok, Err, OnOk, OnErr, MatchOption};
 ghost use Rattle.std.specs.Option.{option_copied};
 ghost use Rattle.bm_store.specs.Book.{change_at, after_item, placed_in, chunk_in, chunk_of, state_in, stdio_lines_in};
+ghost use Rattle.bm_store.specs.Paging.{ArePages, HoldsPages, blocks_in};
 ghost use Rattle.bm_store.specs.Kept.{logs_in, kept_after, kept_with_parcel, kept_with_end};
 
 use crate::chunk::{Chunk, LogState, ViewRefusal};
 use crate::command_logs::CommandLogs;
-use crate::gather::chunk;
+use crate::page::Page;
+use crate::pages::Pages;
 use crate::placed::Placed;
 use bm_lines::Parcel;
 use bm_session::{Item, Results};
@@ -150,12 +152,50 @@ impl Book {
             ≡ Err ViewRefusal.NoLog) (λ lines. (result ≡ Ok (chunk_of offset lines))
             ⊎ (result ≡ Err ViewRefusal.Mem)) }
     {
-        let Some(blocks) = self.blocks(k, name) else {
-            return Err(ViewRefusal::NoLog);
-        };
-        match chunk(*self.commands.allocator(), blocks, offset, limit) {
-            Ok(chunk) => Ok(chunk),
-            Err(_) => Err(ViewRefusal::Mem),
+        self.gather(&mut [], k, name, offset, limit)
+    }
+
+    /// The same, by pages: of a log that is asked for again and again they keep the text of small
+    /// blocks side by side, so that not each block is visited each time.
+    pub fn slice_by(
+        &self,
+        pages: &mut Pages,
+        k: u64,
+        name: &str,
+        offset: u64,
+        limit: u64,
+    ) -> Result<Chunk, ViewRefusal>
+        requires { HoldsPages (logs_in self.now) pages.old }
+        ensures pages { HoldsPages (logs_in self.now) pages.new }
+        ensures answer { MatchOption (chunk_in (logs_in self.now) k name.now offset limit) (result
+            ≡ Err ViewRefusal.NoLog) (λ lines. (result ≡ Ok (chunk_of offset lines))
+            ⊎ (result ≡ Err ViewRefusal.Mem)) }
+    {
+        pages.turn_to(k, name);
+        self.gather(pages.slots.as_mut_slice(), k, name, offset, limit)
+    }
+
+    /// The lines of a log, by pages of it.
+    fn gather(
+        &self,
+        slots: &mut [Option<Page>],
+        k: u64,
+        name: &str,
+        offset: u64,
+        limit: u64,
+    ) -> Result<Chunk, ViewRefusal>
+        requires { ArePages (blocks_in (logs_in self.now) k name.now) slots.old }
+        ensures pages { ArePages (blocks_in (logs_in self.now) k name.now) slots.new }
+        ensures room { length slots.new ≡ length slots.old }
+        ensures answer { MatchOption (chunk_in (logs_in self.now) k name.now offset limit) (result
+            ≡ Err ViewRefusal.NoLog) (λ lines. (result ≡ Ok (chunk_of offset lines))
+            ⊎ (result ≡ Err ViewRefusal.Mem)) }
+    {
+        match self.command(k) {
+            Some(command) => {
+                command.chunk(*self.commands.allocator(), slots, name, offset, limit)
+            }
+            None => Err(ViewRefusal::NoLog),
         }
     }
 }

@@ -4,10 +4,13 @@ ghost use Rattle.std.specs.Prelude.{◌≡◌, ◌++◌, ◌≤◌, ◌<◌, ◌
 ghost use Rattle.bm_lines.specs.Lines.{content_of};
 ghost use Rattle.bm_session.specs.Trace.{joined, slice};
 ghost use Rattle.bm_store.specs.Book.{placed, chunk_of};
+ghost use Rattle.bm_store.specs.Paging.{ArePages};
 ghost use Rattle.bm_store.specs.Placing.{block_at};
 ghost use Rattle.bm_store.specs.declared.placed.Placed.{Placed};
 
 use crate::chunk::Chunk;
+use crate::page::Page;
+use crate::pages::{make_page, whole_page};
 use crate::placed::Placed;
 use bm_lines::Text;
 use std::alloc::{AllocError, Global};
@@ -49,37 +52,64 @@ fn seek(blocks: &[Placed], offset: u64) -> (usize, u64)
     (low, offset - before)
 }
 
-/// Appends the content of the lines of all blocks behind the first `skip`, of `limit` lines at
-/// most, and counts them.
-fn gather(out: &mut String, blocks: &[Placed], skip: u64, limit: u64) -> Result<u64, AllocError>
+/// Appends the content of the lines of the blocks from the place `start` on, behind the first
+/// `skip`, of `limit` lines at most, and counts them. Where all of a page is asked for, its text is
+/// appended at once; where there is none, it is made first if there is room for it.
+fn gather(
+    out: &mut String,
+    blocks: &[Placed],
+    slots: &mut [Option<Page>],
+    start: usize,
+    skip: u64,
+    limit: u64,
+) -> Result<u64, AllocError>
+    requires { ArePages (map block_at blocks.now) slots.old }
+    ensures pages { ArePages (map block_at blocks.now) slots.new }
+    ensures room { length slots.new ≡ length slots.old }
     ensures content { IfOk result (λ n. string_bytes out.new
         ≡ string_bytes out.old
-        ++ content_of (slice (joined (map block_at blocks.now)) skip limit)) }
+        ++ content_of (slice (joined (map block_at (drop start blocks.now))) skip limit)) }
     ensures count { IfOk result (λ n. n
-        ≡ length (slice (joined (map block_at blocks.now)) skip limit)) }
+        ≡ length (slice (joined (map block_at (drop start blocks.now))) skip limit)) }
 {
+    let mut at = start;
     let mut skip = skip;
     let mut left = limit;
-    for placed in blocks {
-        if left == 0 {
-            break;
+    while at < blocks.len() && left > 0 {
+        make_page(*out.allocator(), slots, blocks, at, skip, left);
+        if let Some(page) = whole_page(slots, at, skip, left) {
+            out.push_str(page.text.as_str())?;
+            left -= page.lines;
+            at = page.to;
+        } else {
+            let block = &blocks[at].block;
+            let taken = block.append_to(out, skip, left)?;
+            left -= taken;
+            skip = skip.saturating_sub(block.len() as u64);
+            at += 1;
         }
-        let taken = placed.block.append_to(out, skip, left)?;
-        left -= taken;
-        skip = skip.saturating_sub(placed.block.len() as u64);
     }
     Ok(limit - left)
 }
 
-/// The asked lines of a log whose blocks stand at their places.
-pub fn chunk(alloc: Global, blocks: &[Placed], offset: u64, limit: u64) -> Result<Chunk, AllocError>
-    requires { blocks.now ≡ placed (map block_at blocks.now) }
-    ensures { IfOk result (λ c. c
+/// The asked lines of a log whose blocks stand at their places, by its pages.
+pub fn chunk(
+    alloc: Global,
+    blocks: &[Placed],
+    slots: &mut [Option<Page>],
+    offset: u64,
+    limit: u64,
+) -> Result<Chunk, AllocError>
+    requires placed { blocks.now ≡ placed (map block_at blocks.now) }
+    requires pages { ArePages (map block_at blocks.now) slots.old }
+    ensures pages { ArePages (map block_at blocks.now) slots.new }
+    ensures room { length slots.new ≡ length slots.old }
+    ensures chunk { IfOk result (λ c. c
         ≡ chunk_of offset (slice (joined (map block_at blocks.now)) offset limit)) }
 {
     let (start, skip) = seek(blocks, offset);
     let mut content = String::new(alloc);
-    let lines = gather(&mut content, &blocks[start..], skip, limit)?;
+    let lines = gather(&mut content, blocks, slots, start, skip, limit)?;
     Ok(Chunk {
         first_line: offset,
         lines,

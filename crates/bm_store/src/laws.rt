@@ -1,6 +1,6 @@
 //! Whose logs a book has, as a contract.
 
-ghost use Rattle.bm_store.specs.Laws.{BooksHaveTheLogs, VisibleBooksHaveTheLogs, BooksAnswerLooks, KeptBooksMeanLogs};
+ghost use Rattle.bm_store.specs.Laws.{BooksHaveTheLogs, VisibleBooksHaveTheLogs, BooksAnswerLooks, KeptBooksMeanLogs, PagesStay};
 
 /// Where each event of a trace was taken, the book of its items has the logs, by name, and the
 /// outcomes of the trace; the book of the first `d` items has those of the prefix that viewers see,
@@ -14,4 +14,9 @@ pub fn books_have_the_logs()
 /// The lists that contracts see of a book mean the logs that its items make.
 pub fn kept_books_mean_logs()
     ensures { KeptBooksMeanLogs }
+{}
+
+/// The pages that are held of a log are its pages, whatever items come.
+pub fn pages_stay()
+    ensures { PagesStay }
 {}

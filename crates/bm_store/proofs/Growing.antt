@@ -1,0 +1,81 @@
+-- A log only gets blocks at its end, so that its pages stay its pages.
+use Rattle.std.proofs.Common.{refl, sym, subst, ℕ, zero, suc, Bool, true, false, cond, List, [], ◌∷◌, ◌++◌, length, fold, Some, None, map}
+use Rattle.std.specs.Prelude.{◌==◌, is_none, string_bytes}
+use Rattle.std.proofs.lemmas.List.{append-nil}
+use Rattle.std.proofs.lemmas.List.Sums.{fold-append}
+use mathlib.Core.List.{IsPrefix}
+use Rattle.bm_lines.specs.Lines.{Line}
+use Rattle.bm_lines.specs.Names.{Name}
+use Rattle.bm_lines.specs.Parcels.{blocks_under}
+use Rattle.bm_lines.specs.declared.parcel.Part.{Part}
+use Rattle.bm_session.specs.declared.item.Item.{Item}
+use Rattle.bm_session.specs.declared.item.Item.TheVariants.{Open, Lines, End, Gone}
+use Rattle.bm_session.specs.declared.results.Results.{Results}
+use Rattle.bm_session.specs.declared.results.Results.TheVariants.{Retry}
+use Rattle.bm_store.specs.declared.pages.Pages.{Pages}
+use Rattle.bm_store.specs.Book.{Logs, no_logs, with_parcel, with_end, change_at, after_item, book}
+use Rattle.bm_store.specs.Laws.{PagesStay}
+use Rattle.bm_store.specs.Paging.{ArePages, HoldsPages, blocks_in}
+use Rattle.bm_store.proofs.Paging.{ArePages-grow}
+
+same : (bs : List (List Line)) → IsPrefix bs bs
+same bs = ([], append-nil bs)
+
+-- a log grows at its end, whatever comes of its command
+abbrev Grows : (Logs → Logs) → Type 0
+Grows f = (l : Logs) (name : Name) → IsPrefix (l.blocks name) ((f l).blocks name)
+
+with_parcel-grows : (parcel : List Part) → Grows (with_parcel parcel)
+with_parcel-grows parcel l name = go (is_none l.ended)
+  where
+    go : (b : Bool) → IsPrefix (l.blocks name) ((cond b (record { blocks = λ n. l.blocks n ++ blocks_under n parcel; ended = None }) l).blocks name)
+    go true = (blocks_under name parcel, refl)
+    go false = same (l.blocks name)
+
+with_end-grows : (r : Results) → Grows (with_end r)
+with_end-grows r l name = go (is_none l.ended)
+  where
+    go : (b : Bool) → IsPrefix (l.blocks name) ((cond b (record { blocks = l.blocks; ended = Some r }) l).blocks name)
+    go true = same (l.blocks name)
+    go false = same (l.blocks name)
+
+change-grows : (f : Logs → Logs) → Grows f → (j : ℕ) (ls : List Logs) (k : ℕ) (name : Name) → IsPrefix (blocks_in ls k name) (blocks_in (change_at j f ls) k name)
+change-grows f g j [] k name = same (blocks_in [] k name)
+change-grows f g zero (l ∷ ls) zero name = g l name
+change-grows f g zero (l ∷ ls) (suc k) name = same (blocks_in ls k name)
+change-grows f g (suc j) (l ∷ ls) zero name = same (l.blocks name)
+change-grows f g (suc j) (l ∷ ls) (suc k) name = change-grows f g j ls k name
+
+map-grows : (f : Logs → Logs) → Grows f → (ls : List Logs) (k : ℕ) (name : Name) → IsPrefix (blocks_in ls k name) (blocks_in (map f ls) k name)
+map-grows f g [] k name = same (blocks_in [] k name)
+map-grows f g (l ∷ ls) zero name = g l name
+map-grows f g (l ∷ ls) (suc k) name = map-grows f g ls k name
+
+open-grows : (ls : List Logs) (k : ℕ) (name : Name) → IsPrefix (blocks_in ls k name) (blocks_in (ls ++ no_logs ∷ []) k name)
+open-grows [] zero name = same []
+open-grows [] (suc k) name = same []
+open-grows (l ∷ ls) zero name = same (l.blocks name)
+open-grows (l ∷ ls) (suc k) name = open-grows ls k name
+
+item-grows : (ls : List Logs) (i : Item) (k : ℕ) (name : Name) → IsPrefix (blocks_in ls k name) (blocks_in (after_item ls i) k name)
+item-grows ls (Open j) k name = go (j == length ls)
+  where
+    go : (b : Bool) → IsPrefix (blocks_in ls k name) (blocks_in (cond b (ls ++ no_logs ∷ []) ls) k name)
+    go true = open-grows ls k name
+    go false = same (blocks_in ls k name)
+item-grows ls (Lines j parcel) k name = change-grows (with_parcel parcel) (with_parcel-grows parcel) j ls k name
+item-grows ls (End j r) k name = change-grows (with_end r) (with_end-grows r) j ls k name
+item-grows ls Gone k name = map-grows (with_end Retry) (with_end-grows Retry) ls k name
+
+pages-after : (ps : Pages) (ls : List Logs) (i : Item) → HoldsPages ls ps → HoldsPages (after_item ls i) ps
+pages-after ps ls i h =
+    let more = item-grows ls i ps.command (string_bytes ps.name) in
+    subst (λ bs. ArePages bs ps.slots.items) more.1 (ArePages-grow (blocks_in ls ps.command (string_bytes ps.name)) more.0 ps.slots.items h)
+
+pages-fold : (ps : Pages) (js : List Item) (ls : List Logs) → HoldsPages ls ps → HoldsPages (fold after_item ls js) ps
+pages-fold ps [] ls h = h
+pages-fold ps (j ∷ js) ls h = pages-fold ps js (after_item ls j) (pages-after ps ls j h)
+
+-- the law
+pub pages_stay : PagesStay
+pages_stay is js ps h = subst (λ ls. HoldsPages ls ps) (sym (fold-append after_item [] is js)) (pages-fold ps js (book is) h)
