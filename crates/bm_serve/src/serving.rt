@@ -26,7 +26,7 @@ const GRACE: u64 = 200;
 /// are freed later for those who ask next. Until then it gives large ones back to the system, and
 /// each answer of some 130 KB or more would have its pages made anew (`M_MMAP_THRESHOLD` and
 /// `M_TRIM_THRESHOLD` in the manual page `mallopt(3)`).
-const KEPT: usize = 16_777_216;
+const KEPT: usize = 4_194_304;
 
 // Has the heap keep what answers took. Where memory is wanting, it goes on as it did.
 fn keep_freed(alloc: Global) {
