@@ -45,7 +45,7 @@ struct Sighting<T: Drop> {
 
 /// A reader of the copy, with pages of the log that it was asked for last.
 #[derive(Drop)]
-pub struct Eye {
+pub struct PagedReader {
     pub reader: CopyReader,
     pub pages: Pages,
 }
@@ -53,7 +53,7 @@ pub struct Eye {
 /// A reader of the copy, with what it saw last.
 #[derive(Drop)]
 pub struct Window {
-    eye: Eye,
+    paged: PagedReader,
     front: Front,
     count: u64,
 }
@@ -67,7 +67,7 @@ impl Model for Window {
 
     ghost view = { λ w. record { history = w.front.book; seen = w.front.log } };
 
-    ghost invariant = { λ w. Remembers w.eye w.front × (w.count ≡ length w.front.log) };
+    ghost invariant = { λ w. Remembers w.paged w.front × (w.count ≡ length w.front.log) };
 }
 
 fn lines_in(seen: &Published, pages: &mut Pages, asked: &Asked<'_>) -> Result<Chunk, ViewRefusal>
@@ -91,18 +91,18 @@ fn state_in(seen: &Published, log: &LogOf<'_>) -> Result<LogState, ViewRefusal>
 }
 
 fn look_for_lines(
-    eye: Eye,
+    paged: PagedReader,
     asked: &Asked<'_>,
-) -> (Eye, Option<Sighting<Result<Chunk, ViewRefusal>>>)
-    requires { (f : History) × Remembers eye f }
-    ensures { MatchOption result.1 ((f : History) → Remembers eye f → Remembers result.0 f)
+) -> (PagedReader, Option<Sighting<Result<Chunk, ViewRefusal>>>)
+    requires { (f : History) × Remembers paged f }
+    ensures { MatchOption result.1 ((f : History) → Remembers paged f → Remembers result.0 f)
         (λ s. Remembers result.0 s.front × (s.count ≡ length s.front.log)
-        × ((f : History) → Remembers eye f
+        × ((f : History) → Remembers paged f
         → (s.front.book ≡ f.book) × IsPrefix f.log s.front.log)
         × Answered (lines_of_book s.front.log asked.now.command asked.now.name.now
         asked.now.offset asked.now.limit) s.answer) }
 {
-    let Eye { reader, pages } = eye;
+    let PagedReader { reader, pages } = paged;
     let mut pages = pages;
     match reader.enter_as::<Sees>() {
         Ok(reading) => {
@@ -113,24 +113,24 @@ fn look_for_lines(
                 answer: lines_in(seen, &mut pages, asked),
             };
             let reader = reading.leave();
-            (Eye { reader, pages }, Some(sighting))
+            (PagedReader { reader, pages }, Some(sighting))
         }
-        Err(reader) => (Eye { reader, pages }, None),
+        Err(reader) => (PagedReader { reader, pages }, None),
     }
 }
 
 fn look_for_state(
-    eye: Eye,
+    paged: PagedReader,
     log: &LogOf<'_>,
-) -> (Eye, Option<Sighting<Result<LogState, ViewRefusal>>>)
-    requires { (f : History) × Remembers eye f }
-    ensures { MatchOption result.1 ((f : History) → Remembers eye f → Remembers result.0 f)
+) -> (PagedReader, Option<Sighting<Result<LogState, ViewRefusal>>>)
+    requires { (f : History) × Remembers paged f }
+    ensures { MatchOption result.1 ((f : History) → Remembers paged f → Remembers result.0 f)
         (λ s. Remembers result.0 s.front × (s.count ≡ length s.front.log)
-        × ((f : History) → Remembers eye f
+        × ((f : History) → Remembers paged f
         → (s.front.book ≡ f.book) × IsPrefix f.log s.front.log)
         × (s.answer ≡ told (state_of_book s.front.log log.now.command log.now.name.now))) }
 {
-    let Eye { reader, pages } = eye;
+    let PagedReader { reader, pages } = paged;
     match reader.enter_as::<Sees>() {
         Ok(reading) => {
             let seen = reading.get();
@@ -140,9 +140,9 @@ fn look_for_state(
                 answer: state_in(seen, log),
             };
             let reader = reading.leave();
-            (Eye { reader, pages }, Some(sighting))
+            (PagedReader { reader, pages }, Some(sighting))
         }
-        Err(reader) => (Eye { reader, pages }, None),
+        Err(reader) => (PagedReader { reader, pages }, None),
     }
 }
 
@@ -153,7 +153,7 @@ impl Window {
         ensures { result ≡ record { history = front.book; seen = front.log } }
     {
         Window {
-            eye: Eye {
+            paged: PagedReader {
                 reader,
                 pages: Pages::new(alloc),
             },
@@ -188,7 +188,7 @@ impl Window {
             front,
             count,
             answer,
-        } = replace_with(&mut self.eye, asked, look_for_lines)?;
+        } = replace_with(&mut self.paged, asked, look_for_lines)?;
         self.front = front;
         self.count = count;
         Some(answer)
@@ -205,7 +205,7 @@ impl Window {
             front,
             count,
             answer,
-        } = replace_with(&mut self.eye, log, look_for_state)?;
+        } = replace_with(&mut self.paged, log, look_for_state)?;
         self.front = front;
         self.count = count;
         Some(answer)

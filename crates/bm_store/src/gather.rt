@@ -15,18 +15,32 @@ use crate::placed::Placed;
 use bm_lines::Text;
 use std::alloc::{AllocError, Global};
 
-/// A place between two: half way, or `reach` before the end, whichever is later.
-fn probe(low: usize, high: usize, reach: usize) -> usize
+/// A place between two: half way, or `reach` from one end, whichever is nearer to that end: the low one
+/// where the search is for an early line, else the high one.
+fn probe(low: usize, high: usize, reach: usize, is_early: bool) -> usize
     requires { (low + 1 < high) × (0 < reach) }
     ensures { (low < result) × (result < high) }
 {
     let middle = low + (high - low) / 2;
-    middle.max(high.saturating_sub(reach))
+    if is_early {
+        middle.min(low.saturating_add(reach))
+    } else {
+        middle.max(high.saturating_sub(reach))
+    }
+}
+
+/// Whether the line `offset` is nearer to the first line of the last block than that is to the end.
+fn is_early(blocks: &[Placed], offset: u64) -> bool {
+    match blocks.last() {
+        Some(last) => offset < last.first / 2,
+        None => false,
+    }
 }
 
 /// The place of the last block that begins at or before the line `offset` (0 where there is none),
-/// and how many of its lines stand before that line. Who follows a log asks near its end: so the search
-/// goes back from there by steps that double, and then by halves.
+/// and how many of its lines stand before that line. Who follows a log asks near its end, and who
+/// reads it whole at its start: so the search goes from the nearer end by steps that double, and
+/// then by halves.
 fn seek(blocks: &[Placed], offset: u64) -> (usize, u64)
     requires { blocks.now ≡ placed (map block_at blocks.now) }
     ensures inside { result.0 ≤ length blocks.now }
@@ -34,19 +48,20 @@ fn seek(blocks: &[Placed], offset: u64) -> (usize, u64)
         ≡ drop result.1 (joined (map block_at (drop result.0 blocks.now))) }
     ensures last { (p : Placed) → slice_get blocks.now (result.0 + 1) ≡ Some p → offset < p.first }
 {
+    let is_early = is_early(blocks, offset);
     let mut low = 0;
     let mut before = 0;
     let mut high = blocks.len();
     let mut reach = 1;
     while high - low > 1 {
-        let place = probe(low, high, reach);
+        let place = probe(low, high, reach, is_early);
+        reach = reach.saturating_add(reach);
         let first = blocks[place].first;
         if first <= offset {
             low = place;
             before = first;
         } else {
             high = place;
-            reach = reach.saturating_add(reach);
         }
     }
     (low, offset - before)

@@ -14,4 +14,4 @@ pub lines_in-requires-clause-pages : goal.lines_in-requires-clause-pages
 lines_in-requires-clause-pages c =
     let f = c.requires.0 in
     let begins = c.in-Ok.ensures.1.2 f c.requires.1.0 in
-    subst (λ (l : List Item). HoldsPages (book l) c.args.eye.pages) (ap (λ (x : Published). x.front.log) (sym c.get-seen.ensures)) (held_on c.args.eye.pages f.log c.in-Ok.reading.part.value.front.log begins.1 c.requires.1.1)
+    subst (λ (l : List Item). HoldsPages (book l) c.args.paged.pages) (ap (λ (x : Published). x.front.log) (sym c.get-seen.ensures)) (held_on c.args.paged.pages f.log c.in-Ok.reading.part.value.front.log begins.1 c.requires.1.1)

@@ -19,7 +19,7 @@ returns-in-Ok c =
     let here : c.again.result ≡ c.in-Ok.reading.part.value.front = c.again.ensures ∙ ap (λ (x : Published). x.front) c.get-seen.ensures in (
       (
         c.leave-reader.ensures.1 ∙ shown.0 ∙ ap Some (sym here),
-        subst (λ (g : Front). HoldsPages (book g.log) c.args.eye.pages) (sym here) (held_on c.args.eye.pages f.log c.in-Ok.reading.part.value.front.log (shown.2 f c.requires.1.0).1 c.requires.1.1),
+        subst (λ (g : Front). HoldsPages (book g.log) c.args.paged.pages) (sym here) (held_on c.args.paged.pages f.log c.in-Ok.reading.part.value.front.log (shown.2 f c.requires.1.0).1 c.requires.1.1),
       ),
       ap (λ (x : Published). x.count) c.get-seen.ensures ∙ shown.1.1 ∙ ap (λ (g : Front). length g.log) (sym here),
       λ g r. subst (λ (s : Front). (s.book ≡ g.book) × IsPrefix g.log s.log) (sym here) (shown.2 g r.0),

@@ -7,6 +7,8 @@ use Rattle.bm_store.proofs.gather.seek.Goals as goal
 pub loop-high-preserved-then-first-offset : goal.loop-high-preserved-then-first-offset
 loop-high-preserved-then-first-offset c =
     let below : c.probe-place.result < c.loop-high.high = c.probe-place.ensures.1 in
+    let some = c.loop-high.invariant.some in
+    let more = c.saturating_add-reach.ensures in
     record {
       inside = omega arith;
       apart = λ h. below;
@@ -14,7 +16,7 @@ loop-high-preserved-then-first-offset c =
       stands = stands-or c.args.blocks.now c.probe-place.result c.index-blocks-place.result c.requires (omega arith);
       reached = c.if-first-offset.true;
       ahead = c.loop-high.invariant.ahead;
-      some = c.loop-high.invariant.some;
+      some = omega arith;
     }
 
 pub loop-high-preserved : goal.loop-high-preserved
