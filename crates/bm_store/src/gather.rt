@@ -29,7 +29,7 @@ fn probe(low: usize, high: usize, reach: usize, is_early: bool) -> usize
     }
 }
 
-/// Whether the line `offset` is nearer to the first line of the last block than that is to the end.
+/// Whether the line `offset` is in the first half of the lines that stand before the last block.
 fn is_early(blocks: &[Placed], offset: u64) -> bool {
     match blocks.last() {
         Some(last) => offset < last.first / 2,
