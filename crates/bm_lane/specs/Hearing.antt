@@ -16,6 +16,11 @@ Refuses h e (Session why) =
 Refuses h e Busy =
     (refusal h.trace e ≡ None) × (item h.trace e ≢ None) × (h.capacity ≤ length h.put)
 
+-- the trace itself refuses the event: neither memory nor the queue is the reason
+abbrev pub TraceRefuses : Heard → Event → HearRefusal → Type 0
+TraceRefuses h e (Session why) = refusal h.trace e ≡ Some why
+TraceRefuses h e Busy = ⊥
+
 -- the end with an event more, whose item, if it gives one, was put
 abbrev pub with_event : Heard → Event → Heard
 with_event h e = record h { trace = h.trace ++ e ∷ []; put = items (h.trace ++ e ∷ []) }

@@ -7,7 +7,7 @@ ghost use Rattle.bm_session.specs.Session.{IsPlanFor};
 ghost use Rattle.bm_session.specs.Trace.{is_up as up_of, is_cut as cut_of, items, commands, orders};
 ghost use Rattle.bm_session.specs.Trace.{reply, was_taken};
 ghost use Rattle.bm_lane.specs.Relay.{hand, known};
-ghost use Rattle.bm_lane.specs.Hearing.{Hears};
+ghost use Rattle.bm_lane.specs.Hearing.{TraceRefuses, Hears};
 
 use crate::publisher::Publisher;
 use crate::refusals::HearRefusal;
@@ -111,6 +111,7 @@ impl<Y: Yard> ReaderEnd<Y> {
         ensures taken { Hears self.old event result self.new }
         ensures spared { event ≡ Event.Down
             → IfErr result (λ r. r.1 ≢ HearRefusal.Session Refusal.Mem) }
+        ensures by_trace { event ≡ Event.Cut → IfErr result (λ r. TraceRefuses self.old event r.1) }
     {
         let mut plan = match self.session.ready(event) {
             Ok(plan) => plan,
@@ -154,10 +155,11 @@ impl<Y: Yard> ReaderEnd<Y> {
         self.take(rt, Event::Stop(command))
     }
 
-    /// The connection is cut: commands stay open. It gives no item, so the lane is never busy.
+    /// The connection is cut: commands stay open. It gives no item, so the lane is never busy, and
+    /// takes no memory.
     pub fn cut<R: Wait>(&mut self, rt: &R) -> Result<Reply, (Event, HearRefusal)>
         ensures heard { Hears self.old Event.Cut result self.new }
-        ensures free { IfErr result (λ r. r.1 ≢ HearRefusal.Busy) }
+        ensures by_trace { IfErr result (λ r. TraceRefuses self.old Event.Cut r.1) }
     {
         self.take(rt, Event::Cut)
     }

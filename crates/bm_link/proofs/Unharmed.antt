@@ -1,6 +1,6 @@
 -- A lane that is up takes no second link.
 use Rattle.std.proofs.Common.{◌≡◌, refl, sym, ◌∙◌, ap, subst, ℕ, Bool, true, false, ◌||◌, List, [], ◌∷◌, ◌++◌, Option, Some, None, Result, Ok, Err, inl, inr}
-use Rattle.std.specs.Prelude.{◌⊎◌, is_none, if◌then◌else◌}
+use Rattle.std.specs.Prelude.{is_none, if◌then◌else◌}
 use Rattle.bm_session.proofs.Snoc.{snoc_induction}
 use Rattle.bm_session.proofs.Pushed.{is_up-push, is_cut-push}
 use Rattle.bm_session.proofs.Taken.{and-left, and-right, was_taken-push}
@@ -19,7 +19,7 @@ use Rattle.bm_link.specs.declared.parts.Ended.{Ended}
 use Rattle.bm_link.specs.declared.parts.Ended.TheVariants as ended
 use Rattle.bm_link.specs.Attaching.{TakesUpFor, AttachesAs, Declined, cleared, taken_up, resumes}
 use Rattle.bm_link.specs.Carries.{Carried}
-use Rattle.bm_link.specs.Endings.{Ends, Falls}
+use Rattle.bm_link.specs.Endings.{Ends}
 use Rattle.bm_link.specs.Link.{LinkState}
 
 or-false : (b : Bool) → (b || false) ≡ b

@@ -23,8 +23,8 @@ unfoldable pub ask_bytes : ℕ → Ask → List ℕ
 ask_bytes n a = written (tree_of (request n (asks_for a)))
 
 module _ {S : Type 0} where
-  -- the request was sent under the next number; or the numbers are used up, or it was not sent: its
-  -- number is not given again
+  -- the request was sent under the next number; or the numbers are used up, and nothing left, or it
+  -- was not sent: its number is not given again
   abbrev pub SendsAsk : (S → Option (List ℕ)) → Carried → Ask → Socket S
       → Result (Unit {0}) LinkFault → Socket S → Carried → Type 0
   SendsAsk contents carry a old (Ok _) new carry2 =
@@ -32,5 +32,5 @@ module _ {S : Type 0} where
       × SendsBytes contents (ask_bytes carry.next_ask a) old new
   SendsAsk contents carry a old (Err f) new carry2 =
       (carry2 ≡ has_asked carry) × (2 ^ 63 ≤ carry.next_ask → f ≡ Full)
-      × (((f ≡ Full) × (2 ^ 63 ≤ carry.next_ask))
-      ⊎ ((carry.next_ask < 2 ^ 63) × IsUnsent old.conn (ask_bytes carry.next_ask a) f))
+      × (((f ≡ Full) × (2 ^ 63 ≤ carry.next_ask) × (new ≡ old))
+      ⊎ ((carry.next_ask < 2 ^ 63) × IsUnsent contents (ask_bytes carry.next_ask a) old f new))

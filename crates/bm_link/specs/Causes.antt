@@ -1,15 +1,14 @@
 -- Why a link fails.
 use Rattle.std.specs.Prelude.{◌≡◌, ◌⊎◌, ℕ, false, List, Option, Ok, Err}
-use Rattle.tungstenite.specs.Connection.{write_step, Connection}
+use Rattle.tungstenite.specs.Connection.{can_write, write_step}
 use Rattle.tungstenite.specs.Content.{binary}
-use Rattle.tungstenite.specs.Failure.{WriteFails}
-use Rattle.tungstenite.specs.Socket.{Socket, Reads, content_of}
+use Rattle.tungstenite.specs.Socket.{Flushed, Socket, Reads, Writes, content_of}
 use Rattle.tungstenite.specs.declared.error.Error.{Error}
 use Rattle.tungstenite.specs.declared.message.Message.{Message}
 use Rattle.tungstenite.specs.declared.message.Message.TheVariants as message
 use Rattle.bm_session.specs.declared.event.Event.{Event}
 use Rattle.bm_link.specs.declared.fault.LinkFault.{LinkFault}
-use Rattle.bm_link.specs.declared.fault.LinkFault.TheVariants.{Closed, BadMessage, Arena, Mem}
+use Rattle.bm_link.specs.declared.fault.LinkFault.TheVariants.{Closed, Stream, BadMessage, Arena, Mem}
 use Rattle.bm_link.specs.Faults.{fault_of, is_quiet}
 use Rattle.bm_link.specs.Incoming.{IsEventOf}
 
@@ -28,36 +27,38 @@ abbrev pub GivesNoEvent : List ℕ → LinkFault → Type 0
 GivesNoEvent bytes f =
     ((f ≡ BadMessage) × ((e : Event) → ¬ IsEventOf bytes e)) ⊎ ((f ≡ Mem) ⊎ (f ≡ Arena))
 
--- a message is not sent: memory is wanting, or the socket fails
-abbrev pub IsUnsent : Connection → List ℕ → LinkFault → Type 0
-IsUnsent conn bytes f =
-    (f ≡ Mem) ⊎ ((x : Error) × WriteFails (write_step conn (binary bytes)) x × (f ≡ fault_of x))
-
 module _ {S : Type 0} where
-  -- a close frame comes
-  abbrev pub IsClosing : (S → Option (List ℕ)) → Socket S → LinkFault → Type 0
-  IsClosing remaining old f =
-      (m : Message) × (new : Socket S) × Reads remaining old new (Ok m) × IsCloseFrame m
-      × (f ≡ Closed)
+  -- a message is not sent: memory is wanting, or the connection takes no message more, and nothing
+  -- left; or the stream failed, and a beginning left of what waited and of this message's frame
+  abbrev pub IsUnsent : (S → Option (List ℕ)) → List ℕ → Socket S → LinkFault → Socket S → Type 0
+  IsUnsent contents bytes old f new =
+      ((new ≡ old) × ((f ≡ Mem) ⊎ ((f ≡ Closed) × (can_write old.conn.state ≡ false))))
+      ⊎ ((f ≡ Stream) × Writes contents old new (write_step old.conn (binary bytes)))
+
+  -- a close frame comes, and then leaves no more than waits, as the answer to it does
+  abbrev pub IsClosing : (S → Option (List ℕ)) → (S → Option (List ℕ)) → Socket S → LinkFault
+      → Socket S → Type 0
+  IsClosing remaining contents old f new =
+      (m : Message) × (mid : Socket S) × Reads remaining old mid (Ok m) × IsCloseFrame m
+      × Flushed contents mid new × (f ≡ Closed)
 
   -- no event is read: the socket fails, and not only since nothing has come yet; a close frame
   -- comes; or a binary message that gives none
-  abbrev pub FailsToRead : (S → Option (List ℕ)) → Socket S → LinkFault → Type 0
-  FailsToRead remaining old f =
-      ((x : Error) × (new : Socket S) × Reads remaining old new (Err x) × (f ≡ fault_of x)
-      × (is_quiet x ≡ false))
-      ⊎ (IsClosing remaining old f
-      ⊎ ((bs : List ℕ) × (m : Message) × (new : Socket S) × Reads remaining old new (Ok m)
+  abbrev pub FailsToRead : (S → Option (List ℕ)) → (S → Option (List ℕ)) → Socket S → LinkFault
+      → Socket S → Type 0
+  FailsToRead remaining contents old f new =
+      ((x : Error) × Reads remaining old new (Err x) × (f ≡ fault_of x) × (is_quiet x ≡ false))
+      ⊎ (IsClosing remaining contents old f new
+      ⊎ ((bs : List ℕ) × (m : Message) × Reads remaining old new (Ok m)
       × (content_of m ≡ binary bs) × GivesNoEvent bs f))
 
   -- a first message does not come, or is not what it is to be: the socket fails; a close frame
   -- comes; a message that is passed over elsewhere; or a binary one, whose bytes fail so
-  abbrev pub FailsAtFirst : (List ℕ → LinkFault → Type 0) → (S → Option (List ℕ)) → Socket S
-      → LinkFault → Type 0
-  FailsAtFirst Fails remaining old f =
-      ((x : Error) × (new : Socket S) × Reads remaining old new (Err x) × (f ≡ fault_of x))
-      ⊎ (IsClosing remaining old f
-      ⊎ (((m : Message) × (new : Socket S) × Reads remaining old new (Ok m) × IsPassedOver m
-      × (f ≡ BadMessage))
-      ⊎ ((bs : List ℕ) × (m : Message) × (new : Socket S) × Reads remaining old new (Ok m)
+  abbrev pub FailsAtFirst : (List ℕ → LinkFault → Type 0) → (S → Option (List ℕ))
+      → (S → Option (List ℕ)) → Socket S → LinkFault → Socket S → Type 0
+  FailsAtFirst Fails remaining contents old f new =
+      ((x : Error) × Reads remaining old new (Err x) × (f ≡ fault_of x))
+      ⊎ (IsClosing remaining contents old f new
+      ⊎ (((m : Message) × Reads remaining old new (Ok m) × IsPassedOver m × (f ≡ BadMessage))
+      ⊎ ((bs : List ℕ) × (m : Message) × Reads remaining old new (Ok m)
       × (content_of m ≡ binary bs) × Fails bs f)))

@@ -4,7 +4,7 @@ use Rattle.bm_session.specs.declared.event.Event.TheVariants.{Cut, Down}
 use Rattle.bm_session.specs.declared.refusal.Refusal.{Refusal}
 use Rattle.bm_session.specs.Trace.{refusal}
 use Rattle.bm_lane.specs.Ends.{Heard}
-use Rattle.bm_lane.specs.Hearing.{with_event, Refuses}
+use Rattle.bm_lane.specs.Hearing.{with_event, TraceRefuses, Refuses}
 use Rattle.bm_lane.specs.declared.refusals.HearRefusal.{HearRefusal}
 use Rattle.bm_lane.specs.declared.refusals.HearRefusal.TheVariants.{Busy}
 use Rattle.bm_link.specs.declared.parts.Ended.{Ended}
@@ -28,11 +28,11 @@ Falls lane lane2 ended.Cut = ⊥
 Falls lane lane2 ended.Down = (lane2 ≡ with_event lane Down) ⊎ ((lane2 ≡ lane) × IsDown lane)
 Falls lane lane2 ended.Waits = (lane2 ≡ lane) × Refuses lane Down Busy
 
--- a Cut was not to be tried, or the lane refuses it
+-- a Cut may not be, or its trace forbids it
 abbrev pub NoCut : Bool → Heard → Type 0
-NoCut may_cut lane = (may_cut ≡ false) ⊎ ((why : HearRefusal) × Refuses lane Cut why)
+NoCut may_cut lane = (may_cut ≡ false) ⊎ ((why : HearRefusal) × TraceRefuses lane Cut why)
 
--- the lane was cut, where it may be; where it may not, or refuses, it falls
+-- the lane was cut, where it may be; where it may not, or its trace forbids it, it falls
 abbrev pub Ends : Bool → Heard → Heard → Ended → Type 0
 Ends may_cut lane lane2 e =
     ((may_cut ≡ true) × (e ≡ ended.Cut) × (lane2 ≡ with_event lane Cut))
@@ -42,8 +42,8 @@ Ends may_cut lane lane2 e =
 abbrev pub EndsAt : Bool → Heard → Heard → Stage → Type 0
 EndsAt may_cut lane lane2 s = (e : Ended) × Ends may_cut lane lane2 e × (s ≡ stage_after e)
 
--- the lane was not cut, since it may not be or refuses that; it falls, and how far the link has
--- come
+-- the lane was not cut, since it may not be or its trace forbids that; it falls, and how far the
+-- link has come
 abbrev pub FallsAt : Bool → Heard → Heard → Stage → Type 0
 FallsAt may_cut lane lane2 s =
     (e : Ended) × NoCut may_cut lane × Falls lane lane2 e × (s ≡ stage_after e)

@@ -79,16 +79,16 @@ module _ {S : Type 0} where
 
   -- why there is no answer: the login was not sent, or the message after it is none
   abbrev pub FailsToGreet : (S → Option (List ℕ)) → (S → Option (List ℕ)) → List ℕ → List ℕ
-      → Option (List ℕ) → Socket S → LinkFault → Type 0
-  FailsToGreet remaining contents name password session old f =
-      IsUnsent old.conn (auth_bytes name password session) f
+      → Option (List ℕ) → Socket S → LinkFault → Socket S → Type 0
+  FailsToGreet remaining contents name password session old f new =
+      IsUnsent contents (auth_bytes name password session) old f new
       ⊎ ((mid : Socket S) × SendsBytes contents (auth_bytes name password session) old mid
-      × FailsAtFirst AreNoAnswer remaining mid f)
+      × FailsAtFirst AreNoAnswer remaining contents mid f new)
 
   -- why a worker gets no link: no WebSocket is agreed, or the login fails
   abbrev pub FailsToConnect : (S → Option (List ℕ)) → (S → Option (List ℕ)) → List ℕ → List ℕ
       → Option (List ℕ) → LinkFault → Type 0
   FailsToConnect remaining contents name password session f =
       IsNotAgreed f
-      ⊎ ((start : Socket S) × IsConnected start
-      × FailsToGreet remaining contents name password session start f)
+      ⊎ ((start : Socket S) × (end : Socket S) × IsConnected start
+      × FailsToGreet remaining contents name password session start f end)

@@ -1,21 +1,31 @@
-pub mod Accepting
-pub mod Asked
-pub mod Asking
-pub mod Asks
-pub mod Attaching
-pub mod Carries
-pub mod Causes
-pub mod Endings
-pub mod Faults
-pub mod Greeting
-pub mod Incoming
-pub mod Laws
+-- A reader has to believe these. Link: what a master's link is, and what a turn of it does.
 pub mod Link
-pub mod Logins
-pub mod Orders
+-- Of what a turn is made: what is read, what is sent, and which event bytes are.
 pub mod Parts
+pub mod Incoming
 pub mod Sending
-pub mod Steps
-pub mod Telling
+-- Why a link fails, and what then becomes of its lane.
+pub mod Causes
+pub mod Faults
+pub mod Endings
+-- From a handshake and a login to a lane that is up.
+pub mod Accepting
 pub mod Users
+pub mod Logins
+pub mod Telling
+pub mod Attaching
+-- What a master sends unasked, and what a lane carries from one link to the next.
+pub mod Orders
+pub mod Asks
+pub mod Asking
+pub mod Carries
+-- The worker's end: its login, and what a turn of its link does.
+pub mod Greeting
+pub mod Asked
 pub mod Working
+-- Laws of what is carried, and of what a fault leaves behind it.
+pub mod Laws
+pub mod LawsOfFaults
+-- This one only helps proofs, as do definitions of the others that no public contract leads to:
+-- what a part of a call does.
+pub mod Steps

@@ -71,7 +71,7 @@ module _ {S : Type 0} where
   AdmitsOrFails remaining contents users old (Err (unadmitted.Rejected name)) new =
       Rejects remaining contents users old name new
   AdmitsOrFails remaining contents users old (Err (unadmitted.Unread f)) new =
-      FailsAtFirst GivesNoLogin remaining old f
+      FailsAtFirst GivesNoLogin remaining contents old f new
 
   -- why a login fails: it is that of no user, whose name is kept; or none was read
   abbrev pub FailsToLogIn : (S → Option (List ℕ)) → (S → Option (List ℕ)) → List User → LinkState S
@@ -80,7 +80,8 @@ module _ {S : Type 0} where
       ((f ≡ BadLogin)
       × ((name : List ℕ) × (new.refused ≡ Some name)
       × Rejects remaining contents users old.socket name new.socket))
-      ⊎ ((new.refused ≡ old.refused) × FailsAtFirst GivesNoLogin remaining old.socket f)
+      ⊎ ((new.refused ≡ old.refused)
+      × FailsAtFirst GivesNoLogin remaining contents old.socket f new.socket)
 
   -- the login of a link on which none was read: it waits for its lane, or the link has failed
   abbrev pub LogsIn : (S → Option (List ℕ)) → (S → Option (List ℕ)) → List User → LinkState S

@@ -28,7 +28,7 @@ module _ {S : Type 0} where
   abbrev pub Tells : (S → Option (List ℕ)) → ℕ → List ℕ → Socket S → Socket S → Type 0
   Tells contents n text old new =
       SendsBytes contents (answer_bytes n (Some text)) old new
-      ⊎ ((f : LinkFault) × IsUnsent old.conn (answer_bytes n (Some text)) f)
+      ⊎ ((f : LinkFault) × IsUnsent contents (answer_bytes n (Some text)) old f new)
 
   -- that, where there is a text
   abbrev pub TellsAny : (S → Option (List ℕ)) → ℕ → Option (List ℕ) → Socket S → Socket S → Type 0

@@ -122,7 +122,8 @@ fn read_answer<S: Read + Write + Drop, K: MaskKeys + Drop>(
     socket: &mut WebSocket<S, K>,
 ) -> Result<Attached, LinkFault>
     ensures answer { IfOk result (ReadsAnswer S.remaining socket.old socket.new) }
-    ensures fault { IfErr result (FailsAtFirst AreNoAnswer S.remaining socket.old) }
+    ensures fault { IfErr result
+        (λ f. FailsAtFirst AreNoAnswer S.remaining S.contents socket.old f socket.new) }
 {
     match socket.read() {
         Ok(Frame::Binary(bytes)) => match answer_of_bytes(alloc, bytes.as_slice()) {
@@ -151,8 +152,8 @@ pub(crate) fn greet<S: Read + Write + Drop, K: MaskKeys + Drop>(
         (Greets S.remaining S.contents name.now password.now (option_copied session.entry)
         socket.old socket.new) }
     ensures fault { IfErr result
-        (FailsToGreet S.remaining S.contents name.now password.now (option_copied session.entry)
-        socket.old) }
+        (λ f. FailsToGreet S.remaining S.contents name.now password.now
+        (option_copied session.entry) socket.old f socket.new) }
 {
     let Ok(bytes) = auth_bytes(alloc, name, password, session) else {
         return Err(LinkFault::Mem);

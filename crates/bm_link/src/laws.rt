@@ -1,6 +1,9 @@
-//! What a lane carries, as a contract.
+//! What a lane carries and what a fault leaves behind it, as contracts.
 
 ghost use Rattle.bm_link.specs.Laws.{WorkersEventsKeep, OrdersAreAdded, SessionsBeginAnew};
+ghost use Rattle.bm_link.specs.LawsOfFaults.{AnswersOnlyWhatWasTaken, CutsWhereAllowed, LaneRefusesByItsTrace, TellsOnlyTheRefusal};
+
+use std::io::Write;
 
 /// The orders that are carried from one link to the next are those of the lane's trace that have no
 /// answer, in order, by their numbers. It holds of a new lane and what is new, and each event keeps
@@ -11,4 +14,15 @@ pub fn carried_orders_are_pending()
     ensures events { WorkersEventsKeep }
     ensures orders { OrdersAreAdded }
     ensures sessions { SessionsBeginAnew }
+{}
+
+/// After a fault nothing has left but what its call was to send: of an event only the answer to it,
+/// where the lane took it; of a refused login only the exception that says so. A link that fails
+/// for its lane tells what the lane's trace refuses; and its lane is cut wherever it may be and its
+/// trace takes that.
+pub fn faults_leave_no_more<S: Write>()
+    ensures answers { AnswersOnlyWhatWasTaken S.contents }
+    ensures refusals { TellsOnlyTheRefusal S.contents }
+    ensures lanes { LaneRefusesByItsTrace }
+    ensures cuts { CutsWhereAllowed }
 {}

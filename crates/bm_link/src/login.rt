@@ -102,7 +102,8 @@ fn read_login<S: Read + Write + Drop>(
     socket: &mut WebSocket<S, NoMask>,
 ) -> Result<Credentials, LinkFault>
     ensures login { IfOk result (ReadsLogin S.remaining socket.old socket.new) }
-    ensures fault { IfErr result (FailsAtFirst GivesNoLogin S.remaining socket.old) }
+    ensures fault { IfErr result
+        (λ f. FailsAtFirst GivesNoLogin S.remaining S.contents socket.old f socket.new) }
 {
     match socket.read() {
         Ok(Frame::Binary(bytes)) => match login_of_bytes(alloc, arena, bytes.as_slice()) {

@@ -1,7 +1,7 @@
 -- A session, a plan to take an event, and a whole run.
-use Rattle.std.specs.Prelude.{◌≡◌, ◌⊎◌, ℕ, ◌≤◌, true, ◌||◌, List, [], ◌∷◌, ◌++◌, Option, Some, None}
+use Rattle.std.specs.Prelude.{◌≡◌, ◌⊎◌, ℕ, ◌≤◌, true, List, [], ◌∷◌, ◌++◌, Option, Some, None}
 use Rattle.bm_session.specs.declared.event.Event.{Event}
-use Rattle.bm_session.specs.declared.event.Event.TheVariants.{Down}
+use Rattle.bm_session.specs.declared.event.Event.TheVariants.{Cut, Down}
 use Rattle.bm_session.specs.declared.item.Item.{Item}
 use Rattle.bm_session.specs.declared.refusal.Refusal.{Refusal}
 use Rattle.bm_session.specs.declared.reply.Reply.{Reply}
@@ -14,10 +14,12 @@ pub record Lane : Type 0 where
   pub trace : List Event
   pub room : ℕ
 
--- each event was taken, and while the lane is up or cut there is room for its Down
+-- each event was taken; while the lane is up there is room for a Cut and the Down after it, and
+-- while it is cut for its Down
 pub record IsLane (s : Lane) : Type 0 where
   pub taken : was_taken s.trace ≡ true
-  pub spare : (is_up s.trace || is_cut s.trace) ≡ true → 1 ≤ s.room
+  pub while_up : is_up s.trace ≡ true → 2 ≤ s.room
+  pub while_cut : is_cut s.trace ≡ true → 1 ≤ s.room
 
 -- a plan: its event, what will be sent, and the event's item unless that was taken
 pub record Planned : Type 0 where
@@ -25,10 +27,11 @@ pub record Planned : Type 0 where
   pub sent : Reply
   pub given : Option Item
 
--- the room that an event asks for: its own, and that of the Down that may follow
+-- the room that an event asks for: its own, and that of a Cut and a Down that may follow
 abbrev pub needed : Event → ℕ
 needed Down = 1
-needed _ = 2
+needed Cut = 2
+needed _ = 3
 
 -- the plan is for this session as it is: the event is accepted, and the plan says what the trace
 -- says

@@ -21,7 +21,8 @@ use std::marker::Model;
 
 /// A lane's session: the events that it took, and the table of what they mean.
 ///
-/// While it is up or cut it has room for one event more, so that it can be given up without memory.
+/// While it is up it has room for two events more, and while it is cut for one, so that it can be
+/// cut and given up without memory.
 #[derive(Drop)]
 pub struct Session {
     events: Vec<Event>,
@@ -143,7 +144,7 @@ impl Session {
     /// means the same afterwards, and earlier plans for it stay good. An event that isn't taken
     /// comes back with the reason.
     ///
-    /// To give up a session that is up or cut takes no memory.
+    /// To cut a session takes no memory, nor does it to give up one that is up or cut.
     pub fn ready(&mut self, event: Event) -> Result<Plan, (Event, Refusal)>
         ensures same { self.new.trace ≡ self.old.trace }
         ensures room { self.old.room ≤ self.new.room }
@@ -157,6 +158,8 @@ impl Session {
             ⊎ ((refusal_of self.old.trace event ≡ None) × (r.1 ≡ Refusal.Mem))) }
         ensures down { event ≡ Event.Down → (up_of self.old.trace || cut_of self.old.trace) ≡ true
             → IsOk result }
+        ensures cut { event ≡ Event.Cut
+            → IfErr result (λ r. refusal_of self.old.trace event ≡ Some r.1) }
     {
         match self.prepare(&event) {
             Ok((reply, item)) => Ok(Plan::of(event, reply, item)),
@@ -179,6 +182,8 @@ impl Session {
             ⊎ ((refusal_of self.old.trace event.now ≡ None) × (r ≡ Refusal.Mem))) }
         ensures down { event.now ≡ Event.Down
             → (up_of self.old.trace || cut_of self.old.trace) ≡ true → IsOk result }
+        ensures cut { event.now ≡ Event.Cut
+            → IfErr result (λ r. refusal_of self.old.trace event.now ≡ Some r) }
     {
         if let Some(reason) = self.table.refusal(self.events.len(), event) {
             return Err(reason);
@@ -189,7 +194,8 @@ impl Session {
         };
         let needed = match event {
             Event::Down => 1,
-            _ => 2,
+            Event::Cut => 2,
+            _ => 3,
         };
         if self.events.reserve(needed).is_err() || self.table.reserve(needed).is_err() {
             return Err(Refusal::Mem);

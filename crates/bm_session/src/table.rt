@@ -358,10 +358,11 @@ impl Table {
         self.is_new(number) && self.is_open(command)
     }
 
-    /// What the event does to the logs. A `Down` takes no memory.
+    /// What the event does to the logs. A `Cut` or a `Down` takes no memory.
     pub fn item(&self, event: &Event) -> Result<Option<Item>, AllocError>
         ensures item { IfOk result (λ i. (t : Trace) → IsTable self.now t
             → refusal_of t event.now ≡ None → i ≡ item_of t event.now) }
+        ensures cut { event.now ≡ Event.Cut → IsOk result }
         ensures down { event.now ≡ Event.Down → IsOk result }
     {
         match event {

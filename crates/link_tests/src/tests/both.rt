@@ -22,7 +22,7 @@ fn said(bench: &mut Bench) -> Option<Vec<u8>> {
 }
 
 /// Where the handshake at the front of these bytes ends.
-fn end_of_head(bytes: &[u8]) -> Option<usize> {
+pub(crate) fn end_of_head(bytes: &[u8]) -> Option<usize> {
     for place in 0..bytes.len() {
         let rest = bytes.get(place..).unwrap_or_default();
         if rest.starts_with(b"\r\n\r\n") {

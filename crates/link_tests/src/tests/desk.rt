@@ -6,7 +6,7 @@ use super::hostile::Came;
 use super::lengths::Long;
 use super::resumed::Case;
 use super::watch::{End, Watch};
-use super::{AGREED, AUTH, HEAD, Script, joined, script_of};
+use super::{AGREED, AUTH, HEAD, Script, TRUE, joined, script_of};
 use bm_lane::{Blank, Drained, Ends, ReaderEnd, Viewer, Yard, open};
 use bm_lines::Text;
 use bm_link::*;
@@ -330,7 +330,19 @@ impl Links {
         self.is_attached(rt, reader, &[AUTH, frames])
             && self.turn(rt, reader) == gives
             && reader.is_up() == is_up
-            && (!is_up || goes_down(rt, reader))
+            && if is_up {
+                goes_down(rt, reader)
+            } else {
+                self.adds_no_more()
+            }
+    }
+
+    /// Whether nothing was written behind the answer to the login but the answer to a close frame.
+    fn adds_no_more(&self) -> bool {
+        matches!(
+            self.written().strip_prefix(TRUE),
+            Some([]) | Some([b'\x88', ..])
+        )
     }
 
     fn gives_long<Y: Yard, R: Wait>(

@@ -5,7 +5,7 @@ use super::desk::{
     Answer, CLOSED, Call, DROPPED, Desk, HEARD, Links, Outcome, PLAIN, Trial, is_down, tried,
 };
 use super::watch::{End, Step, Watch};
-use super::{AUTH, HEAD, TEXT, UPDATE};
+use super::{ANSWER, AUTH, HEAD, ORDER, TEXT, TRUE, UPDATE};
 use bm_lane::{HearRefusal, ReaderEnd, Yard};
 use bm_link::*;
 use bm_session::{Refusal, Results};
@@ -28,6 +28,21 @@ static CALLS: [(Call, Answer, usize); 8] = [
     (Call::Turn, CLOSED, 1),
     (Call::Turn, CLOSED, 0),
 ];
+
+/// What the calls write behind the handshake, in order.
+static WRITTEN: [&[u8]; 3] = [TRUE, ORDER, ANSWER];
+
+/// Whether the bytes are a beginning of the pieces, one after the other.
+pub(crate) fn begins(bytes: &[u8], pieces: &[&[u8]]) -> bool {
+    let mut rest = bytes;
+    for piece in pieces {
+        match rest.strip_prefix(*piece) {
+            Some(behind) => rest = behind,
+            None => return piece.starts_with(rest),
+        }
+    }
+    rest.is_empty()
+}
 
 /// Memory is wanting for an order, and the link stays good.
 const WANTING: Answer = Answer::Fault(LinkFault::Lane(HearRefusal::Session(Refusal::Mem)));
@@ -68,14 +83,15 @@ impl Links {
 }
 
 impl<Y: Yard, W: Wait + Drop> Desk<Y, W> {
-    /// What is seen where the stream comes to this end.
+    /// What is seen where the stream comes to this end. However it ends, no bytes are written but a
+    /// beginning of those that its calls write over a good stream.
     pub fn ends<R: Wait>(&mut self, rt: &R, end: End) -> Option<Watch> {
         self.links.end = end;
         if !self.links.are_ready() {
             return None;
         }
         let mut watch = self.links.watched(rt, &mut self.ends.reader, end);
-        watch.is_right &= self.is_over(watch.has_ended);
+        watch.is_right &= begins(self.links.written(), &WRITTEN) && self.is_over(watch.has_ended);
         Some(watch)
     }
 

@@ -8,6 +8,6 @@ returns-in-Ok-send g c = record {
       sends_attached g.S.Write.contents c.args.seq c.args.attached c.args.orders.now c.args.socket.now c.send.new.socket c.send_again.new.socket
       c.as_slice.result.now c.send_again.result (c.as_slice.ensures.value ∙ c.in-Ok.ensures) c.in-Ok-send.ensures.sent c.send_again.ensures.sent;
   unsent =
-      fails_attached g.S.Write.contents c.args.seq c.args.attached c.args.orders.now c.args.socket.now c.send.new.socket
+      fails_attached g.S.Write.contents c.args.seq c.args.attached c.args.orders.now c.args.socket.now c.send.new.socket c.send_again.new.socket
       c.as_slice.result.now c.send_again.result (c.as_slice.ensures.value ∙ c.in-Ok.ensures) c.in-Ok-send.ensures.sent c.send_again.ensures.unsent;
 }

@@ -25,9 +25,9 @@ returns-in-Err-send_attached g c = inr (
       c.may_cut.ensures (c.in_default-up.ensures.0 ∙ ap (λ (h : Heard). with_event h Up) c.in_default.ensures)
       c.cut_or_fall.ensures c.stage.ensures,
   c.resume_or_begin.ensures,
-  subst (λ (a : Attached). FailsToSendAttached g.S.Write.contents c.args.socket.now c.args.login.seq a c.resume_or_begin.new.self.orders c.in-Err-send_attached.fault)
+  subst (λ (a : Attached). FailsToSendAttached g.S.Write.contents c.args.socket.now c.args.login.seq a c.resume_or_begin.new.self.orders c.in-Err-send_attached.fault c.send_attached.new.socket)
       c.attached_as-attached.ensures (
-      subst (λ (os : List Sent). FailsToSendAttached g.S.Write.contents c.args.socket.now c.args.login.seq c.attached_as-attached.result os c.in-Err-send_attached.fault)
+      subst (λ (os : List Sent). FailsToSendAttached g.S.Write.contents c.args.socket.now c.args.login.seq c.attached_as-attached.result os c.in-Err-send_attached.fault c.send_attached.new.socket)
       c.orders.ensures c.in-Err-send_attached.ensures.unsent
       ),
 )

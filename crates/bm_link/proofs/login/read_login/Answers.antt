@@ -10,7 +10,7 @@ use Rattle.bm_link.proofs.login.read_login.Goals as goal
 pub returns-in-Ok-Binary-clause-fault : goal.returns-in-Ok-Binary-clause-fault
 returns-in-Ok-Binary-clause-fault g c =
     let content : content_of c.in-Ok-Binary.field-0 ≡ binary c.as_slice.result.now = search rules in
-    inr (inr (inr (c.as_slice.result.now, c.in-Ok-Binary.field-0, c.read.new.self, c.in-Ok-Binary.ensures, content, c.in-Err-login_of_bytes.ensures.fault)))
+    inr (inr (inr (c.as_slice.result.now, c.in-Ok-Binary.field-0, c.in-Ok-Binary.ensures, content, c.in-Err-login_of_bytes.ensures.fault)))
 
 -- a close frame was read
 pub returns-in-Ok-Close-clause-fault : goal.returns-in-Ok-Close-clause-fault
@@ -19,6 +19,7 @@ returns-in-Ok-Close-clause-fault g c = inr (inl (
   c.read.new.self,
   c.in-Ok-Close.ensures,
   subst (λ (m : Message). IsCloseFrame m) (sym c.in-Ok-Close.field-0-is) tt,
+  c.flush.ensures.sent,
   refl,
 ))
 
@@ -26,8 +27,8 @@ returns-in-Ok-Close-clause-fault g c = inr (inl (
 pub returns-in-Ok : goal.returns-in-Ok
 returns-in-Ok g c =
     let other : ReadsOther g.S.Read.remaining c.args.socket.now c.read.new.self = search rules in
-    record { login = tt; fault = inr (inr (inl (other.0, c.read.new.self, other.1, other.2, refl))) }
+    record { login = tt; fault = inr (inr (inl (other.0, other.1, other.2, refl))) }
 
 -- the socket failed
 pub returns-clause-fault : goal.returns-clause-fault
-returns-clause-fault g c = inl (c.in-Err.error, c.read.new.self, c.in-Err.ensures, c.fault_of.ensures)
+returns-clause-fault g c = inl (c.in-Err.error, c.in-Err.ensures, c.fault_of.ensures)

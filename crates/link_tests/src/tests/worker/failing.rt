@@ -1,13 +1,15 @@
 //! A worker's stream that fails at one of its calls, at each in turn, or ends after one of its
 //! bytes; and a second link of its core, which a resumed session has.
 
+use super::super::both::end_of_head;
 use super::super::desk::{Answer, CLOSED, HEARD, NOTED};
-use super::super::failing::ended_right;
+use super::super::failing::{begins, ended_right};
 use super::super::hostile::payload;
 use super::super::watch::{End, Step, Watch};
 use super::super::{
-    AGREED, ANSWER, ANSWER_ONE, ANSWER_THREE, ANSWER_TWO, AUTH_S, CLOSE, DONE, NEW, ORDER,
-    REQUESTS, RESUMED, Script, TRUE, joined, pieces_from, push_all, script_of,
+    AGREED, ANSWER, ANSWER_ONE, ANSWER_THREE, ANSWER_TWO, AUTH, AUTH_S, CLOSE, CODE_TWO,
+    COMPLETE_THREE, DONE, NEW, ORDER, REQUESTS, RESUMED, Script, TRUE, UPDATE, UPDATE_ONE, joined,
+    pieces_from, push_all, script_of,
 };
 use super::{Bench, Zeros};
 use bm_lines::Letter;
@@ -69,10 +71,14 @@ impl Heard {
     }
 }
 
-/// The session that a worker names, or none, and how its login is answered.
+/// A worker's answer to a close frame.
+const CLOSED_BACK: &[u8] = b"\x88\x80\0\0\0\0";
+
+/// The session that a worker names, or none, its login, and how that is answered.
 #[derive(Clone, Copy)]
 struct Login {
     session: Option<&'static str>,
+    request: &'static [u8],
     answer: &'static [u8],
     attached: Attached,
 }
@@ -97,11 +103,13 @@ impl Login {
 static LOGINS: [Login; 2] = [
     Login {
         session: None,
+        request: AUTH,
         answer: TRUE,
         attached: Attached::Plain,
     },
     Login {
         session: Some("s"),
+        request: AUTH_S,
         answer: NEW,
         attached: Attached::New,
     },
@@ -185,6 +193,25 @@ impl Bench {
         }
     }
 
+    /// Whether nothing was written behind the handshake but a beginning of what the acts write over
+    /// a good stream.
+    fn writes_no_more(&self, login: &Login) -> bool {
+        let acts = [
+            login.request,
+            DONE,
+            UPDATE,
+            UPDATE_ONE,
+            CODE_TWO,
+            COMPLETE_THREE,
+            CLOSED_BACK,
+        ];
+        let written = self.link.get_ref().output.as_slice();
+        match end_of_head(written) {
+            Some(end) => begins(written.get(end..).unwrap_or_default(), &acts),
+            None => false,
+        }
+    }
+
     /// What is seen of a worker with a link, where its login is to be answered so.
     fn watched(&mut self, login: &Login, end: End) -> Watch {
         let is_named = login.session.is_some();
@@ -193,6 +220,7 @@ impl Bench {
         watch.see(login.step(), answer, self.link.get_ref().has_failed);
         watch.has_link = true;
         let heard = self.acts(&mut watch, is_named);
+        watch.is_right &= self.writes_no_more(login);
         watch.is_right &= self.loses_nothing(heard, is_named) && (!is_named || self.resumes(heard));
         watch
     }

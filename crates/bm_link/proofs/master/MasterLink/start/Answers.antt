@@ -23,9 +23,9 @@ returns-in-Cut g c =
           (start_kept c.args.reader.now.trace c.args.argv.now c.args.carry.now c.start_order.new.carry c.next_order.result c.next_command-command.result
           c.in-Ok.ensures.ok.1 c.next_order.ensures.number c.next_command-command.ensures.number) (
             c.in-Err-send_message.fault,
-            start_unsent c.self.inside.socket.conn (content_of c.in-Ok.message) c.args.argv.now c.next_order.result c.next_command-command.result
-                (orders c.args.reader.now.trace) c.next_command-command.result c.in-Err-send_message.fault
-                c.in-Ok.ensures.ok.0 c.next_order.ensures.number refl c.in-Err-send_message.ensures.unsent,
+            start_unsent g.S.Write.contents c.self.inside.socket c.send_message.new.socket c.end.new.self.socket (content_of c.in-Ok.message) c.args.argv.now
+                c.next_order.result c.next_command-command.result (orders c.args.reader.now.trace) c.next_command-command.result c.in-Err-send_message.fault
+                c.in-Ok.ensures.ok.0 c.next_order.ensures.number refl c.in-Err-send_message.ensures.unsent c.end.ensures.rest.0,
             sym c.may_cut.ensures ∙ cut.0,
             cut.1 ∙ ap (λ (h : Heard). with_event h Cut) c.in_default-go.ensures.0,
             c.end.ensures.stage ∙ ap stage_after c.in-Cut.is,
@@ -46,9 +46,9 @@ returns-in-Down g c = record {
       c.in-Up.is
       (start_kept c.args.reader.now.trace c.args.argv.now c.args.carry.now c.start_order.new.carry c.next_order.result c.next_command-command.result
       c.in-Ok.ensures.ok.1 c.next_order.ensures.number c.next_command-command.ensures.number) (
-        start_unsent c.self.inside.socket.conn (content_of c.in-Ok.message) c.args.argv.now c.next_order.result c.next_command-command.result
-            (orders c.args.reader.now.trace) (commands c.args.reader.now.trace) c.in-Err-send_message.fault
-            c.in-Ok.ensures.ok.0 c.next_order.ensures.number c.next_command-command.ensures.number c.in-Err-send_message.ensures.unsent,
+        start_unsent g.S.Write.contents c.self.inside.socket c.send_message.new.socket c.end.new.self.socket (content_of c.in-Ok.message) c.args.argv.now
+            c.next_order.result c.next_command-command.result (orders c.args.reader.now.trace) (commands c.args.reader.now.trace) c.in-Err-send_message.fault
+            c.in-Ok.ensures.ok.0 c.next_order.ensures.number c.next_command-command.ensures.number c.in-Err-send_message.ensures.unsent c.end.ensures.rest.0,
         falls_at c.may_cut.result (may_cut c.start_order.new.carry c.in-Err-send_message.fault) c.go.new.self
             (with_event c.args.reader.now Go) c.end.new.reader c.end.result c.end.new.self.stage
             c.may_cut.ensures c.in_default-go.ensures.0 (down_is_no_cut c.end.result c.in-Down.is) c.end.ensures.ended c.end.ensures.stage,
@@ -69,9 +69,9 @@ returns-in-Waits g c = record {
       c.in-Up.is
       (start_kept c.args.reader.now.trace c.args.argv.now c.args.carry.now c.start_order.new.carry c.next_order.result c.next_command-command.result
       c.in-Ok.ensures.ok.1 c.next_order.ensures.number c.next_command-command.ensures.number) (
-        start_unsent c.self.inside.socket.conn (content_of c.in-Ok.message) c.args.argv.now c.next_order.result c.next_command-command.result
-            (orders c.args.reader.now.trace) (commands c.args.reader.now.trace) c.in-Err-send_message.fault
-            c.in-Ok.ensures.ok.0 c.next_order.ensures.number c.next_command-command.ensures.number c.in-Err-send_message.ensures.unsent,
+        start_unsent g.S.Write.contents c.self.inside.socket c.send_message.new.socket c.end.new.self.socket (content_of c.in-Ok.message) c.args.argv.now
+            c.next_order.result c.next_command-command.result (orders c.args.reader.now.trace) (commands c.args.reader.now.trace) c.in-Err-send_message.fault
+            c.in-Ok.ensures.ok.0 c.next_order.ensures.number c.next_command-command.ensures.number c.in-Err-send_message.ensures.unsent c.end.ensures.rest.0,
         falls_at c.may_cut.result (may_cut c.start_order.new.carry c.in-Err-send_message.fault) c.go.new.self
             (with_event c.args.reader.now Go) c.end.new.reader c.end.result c.end.new.self.stage
             c.may_cut.ensures c.in_default-go.ensures.0 (waiting_is_no_cut c.end.result c.in-Waits.is) c.end.ensures.ended c.end.ensures.stage,

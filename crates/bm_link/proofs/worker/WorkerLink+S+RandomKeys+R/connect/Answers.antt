@@ -7,4 +7,4 @@ returns-in-Ok-greet-clause-login g c = (c.in-Ok.socket, c.in-Ok.ensures.connecte
 
 -- the same, over which the login failed
 pub returns-in-Err-greet-clause-fault : goal.returns-in-Err-greet-clause-fault
-returns-in-Err-greet-clause-fault g c = inr (c.in-Ok.socket, c.in-Ok.ensures.connected, c.in-Err-greet.ensures.fault)
+returns-in-Err-greet-clause-fault g c = inr (c.in-Ok.socket, c.greet.new.socket, c.in-Ok.ensures.connected, c.in-Err-greet.ensures.fault)
