@@ -26,6 +26,10 @@ is_waiting Waiting = true
 is_waiting (Running step cancelled) = false
 is_waiting (Over result holds) = false
 
+-- the build waits for the worker
+abbrev pub waits_for : ℕ → Course → Bool
+waits_for worker job = is_waiting job.phase && job.build.worker == worker
+
 -- it holds its worker's slot and its locks: from its start until it is released
 abbrev pub is_holding : Phase → Bool
 is_holding Waiting = false

@@ -1,6 +1,6 @@
 //! The board itself.
 
-ghost use Rattle.std.specs.Prelude.{◌≡◌, ℕ, ◌<◌, ◌≤◌, ◌&&◌, ◌+◌, ◌^◌, true, nat_lt, All, length, OnOk, OnErr, IfOk, IfErr, IsOk, ◌⊎◌, Some, None, Ok, Err};
+ghost use Rattle.std.specs.Prelude.{◌≡◌, ℕ, ◌<◌, ◌≤◌, ◌&&◌, ◌+◌, ◌^◌, true, nat_lt, All, length, OnOk, OnErr, IfOk, IfErr, IsOk, ◌⊎◌, Some, None, Ok, Err, position};
 
 use crate::counts::Counts;
 use crate::job::{Job, Started};
@@ -47,7 +47,7 @@ impl Model for Board {
 
 impl Board {
     ghost use Rattle.bm_board.specs.Board.{IsWithinLimits, add_refusal, board_after, on_build, opening, result_on, start, with_build, with_ready};
-    ghost use Rattle.bm_board.specs.Job.{answer_of, cancel, finish, give_up, release};
+    ghost use Rattle.bm_board.specs.Job.{answer_of, cancel, finish, give_up, release, waits_for};
 
     /// A board of workers with these many slots, none ready, and of locks with these maxima.
     pub fn new(alloc: Global, slots: &[u8], lock_max: &[u32]) -> Result<Board, AllocError>
@@ -197,6 +197,13 @@ impl Board {
             return Err(BoardRefusal::NoBuild);
         }
         Ok(self.jobs[place].result())
+    }
+
+    /// The number of the first build that waits for the worker, None where none does.
+    pub fn first_waiting(&self, worker: usize) -> Option<usize>
+        ensures { result ≡ position (waits_for worker) self.now.jobs }
+    {
+        self.jobs.iter().position(|job| job.is_waiting_for(worker))
     }
 
     /// Gives back the slot and the locks of a build that is over.

@@ -2,7 +2,7 @@
 
 ghost use Rattle.std.specs.Prelude.{◌≡◌, ◌+◌, length, replicate, take, [], true, false, Ok};
 ghost use Rattle.bm_board.specs.Steps.{next_of};
-ghost use Rattle.bm_board.specs.Job.{IsSameHolder, answer_of, cancel, finish, first_of, give_up, is_holding, is_unreleased, is_waiting, job_after, phase_of, release, result_in, started, waiting};
+ghost use Rattle.bm_board.specs.Job.{IsSameHolder, answer_of, cancel, finish, first_of, give_up, is_holding, is_unreleased, is_waiting, job_after, phase_of, release, result_in, started, waiting, waits_for};
 
 use crate::outcomes::Outcomes;
 use crate::plan::{Build, LockUse};
@@ -78,6 +78,13 @@ impl Job {
         ensures { result ≡ is_waiting self.now.phase }
     {
         matches!(self.phase, Phase::Waiting)
+    }
+
+    /// Whether it waits, and for this worker.
+    pub fn is_waiting_for(&self, worker: usize) -> bool
+        ensures { result ≡ waits_for worker self.now }
+    {
+        self.is_waiting() && self.build.worker == worker
     }
 
     /// The result of a build that is over.

@@ -75,7 +75,8 @@ pub fn settle<Y: Yard, W: Wait + Drop, R: Wait>(
     alloc: Global,
     ends: Ends<Y, W>,
 ) -> Result<Settled, (Ends<Y, W>, AllocError)>
-    requires { (ends.reader.lane ≡ ends.writer.lane) × AllOf ends.writer.lane ends.viewers.items }
+    requires { (ends.reader.lane ≡ ends.writer.lane) × AllOf ends.writer.lane ends.viewers.items
+        × (length ends.viewers.items ≡ ends.writer.viewers) }
     ensures trace { IfOk result (λ s. s.trace.items ≡ ends.reader.trace) }
     ensures taken { IfOk result (λ s. was_taken s.trace.items ≡ true) }
     ensures book { IfOk result (λ s. (logs_in s.book ≡ logs ends.reader.trace)

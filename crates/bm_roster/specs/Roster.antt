@@ -1,6 +1,6 @@
 -- A roster, and what it does to its board. On the board a build is one step, whose outcome is what
 -- the build's runner reports.
-use Rattle.std.specs.Prelude.{◌≡◌, ◌⊎◌, ◌<◌, ℕ, Bool, true, false, ◌&&◌, ◌==◌, [], ◌∷◌, List, IsOk, Option, Some, None, Result, Ok, Err}
+use Rattle.std.specs.Prelude.{◌≡◌, ◌⊎◌, ◌<◌, ℕ, Bool, true, false, [], ◌∷◌, List, IsOk, Option, Some, None, Result, Ok, Err}
 use Rattle.std.specs.List.{list_any}
 use Rattle.bm_session.specs.declared.results.Results.{Results}
 use Rattle.bm_session.specs.declared.results.Results.TheVariants.{Retry}
@@ -9,7 +9,7 @@ use Rattle.bm_board.specs.declared.plan.Build.{Build}
 use Rattle.bm_board.specs.declared.job.Started.{Started}
 use Rattle.bm_board.specs.declared.refusal.BoardRefusal.{BoardRefusal}
 use Rattle.bm_roster.specs.Benches.{Benched}
-use Rattle.bm_board.specs.Job.{Course, answer_of, cancel, finish, give_up, is_waiting, release}
+use Rattle.bm_board.specs.Job.{answer_of, cancel, finish, give_up, release, waits_for}
 use Rattle.bm_board.specs.Board.{Standing, board_after, occupies, on_build, start, result_on}
 
 -- its board, the viewers that no build has, and whether memory was wanting for the last start
@@ -75,10 +75,6 @@ after_cancel b number = board_after b number (on_build cancel b number)
 -- the board once a build that waited was given up
 abbrev pub after_giving_up : Standing → ℕ → Standing
 after_giving_up b number = board_after b number (on_build give_up b number)
-
--- the build waits for the worker
-abbrev pub waits_for : ℕ → Course → Bool
-waits_for worker job = is_waiting job.phase && job.build.worker == worker
 
 -- a build waits for the worker
 abbrev pub is_wanted : Standing → ℕ → Bool

@@ -1,7 +1,7 @@
 //! A board, and what its builds want of each worker.
-ghost use Rattle.std.specs.Prelude.{◌≡◌, ◌⊎◌, ◌<◌, ◌≤◌, ◌+◌, ◌^◌, All, IfErr, IfOk, OnErr, OnOk, Some, length, slice_index};
+ghost use Rattle.std.specs.Prelude.{◌≡◌, ◌⊎◌, ◌<◌, ◌≤◌, ◌+◌, ◌^◌, All, IfErr, IfOk, OnErr, OnOk, Some, length, position, slice_index};
 ghost use Rattle.bm_board.specs.Board.{add_refusal, on_build, opening, result_on, with_build, with_ready};
-ghost use Rattle.bm_board.specs.Job.{answer_of, cancel, give_up};
+ghost use Rattle.bm_board.specs.Job.{answer_of, cancel, give_up, waits_for};
 ghost use Rattle.bm_roster.specs.Roster.{CanStart, IsStarted, after_cancel, after_end, after_giving_up, has_build, is_wanted};
 ghost use Rattle.bm_roster.specs.Counted.{IsOneMore, worker_of};
 
@@ -74,6 +74,13 @@ impl CountedBoard {
         ensures { result ≡ has_build self.now worker }
     {
         count_of(&self.running, worker) > 0
+    }
+
+    /// The number of the first build that waits for the worker, None where none does.
+    pub fn first_waiting(&self, worker: usize) -> Option<usize>
+        ensures { result ≡ position (waits_for worker) self.now.jobs }
+    {
+        self.board.first_waiting(worker)
     }
 
     /// The result of a build, None before its end.

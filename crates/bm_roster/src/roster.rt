@@ -1,9 +1,9 @@
 //! The roster itself.
-ghost use Rattle.std.specs.Prelude.{◌≡◌, ◌⊎◌, ◌<◌, ◌≤◌, ℕ, All, IfOk, OnOk, OnErr, IfErr, IfSome, IfNone, length, true, false, Ok, Some, None};
+ghost use Rattle.std.specs.Prelude.{◌≡◌, ◌⊎◌, ◌<◌, ◌≤◌, ℕ, All, IfOk, OnOk, OnErr, IfErr, IfSome, IfNone, length, true, false, Ok, Some, None, position};
 ghost use Rattle.bm_roster.specs.Roster.{CanStart, IsOver, IsStarted, LacksResult, after_end, after_cancel, after_failure, after_giving_up, has_build, is_wanted, on_board, with_board};
 ghost use Rattle.bm_roster.specs.Benches.{IsGiven, IsTaken};
 ghost use Rattle.bm_roster.specs.Cancels.{met_by};
-ghost use Rattle.bm_board.specs.Job.{answer_of, cancel};
+ghost use Rattle.bm_board.specs.Job.{answer_of, cancel, waits_for};
 ghost use Rattle.bm_board.specs.Board.{add_refusal, on_build, opening, result_on, with_build, with_ready};
 
 use crate::bench::Bench;
@@ -322,13 +322,15 @@ impl<Y: Yard> Roster<Y> {
     /// The first build that waits for the worker is given up: it ends RETRY. The answer is its
     /// number, None where no build waits for the worker.
     pub fn give_up_one(&mut self, worker: usize) -> Option<u64>
+        ensures first { result ≡ position (waits_for worker) self.old.board.jobs }
         ensures given_up { IfSome result (λ n. self.new
             ≡ with_board self.old (after_giving_up self.old.board n)) }
         ensures unchanged { IfNone result (self.new ≡ self.old) }
     {
-        let place = self.waiting.iter().position(|one| one.worker == worker)?;
-        let number = self.waiting.get(place)?.number;
-        self.take_out(place);
+        let number = self.board.first_waiting(worker)? as u64;
+        if let Some(place) = self.waiting.iter().position(|one| one.number == number) {
+            self.take_out(place);
+        }
         let _ = self.board.give_up(number);
         Some(number)
     }
