@@ -4,10 +4,10 @@ mod Draining
 mod Grows
 mod Hearing
 mod Kept
+mod Marks
 pub mod Picking
-mod Prefixes
+pub mod Prefixes
 mod Relays
-mod Remembering
 mod Counting
 mod Served
 mod Writing

@@ -25,7 +25,7 @@ fn empty(alloc: Global, front: &Front) -> Published
     }
 }
 
-fn window(copy: &mut CopyWriter, alloc: Global) -> Result<Window, AllocError>
+fn window(copy: &mut CopyWriter) -> Result<Window, AllocError>
     requires { (view copy.old.desk.place ≡ Some copy.old.desk.shown.value.front)
         × IsBook copy.old.desk.shown.value }
     ensures kept { (copy.new.desk.shown ≡ copy.old.desk.shown) × (copy.new.log ≡ copy.old.log)
@@ -37,7 +37,7 @@ fn window(copy: &mut CopyWriter, alloc: Global) -> Result<Window, AllocError>
     let mut reader = copy.factory().reader()?;
     reader.learn::<Tells>(copy.tell::<Tells>());
     let now = copy.published();
-    Ok(Window::over(alloc, reader, now.front.again(), now.count))
+    Ok(Window::over(reader, now.front.again(), now.count))
 }
 
 fn windows(copy: &mut CopyWriter, alloc: Global, count: usize) -> Result<Vec<Window>, OpenError>
@@ -52,7 +52,7 @@ fn windows(copy: &mut CopyWriter, alloc: Global, count: usize) -> Result<Vec<Win
 {
     let mut windows = Vec::new(alloc);
     for made in 0..count {
-        match window(copy, alloc) {
+        match window(copy) {
             Ok(window) => {
                 if windows.push(window).is_err() {
                     return Err(OpenError::Mem);

@@ -12,6 +12,7 @@ mod blank;
 mod copy;
 mod history;
 pub mod laws;
+mod mark;
 mod pool;
 mod published;
 mod publisher;
@@ -25,6 +26,7 @@ mod writer_end;
 mod yard;
 
 pub use blank::{Blank, Ends, ends_of_all, open};
+pub use mark::Mark;
 pub use pool::{Gate, Pass, PoolFault, PoolReport, writers};
 pub use reader_end::ReaderEnd;
 pub use refusals::{HearRefusal, OpenError};

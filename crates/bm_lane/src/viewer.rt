@@ -1,8 +1,9 @@
 //! What a viewer is to its thread.
-ghost use Rattle.std.specs.Prelude.{◌≡◌, length, []};
+ghost use Rattle.std.specs.Prelude.{◌≡◌, length, [], IsTrue};
 ghost use mathlib.Core.List.{IsPrefix};
-ghost use Rattle.bm_lane.specs.Looks.{GivesChunk, GivesState};
+ghost use Rattle.bm_lane.specs.Looks.{GivesChunk, GivesPiece, GivesState};
 
+use crate::mark::Mark;
 use crate::publisher::Publisher;
 use crate::window::{Asked, LogOf, Window};
 use crate::yard::Yard;
@@ -65,8 +66,35 @@ impl<Y: Yard> Viewer<Y> {
             name,
             offset,
             limit,
+            enough: None,
         };
         match self.window.lines(&asked) {
+            Some(answer) => answer,
+            None => Err(ViewRefusal::Closed),
+        }
+    }
+
+    /// The same, or as many of these lines from the first on as have `enough` bytes together: no
+    /// line follows once the text has so many. So a look is no longer than that and one line.
+    pub fn piece(
+        &mut self,
+        command: u64,
+        name: &str,
+        offset: u64,
+        limit: u64,
+        enough: usize,
+    ) -> Result<Chunk, ViewRefusal>
+        ensures { GivesPiece self.old self.new command name.now offset limit enough result }
+    {
+        let asked = Asked {
+            command,
+            name,
+            offset,
+            limit,
+            enough: Some(enough),
+        };
+        let answer = self.window.lines(&asked);
+        match answer {
             Some(answer) => answer,
             None => Err(ViewRefusal::Closed),
         }
@@ -98,6 +126,22 @@ impl<Y: Yard> Viewer<Y> {
         ensures { result ≡ length self.now.seen }
     {
         self.window.count()
+    }
+
+    /// What it has seen by now.
+    pub fn mark(&self) -> Mark<Y>
+        ensures { result ≡ self.now }
+    {
+        Mark::over(self.lane, self.window.front().again(), self.window.count())
+    }
+
+    /// Whether it is of a mark's lane and has seen no less than the mark. Of the viewer that made the
+    /// mark that is always so.
+    pub fn has_seen(&self, mark: &Mark<Y>) -> bool
+        ensures { IsTrue result
+            → (self.now.lane ≡ mark.now.lane) × IsPrefix mark.now.seen self.now.seen }
+    {
+        mark.lane() == self.lane && mark.begins(self.window.front(), self.window.count())
     }
 
     /// What was seen was shown.

@@ -1,20 +1,16 @@
 //! A window onto the published copy: what one viewer has seen of it.
 ghost use Rattle.std.specs.Prelude.{◌≡◌, Some, MatchOption, length};
 ghost use Rattle.left_right.specs.Sides.{view};
-ghost use Rattle.bm_lane.specs.Answers.{Answered, told, lines_of_book, state_of_book};
+ghost use Rattle.bm_lane.specs.Answers.{AnsweredSome, told, state_of_book};
 ghost use Rattle.bm_lane.specs.Copies.{kept_book};
 ghost use Rattle.bm_lane.specs.Fronts.{Front as History};
-ghost use Rattle.bm_lane.specs.Windows.{Remembers};
-ghost use Rattle.bm_store.specs.Book.{book};
-ghost use Rattle.bm_store.specs.Paging.{HoldsPages};
 ghost use mathlib.Core.List.{IsPrefix};
 
 use crate::history::Front;
 use crate::published::{Grows, Published, Sees, Sight};
-use bm_store::{Book, Chunk, LogState, Pages, ViewRefusal};
+use bm_store::{Book, Chunk, LogState, ViewRefusal};
 use core::mem::replace_with;
 use left_right::reader::Reader;
-use std::alloc::Global;
 use std::marker::Model;
 
 pub type CopyReader = Reader<Published, Sight, Grows>;
@@ -26,13 +22,14 @@ pub struct LogOf<'a> {
     pub name: &'a str,
 }
 
-/// Which lines are asked, of which log.
+/// Which lines are asked, of which log, and how many bytes of them are enough, where a number is.
 #[derive(Clone, Copy)]
 pub struct Asked<'a> {
     pub command: u64,
     pub name: &'a str,
     pub offset: u64,
     pub limit: u64,
+    pub enough: Option<usize>,
 }
 
 /// What was seen, and the answer.
@@ -43,17 +40,10 @@ struct Sighting<T: Drop> {
     answer: T,
 }
 
-/// A reader of the copy, with pages of the log that it was asked for last.
-#[derive(Drop)]
-pub struct PagedReader {
-    pub reader: CopyReader,
-    pub pages: Pages,
-}
-
 /// A reader of the copy, with what it saw last.
 #[derive(Drop)]
 pub struct Window {
-    paged: PagedReader,
+    reader: CopyReader,
     front: Front,
     count: u64,
 }
@@ -61,23 +51,28 @@ pub struct Window {
 impl Model for Window {
     ghost use Rattle.std.specs.Prelude.{◌≡◌, length, Some};
     ghost use Rattle.logbook.specs.Pages.{book_coded};
-    ghost use Rattle.bm_lane.specs.Windows.{Looked, Remembers};
+    ghost use Rattle.left_right.specs.Sides.{view as seen_by};
+    ghost use Rattle.bm_lane.specs.Windows.{Looked};
 
     ghost Value = { Looked };
 
     ghost view = { λ w. record { history = w.front.book; seen = w.front.log } };
 
-    ghost invariant = { λ w. Remembers w.paged w.front × (w.count ≡ length w.front.log) };
+    ghost invariant = { λ w. (seen_by w.reader.place ≡ Some w.front) × (w.count ≡ length w.front.log) };
 }
 
-fn lines_in(seen: &Published, pages: &mut Pages, asked: &Asked<'_>) -> Result<Chunk, ViewRefusal>
-    requires book { seen.now.book ≡ kept_book seen.now.front.log }
-    requires pages { HoldsPages (book seen.now.front.log) pages.old }
-    ensures pages { HoldsPages (book seen.now.front.log) pages.new }
-    ensures answer { Answered (lines_of_book seen.now.front.log asked.now.command asked.now.name.now
-        asked.now.offset asked.now.limit) result }
+fn lines_in(seen: &Published, asked: &Asked<'_>) -> Result<Chunk, ViewRefusal>
+    requires { seen.now.book ≡ kept_book seen.now.front.log }
+    ensures { AnsweredSome seen.now.front.log asked.now.command asked.now.name.now asked.now.offset
+        asked.now.limit asked.now.enough result }
 {
-    seen.book.slice_by(pages, asked.command, asked.name, asked.offset, asked.limit)
+    seen.book.lines(
+        asked.command,
+        asked.name,
+        asked.offset,
+        asked.limit,
+        asked.enough,
+    )
 }
 
 fn state_in(seen: &Published, log: &LogOf<'_>) -> Result<LogState, ViewRefusal>
@@ -91,46 +86,44 @@ fn state_in(seen: &Published, log: &LogOf<'_>) -> Result<LogState, ViewRefusal>
 }
 
 fn look_for_lines(
-    paged: PagedReader,
+    reader: CopyReader,
     asked: &Asked<'_>,
-) -> (PagedReader, Option<Sighting<Result<Chunk, ViewRefusal>>>)
-    requires { (f : History) × Remembers paged f }
-    ensures { MatchOption result.1 ((f : History) → Remembers paged f → Remembers result.0 f)
-        (λ s. Remembers result.0 s.front × (s.count ≡ length s.front.log)
-        × ((f : History) → Remembers paged f
+) -> (CopyReader, Option<Sighting<Result<Chunk, ViewRefusal>>>)
+    requires { (f : History) × (view reader.place ≡ Some f) }
+    ensures { MatchOption result.1
+        ((f : History) → view reader.place ≡ Some f → view result.0.place ≡ Some f)
+        (λ s. (view result.0.place ≡ Some s.front) × (s.count ≡ length s.front.log)
+        × ((f : History) → view reader.place ≡ Some f
         → (s.front.book ≡ f.book) × IsPrefix f.log s.front.log)
-        × Answered (lines_of_book s.front.log asked.now.command asked.now.name.now
-        asked.now.offset asked.now.limit) s.answer) }
+        × AnsweredSome s.front.log asked.now.command asked.now.name.now asked.now.offset
+        asked.now.limit asked.now.enough s.answer) }
 {
-    let PagedReader { reader, pages } = paged;
-    let mut pages = pages;
     match reader.enter_as::<Sees>() {
         Ok(reading) => {
             let seen = reading.get();
             let sighting = Sighting {
                 front: seen.front.again(),
                 count: seen.count,
-                answer: lines_in(seen, &mut pages, asked),
+                answer: lines_in(seen, asked),
             };
-            let reader = reading.leave();
-            (PagedReader { reader, pages }, Some(sighting))
+            (reading.leave(), Some(sighting))
         }
-        Err(reader) => (PagedReader { reader, pages }, None),
+        Err(reader) => (reader, None),
     }
 }
 
 fn look_for_state(
-    paged: PagedReader,
+    reader: CopyReader,
     log: &LogOf<'_>,
-) -> (PagedReader, Option<Sighting<Result<LogState, ViewRefusal>>>)
-    requires { (f : History) × Remembers paged f }
-    ensures { MatchOption result.1 ((f : History) → Remembers paged f → Remembers result.0 f)
-        (λ s. Remembers result.0 s.front × (s.count ≡ length s.front.log)
-        × ((f : History) → Remembers paged f
+) -> (CopyReader, Option<Sighting<Result<LogState, ViewRefusal>>>)
+    requires { (f : History) × (view reader.place ≡ Some f) }
+    ensures { MatchOption result.1
+        ((f : History) → view reader.place ≡ Some f → view result.0.place ≡ Some f)
+        (λ s. (view result.0.place ≡ Some s.front) × (s.count ≡ length s.front.log)
+        × ((f : History) → view reader.place ≡ Some f
         → (s.front.book ≡ f.book) × IsPrefix f.log s.front.log)
         × (s.answer ≡ told (state_of_book s.front.log log.now.command log.now.name.now))) }
 {
-    let PagedReader { reader, pages } = paged;
     match reader.enter_as::<Sees>() {
         Ok(reading) => {
             let seen = reading.get();
@@ -139,24 +132,20 @@ fn look_for_state(
                 count: seen.count,
                 answer: state_in(seen, log),
             };
-            let reader = reading.leave();
-            (PagedReader { reader, pages }, Some(sighting))
+            (reading.leave(), Some(sighting))
         }
-        Err(reader) => (PagedReader { reader, pages }, None),
+        Err(reader) => (reader, None),
     }
 }
 
 impl Window {
     /// A window that has seen what the writer told.
-    pub fn over(alloc: Global, reader: CopyReader, front: Front, count: u64) -> Window
+    pub fn over(reader: CopyReader, front: Front, count: u64) -> Window
         requires { (view reader.place ≡ Some front) × (count ≡ length front.log) }
         ensures { result ≡ record { history = front.book; seen = front.log } }
     {
         Window {
-            paged: PagedReader {
-                reader,
-                pages: Pages::new(alloc),
-            },
+            reader,
             front,
             count,
         }
@@ -181,14 +170,14 @@ impl Window {
         ensures { MatchOption result (self.new ≡ self.old)
             (λ r. (self.new.history ≡ self.old.history)
             × IsPrefix self.old.seen self.new.seen
-            × Answered (lines_of_book self.new.seen asked.now.command asked.now.name.now
-            asked.now.offset asked.now.limit) r) }
+            × AnsweredSome self.new.seen asked.now.command asked.now.name.now asked.now.offset
+            asked.now.limit asked.now.enough r) }
     {
         let Sighting {
             front,
             count,
             answer,
-        } = replace_with(&mut self.paged, asked, look_for_lines)?;
+        } = replace_with(&mut self.reader, asked, look_for_lines)?;
         self.front = front;
         self.count = count;
         Some(answer)
@@ -205,7 +194,7 @@ impl Window {
             front,
             count,
             answer,
-        } = replace_with(&mut self.paged, log, look_for_state)?;
+        } = replace_with(&mut self.reader, log, look_for_state)?;
         self.front = front;
         self.count = count;
         Some(answer)

@@ -1,7 +1,7 @@
 -- The asked lines of a log, gathered from its blocks.
 use Rattle.std.proofs.Common.{◌≡◌, refl, sym, ◌∙◌, ap, ℕ, zero, suc, ◌+◌, ◌-◌, ◌≤◌, ◌<◌, List, [], ◌∷◌, ◌++◌, length, take, drop, get_or, Some, arith, length-append, append_assoc, inl, inr, min}
 use Rattle.std.specs.Prelude.{◌⊎◌, map, slice_get}
-use Rattle.std.proofs.lemmas.List.{append-nil, take-append-drop, take_all, length-take, drop_all}
+use Rattle.std.proofs.lemmas.List.{append-nil, take-append-drop, take_all, take-take, length-take, drop_all, drop-drop, drop-append-le, take-append-le, length-drop}
 use Rattle.std.proofs.lemmas.List.Concat.{flat_map-append}
 use Rattle.std.proofs.Math.Seq.{drop-append-add}
 use Rattle.bm_lines.specs.Lines.{Line, content_of}
@@ -9,9 +9,7 @@ use Rattle.bm_lines.proofs.Contents.{content_of-append}
 use Rattle.bm_session.specs.Trace.{joined, slice}
 use Rattle.bm_store.specs.declared.placed.Placed.{Placed}
 use Rattle.bm_store.specs.Book.{placed}
-use Rattle.bm_store.specs.Paging.{IsPage, lines_of}
 use Rattle.bm_store.specs.Placing.{block_at}
-use Rattle.bm_store.specs.declared.page.Page.{Page}
 use Rattle.bm_store.proofs.Places.{place-at}
 
 pub map-drop : {A B : Type 0} (f : A → B) (i : ℕ) (xs : List A) → map f (drop i xs) ≡ drop i (map f xs)
@@ -74,26 +72,63 @@ pub asked-next : (ps : List Placed) (i : ℕ) (p : Placed) (skip left : ℕ) →
     → asked ps i skip left ≡ slice p.block skip left ++ asked ps (i + 1) (skip - length p.block) (left - length (slice p.block skip left))
 asked-next ps i p skip left h = ap (λ qs. slice (joined (map block_at qs)) skip left) (drop-next ps i p h) ∙ slice-both p.block (joined (map block_at (drop (i + 1) ps))) skip left
 
--- what was gathered, and what is still asked, is what was asked of the blocks from a place on
+take-parts : {A : Type 0} (n k : ℕ) (xs : List A) → take (n + k) xs ≡ take n xs ++ take k (drop n xs)
+take-parts n k xs = parts n k (n + k) xs refl
+  where
+    parts : {A : Type 0} (n k m : ℕ) (xs : List A) → m ≡ n + k → take m xs ≡ take n xs ++ take k (drop n xs)
+    parts zero k m xs e = ap (λ i. take i xs) (let s : m ≡ k = omega arith in s)
+    parts (suc n) k zero xs e = absurd (omega arith)
+    parts (suc n) k (suc m) [] e = sym (take_all k [] (omega arith))
+    parts (suc n) k (suc m) (x ∷ xs) e = ap (λ l. x ∷ l) (parts n k m xs (omega arith))
+
+-- of a list that begins with so many elements, these are the first ones
+take-first : (xs : List Line) (n limit : ℕ) (gathered rest : List Line) → take limit xs ≡ gathered ++ rest → n ≡ length gathered → n ≤ limit → take n xs ≡ gathered
+take-first xs n limit gathered rest e size few =
+    let left : n ≤ length gathered = omega arith in
+    let right : length gathered ≤ n = omega arith in
+    sym (take-take n limit xs few) ∙ ap (take n) e ∙ take-append-le n gathered rest left ∙ take_all n gathered right
+
+-- one line of a block that has more, and the rest
+asked-one : (ps : List Placed) (i : ℕ) (p : Placed) (skip left : ℕ) → slice_get ps i ≡ Some p → skip < length p.block → 0 < left
+    → asked ps i skip left ≡ slice p.block skip 1 ++ asked ps i (skip + 1) (left - 1)
+asked-one ps i p skip left h inside some =
+    let rest : List Line = joined (map block_at (drop (i + 1) ps)) in
+    let whole : joined (map block_at (drop i ps)) ≡ p.block ++ rest = ap (λ qs. joined (map block_at qs)) (drop-next ps i p h) in
+    let amount : left ≡ 1 + (left - 1) = omega arith in
+    let size : length (drop skip p.block) ≡ length p.block - skip = length-drop skip p.block in
+    let first : take 1 (drop skip (p.block ++ rest)) ≡ slice p.block skip 1 =
+    ap (take 1) (drop-append-le skip p.block rest (omega arith)) ∙ take-append-le 1 (drop skip p.block) rest (omega arith) in
+    ap (λ l. slice l skip left) whole
+    ∙ ap (λ m. slice (p.block ++ rest) skip m) amount
+    ∙ take-parts 1 (left - 1) (drop skip (p.block ++ rest))
+    ∙ ap (λ l. l ++ take (left - 1) (drop 1 (drop skip (p.block ++ rest)))) first
+    ∙ ap (λ l. slice p.block skip 1 ++ take (left - 1) l) (drop-drop 1 skip (p.block ++ rest))
+    ∙ ap (λ l. slice p.block skip 1 ++ slice l (skip + 1) (left - 1)) (sym whole)
+
+-- what was gathered is the first part of what was asked of the blocks from a place on, and the rest is
+-- still asked
 pub record IsGathering (ps : List Placed) (from i skip left skip' limit : ℕ) (out old : List ℕ) : Type 0 where
-  pub few : left ≤ limit
-  pub content : out ++ content_of (asked ps i skip left) ≡ old ++ content_of (asked ps from skip' limit)
-  pub count : (limit - left) + length (asked ps i skip left) ≡ length (asked ps from skip' limit)
+  pub gathered : List Line
+  pub parts : asked ps from skip' limit ≡ gathered ++ asked ps i skip left
+  pub content : out ≡ old ++ content_of gathered
+  pub count : length gathered + left ≡ limit
 
 pub gathering-start : (ps : List Placed) (from skip limit : ℕ) (out : List ℕ) → IsGathering ps from from skip limit skip limit out out
-gathering-start ps from skip limit out = record { few = omega arith; content = refl; count = omega arith }
+gathering-start ps from skip limit out = record { gathered = []; parts = refl; content = sym (append-nil out); count = omega arith }
 
 -- a part of what is asked is appended
 gathering-on : (ps : List Placed) (from i i2 skip left skip' limit skip2 left2 : ℕ) (out out2 old : List ℕ) (part : List Line) → IsGathering ps from i skip left skip' limit out old
     → asked ps i skip left ≡ part ++ asked ps i2 skip2 left2 → length part ≤ left → out2 ≡ out ++ content_of part → left2 ≡ left - length part → IsGathering ps from i2 skip2 left2 skip' limit out2 old
 gathering-on ps from i i2 skip left skip' limit skip2 left2 out out2 old part h rest size grown less =
-    let few : left ≤ limit = h.few in
-    let both : content_of (asked ps i skip left) ≡ content_of part ++ content_of (asked ps i2 skip2 left2) = ap content_of rest ∙ content_of-append part (asked ps i2 skip2 left2) in
-    let total : length (asked ps i skip left) ≡ length part + length (asked ps i2 skip2 left2) = ap length rest ∙ length-append part (asked ps i2 skip2 left2) in
-    let before : (limit - left) + length (asked ps i skip left) ≡ length (asked ps from skip' limit) = h.count in
+    let sum : length h.gathered + left ≡ limit = h.count in
+    let total : length (h.gathered ++ part) ≡ length h.gathered + length part = length-append h.gathered part in
     record {
-      few = omega arith;
-      content = ap (λ o. o ++ content_of (asked ps i2 skip2 left2)) grown ∙ append_assoc out (content_of part) (content_of (asked ps i2 skip2 left2)) ∙ ap (λ x. out ++ x) (sym both) ∙ h.content;
+      gathered = h.gathered ++ part;
+      parts = h.parts ∙ ap (λ l. h.gathered ++ l) rest ∙ sym (append_assoc h.gathered part (asked ps i2 skip2 left2));
+      content =
+          grown ∙ ap (λ o. o ++ content_of part) h.content
+          ∙ append_assoc old (content_of h.gathered) (content_of part)
+          ∙ ap (λ t. old ++ t) (sym (content_of-append h.gathered part));
       count = omega arith;
     }
 
@@ -110,46 +145,21 @@ gathering-next ps from i p skip left skip' limit skip2 left2 out out2 old part a
     ∙ ap (λ (l : List Line). l ++ asked ps (i + 1) skip2 left2) (sym is) in
     gathering-on ps from i (i + 1) skip left skip' limit skip2 left2 out out2 old part h rest (omega arith) grown less
 
-drop-drop : {A : Type 0} (i n : ℕ) (xs : List A) → drop n (drop i xs) ≡ drop (i + n) xs
-drop-drop zero n xs = let same : n ≡ 0 + n = omega arith in ap (λ m. drop m xs) same
-drop-drop (suc i) n [] = none n ∙ sym (none (suc i + n))
-  where
-    none : {A : Type 0} (m : ℕ) → drop {A = A} m [] ≡ []
-    none zero = refl
-    none (suc m) = refl
-drop-drop (suc i) n (x ∷ xs) = let same : suc i + n ≡ suc (i + n) = omega arith in drop-drop i n xs ∙ ap (λ m. drop m (x ∷ xs)) (sym same)
+-- one line of a block that has more
+pub one-line : (ls : List Line) (skip : ℕ) → skip < length ls → length (slice ls skip 1) ≡ 1
+one-line ls skip inside =
+    let size : length (slice ls skip 1) ≡ min 1 (length (drop skip ls)) = length-take 1 (drop skip ls) in
+    let more : length (drop skip ls) ≡ length ls - skip = length-drop skip ls in
+    omega arith
 
--- all of a page, and the rest behind it
-asked-page : (ps : List Placed) (p : Page) (left left2 : ℕ) → IsPage (map block_at ps) p → p.lines ≤ left → left2 ≡ left - p.lines
-    → asked ps p.from 0 left ≡ lines_of (map block_at ps) p ++ asked ps p.to 0 left2
-asked-page ps p left left2 h l e =
-    let bs : List (List Line) = map block_at ps in
-    let xs : List Line = lines_of bs p in
-    let ahead : p.from < p.to = h.some in
-    let size : p.lines ≡ length xs = h.counted in
-    let behind : p.from + (p.to - p.from) ≡ p.to = omega arith in
-    let ys : List Line = joined (map block_at (drop p.to ps)) in
-    let far : drop (p.to - p.from) (drop p.from bs) ≡ map block_at (drop p.to ps) = drop-drop p.from (p.to - p.from) bs ∙ ap (λ m. drop m bs) behind ∙ sym (map-drop block_at p.to ps) in
-    let parts : joined (map block_at (drop p.from ps)) ≡ xs ++ ys =
-    ap joined (map-drop block_at p.from ps ∙ sym (take-append-drop (p.to - p.from) (drop p.from bs)))
-    ∙ flat_map-append (λ (b : List Line). b) (take (p.to - p.from) (drop p.from bs)) (drop (p.to - p.from) (drop p.from bs))
-    ∙ ap (λ l. xs ++ joined l) far in
-    let whole : slice xs 0 left ≡ xs = take_all left xs (omega arith) in
-    let none : 0 - length xs ≡ 0 = omega arith in
-    let amount : left - length (slice xs 0 left) ≡ left2 = ap (λ (l : List Line). left - length l) whole ∙ omega arith in
-    ap (λ l. slice l 0 left) parts
-    ∙ slice-both xs ys 0 left
-    ∙ ap (λ l. l ++ slice ys (0 - length xs) (left - length (slice xs 0 left))) whole
-    ∙ ap (λ m. xs ++ slice ys m (left - length (slice xs 0 left))) none
-    ∙ ap (λ m. xs ++ slice ys 0 m) amount
-
--- what is asked of a page
-pub gathering-page : (ps : List Placed) (from : ℕ) (p : Page) (left skip' limit left2 : ℕ) (out out2 old : List ℕ) → IsPage (map block_at ps) p → IsGathering ps from p.from 0 left skip' limit out old
-    → p.lines ≤ left → out2 ≡ out ++ p.text → left2 ≡ left - p.lines → IsGathering ps from p.to 0 left2 skip' limit out2 old
-gathering-page ps from p left skip' limit left2 out out2 old is h l grown less =
-    let size : p.lines ≡ length (lines_of (map block_at ps) p) = is.counted in
-    gathering-on ps from p.from p.to 0 left skip' limit 0 left2 out out2 old (lines_of (map block_at ps) p) h (asked-page ps p left left2 is l less) (omega arith)
-    (grown ∙ ap (λ t. out ++ t) is.content) (omega arith)
+pub gathering-one : (ps : List Placed) (from i : ℕ) (p : Placed) (skip left skip' limit left2 : ℕ) (out out2 old : List ℕ) → slice_get ps i ≡ Some p → IsGathering ps from i skip left skip' limit out old
+    → skip < length p.block → 0 < left → out2 ≡ out ++ content_of (slice p.block skip 1) → left2 ≡ left - length (slice p.block skip 1) → IsGathering ps from i (skip + 1) left2 skip' limit out2 old
+gathering-one ps from i p skip left skip' limit left2 out out2 old at h inside some grown less =
+    let size : length (slice p.block skip 1) ≡ 1 = one-line p.block skip inside in
+    let amount : left - 1 ≡ left2 = omega arith in
+    let rest : asked ps i skip left ≡ slice p.block skip 1 ++ asked ps i (skip + 1) left2 =
+    asked-one ps i p skip left at inside some ∙ ap (λ m. slice p.block skip 1 ++ asked ps i (skip + 1) m) amount in
+    gathering-on ps from i i skip left skip' limit (skip + 1) left2 out out2 old (slice p.block skip 1) h rest (omega arith) grown less
 
 -- nothing is asked any more
 pub nothing-asked : (ps : List Placed) (i skip left : ℕ) → (left ≡ 0) ⊎ (length ps ≤ i) → asked ps i skip left ≡ []
@@ -162,10 +172,24 @@ nothing-asked ps i skip left (inr l) = ap (λ qs. slice (joined (map block_at qs
     none (suc k) zero = refl
     none (suc k) (suc n) = refl
 
-pub gathering-end : (ps : List Placed) (from i skip left skip' limit : ℕ) (out old : List ℕ) → IsGathering ps from i skip left skip' limit out old → (left ≡ 0) ⊎ (length ps ≤ i)
-    → (out ≡ old ++ content_of (asked ps from skip' limit)) × (limit - left ≡ length (asked ps from skip' limit))
-gathering-end ps from i skip left skip' limit out old h done =
-    let none : asked ps i skip left ≡ [] = nothing-asked ps i skip left done in
-    let size : length (asked ps i skip left) ≡ 0 = ap length none in
-    let count : (limit - left) + length (asked ps i skip left) ≡ length (asked ps from skip' limit) = h.count in
-    (sym (append-nil out) ∙ ap (λ l. out ++ content_of l) (sym none) ∙ h.content, omega arith)
+-- what was gathered, in the end
+pub record IsGathered (ps : List Placed) (from skip limit n : ℕ) (out old : List ℕ) : Type 0 where
+  pub few : n ≤ limit
+  pub content : out ≡ old ++ content_of (asked ps from skip n)
+  pub count : n ≡ length (asked ps from skip n)
+
+pub gathering-end : (ps : List Placed) (from i skip left skip' limit n : ℕ) (out old : List ℕ) → IsGathering ps from i skip left skip' limit out old → n ≡ limit - left → IsGathered ps from skip' limit n out old
+gathering-end ps from i skip left skip' limit n out old h e =
+    let sum : length h.gathered + left ≡ limit = h.count in
+    let size : n ≡ length h.gathered = omega arith in
+    let first : asked ps from skip' n ≡ h.gathered = take-first (drop skip' (joined (map block_at (drop from ps)))) n limit h.gathered (asked ps i skip left) h.parts size (omega arith) in
+    record { few = omega arith; content = h.content ∙ ap (λ l. old ++ content_of l) (sym first); count = size ∙ ap length (sym first) }
+
+-- and nothing more was asked
+pub gathering-all : (ps : List Placed) (from i skip left skip' limit n : ℕ) (out old : List ℕ) → IsGathering ps from i skip left skip' limit out old → n ≡ limit - left → (left ≡ 0) ⊎ (length ps ≤ i)
+    → asked ps from skip' n ≡ asked ps from skip' limit
+gathering-all ps from i skip left skip' limit n out old h e done =
+    let sum : length h.gathered + left ≡ limit = h.count in
+    let size : n ≡ length h.gathered = omega arith in
+    let first : asked ps from skip' n ≡ h.gathered = take-first (drop skip' (joined (map block_at (drop from ps)))) n limit h.gathered (asked ps i skip left) h.parts size (omega arith) in
+    first ∙ sym (append-nil h.gathered) ∙ ap (λ l. h.gathered ++ l) (sym (nothing-asked ps i skip left done)) ∙ sym h.parts

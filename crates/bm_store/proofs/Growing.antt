@@ -1,6 +1,6 @@
--- A log only gets blocks at its end, so that its pages stay its pages.
-use Rattle.std.proofs.Common.{refl, sym, subst, ℕ, zero, suc, Bool, true, false, cond, List, [], ◌∷◌, ◌++◌, length, fold, Some, None, map}
-use Rattle.std.specs.Prelude.{◌==◌, is_none, string_bytes}
+-- A log only gets blocks at its end.
+use Rattle.std.proofs.Common.{refl, sym, subst, ap, ◌∙◌, append_assoc, ℕ, zero, suc, Bool, true, false, cond, List, [], ◌∷◌, ◌++◌, length, fold, Some, None, map}
+use Rattle.std.specs.Prelude.{◌==◌, is_none}
 use Rattle.std.proofs.lemmas.List.{append-nil}
 use Rattle.std.proofs.lemmas.List.Sums.{fold-append}
 use mathlib.Core.List.{IsPrefix}
@@ -12,11 +12,8 @@ use Rattle.bm_session.specs.declared.item.Item.{Item}
 use Rattle.bm_session.specs.declared.item.Item.TheVariants.{Open, Lines, End, Gone}
 use Rattle.bm_session.specs.declared.results.Results.{Results}
 use Rattle.bm_session.specs.declared.results.Results.TheVariants.{Retry}
-use Rattle.bm_store.specs.declared.pages.Pages.{Pages}
-use Rattle.bm_store.specs.Book.{Logs, no_logs, with_parcel, with_end, change_at, after_item, book}
-use Rattle.bm_store.specs.Laws.{PagesStay}
-use Rattle.bm_store.specs.Paging.{ArePages, HoldsPages, blocks_in}
-use Rattle.bm_store.proofs.Paging.{ArePages-grow}
+use Rattle.bm_store.specs.Book.{Logs, no_logs, with_parcel, with_end, change_at, after_item, book, blocks_in}
+use Rattle.bm_store.specs.Laws.{LogsGrow}
 
 same : (bs : List (List Line)) → IsPrefix bs bs
 same bs = ([], append-nil bs)
@@ -67,15 +64,14 @@ item-grows ls (Lines j parcel) k name = change-grows (with_parcel parcel) (with_
 item-grows ls (End j r) k name = change-grows (with_end r) (with_end-grows r) j ls k name
 item-grows ls Gone k name = map-grows (with_end Retry) (with_end-grows Retry) ls k name
 
-pages-after : (ps : Pages) (ls : List Logs) (i : Item) → HoldsPages ls ps → HoldsPages (after_item ls i) ps
-pages-after ps ls i h =
-    let more = item-grows ls i ps.command (string_bytes ps.name) in
-    subst (λ bs. ArePages bs ps.slots.items) more.1 (ArePages-grow (blocks_in ls ps.command (string_bytes ps.name)) more.0 ps.slots.items h)
+after : (bs cs ds : List (List Line)) → IsPrefix bs cs → IsPrefix cs ds → IsPrefix bs ds
+after bs cs ds p q = (p.0 ++ q.0, sym (append_assoc bs p.0 q.0) ∙ (ap (λ es. es ++ q.0) p.1 ∙ q.1))
 
-pages-fold : (ps : Pages) (js : List Item) (ls : List Logs) → HoldsPages ls ps → HoldsPages (fold after_item ls js) ps
-pages-fold ps [] ls h = h
-pages-fold ps (j ∷ js) ls h = pages-fold ps js (after_item ls j) (pages-after ps ls j h)
+items-grow : (js : List Item) (ls : List Logs) (k : ℕ) (name : Name) → IsPrefix (blocks_in ls k name) (blocks_in (fold after_item ls js) k name)
+items-grow [] ls k name = same (blocks_in ls k name)
+items-grow (j ∷ js) ls k name =
+    after (blocks_in ls k name) (blocks_in (after_item ls j) k name) (blocks_in (fold after_item (after_item ls j) js) k name) (item-grows ls j k name) (items-grow js (after_item ls j) k name)
 
 -- the law
-pub pages_stay : PagesStay
-pages_stay is js ps h = subst (λ ls. HoldsPages ls ps) (sym (fold-append after_item [] is js)) (pages-fold ps js (book is) h)
+pub logs_grow : LogsGrow
+logs_grow is js k name = subst (λ ls. IsPrefix (blocks_in (book is) k name) (blocks_in ls k name)) (sym (fold-append after_item [] is js)) (items-grow js (book is) k name)

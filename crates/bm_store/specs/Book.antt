@@ -106,3 +106,11 @@ stdio_lines_in ls = min (sum_by (λ (l : Logs). length (joined (l.blocks stdio))
 -- how the asked lines are answered: the place that was asked, how many they are, and their text
 abbrev pub chunk_of : ℕ → List Line → Chunk
 chunk_of off ls = record { first_line = off; lines = length ls; content = content_of ls }
+
+-- the blocks of a log, none where it is not there
+abbrev pub blocks_of_log : Name → Option Logs → List (List Line)
+blocks_of_log name (Some l) = l.blocks name
+blocks_of_log name None = []
+
+abbrev pub blocks_in : List Logs → ℕ → Name → List (List Line)
+blocks_in ls k name = blocks_of_log name (slice_get ls k)

@@ -1,13 +1,12 @@
 -- Laws of books.
 use Rattle.std.specs.Prelude.{◌≡◌, ℕ, ◌≤◌, Option, Some, None, if◌then◌else◌, List, ◌++◌, take, true}
+use mathlib.Core.List.{IsPrefix}
 use Rattle.bm_lines.specs.Names.{Name}
 use Rattle.bm_lines.specs.Lines.{Line}
 use Rattle.bm_session.specs.Trace.{Trace, has_log, log, slice, visible, productive, items, was_taken}
 use Rattle.bm_session.specs.declared.item.Item.{Item}
-use Rattle.bm_store.specs.Book.{book, logs, after_item, chunk_in}
+use Rattle.bm_store.specs.Book.{book, logs, after_item, blocks_in, chunk_in}
 use Rattle.bm_store.specs.Kept.{Kept, logs_in, kept_after}
-use Rattle.bm_store.specs.Paging.{HoldsPages}
-use Rattle.bm_store.specs.declared.pages.Pages.{Pages}
 
 -- the asked lines of a log of the trace: none where it is not there
 abbrev pub look_at : Trace → ℕ → Name → ℕ → ℕ → Option (List Line)
@@ -34,6 +33,8 @@ abbrev pub KeptBooksMeanLogs : Type 0
 KeptBooksMeanLogs =
     (cs : List Kept) (i : Item) → logs_in (kept_after cs i) ≡ after_item (logs_in cs) i
 
--- the pages of a log of a book are its pages, whatever items come
-abbrev pub PagesStay : Type 0
-PagesStay = (is js : List Item) (ps : Pages) → HoldsPages (book is) ps → HoldsPages (book (is ++ js)) ps
+-- a log only gets blocks at its end, whatever items come
+abbrev pub LogsGrow : Type 0
+LogsGrow =
+    (is js : List Item) (k : ℕ) (name : Name)
+    → IsPrefix (blocks_in (book is) k name) (blocks_in (book (is ++ js)) k name)

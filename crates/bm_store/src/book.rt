@@ -1,15 +1,14 @@
 //! The book of a lane.
 
-ghost use Rattle.std.specs.Prelude.{◌≡◌, ◌⊎◌, [], length, map, slice_get, Ok, Err, OnOk, OnErr, MatchOption};
+ghost use Rattle.std.specs.Prelude.{◌≡◌, [], length, map, slice_get, Ok, Err, OnOk, OnErr, MatchResult};
 ghost use Rattle.std.specs.Option.{option_copied};
-ghost use Rattle.bm_store.specs.Book.{change_at, after_item, placed_in, chunk_in, chunk_of, state_in, stdio_lines_in};
-ghost use Rattle.bm_store.specs.Paging.{ArePages, HoldsPages, blocks_in};
+ghost use Rattle.bm_store.specs.Book.{change_at, after_item, placed_in, chunk_in, state_in, stdio_lines_in};
+ghost use Rattle.bm_store.specs.Pieces.{LooksAt, LooksAtSome};
 ghost use Rattle.bm_store.specs.Kept.{logs_in, kept_after, kept_with_parcel, kept_with_end};
 
 use crate::chunk::{Chunk, LogState, ViewRefusal};
 use crate::command_logs::CommandLogs;
-use crate::page::Page;
-use crate::pages::Pages;
+use crate::gather::lines;
 use crate::placed::Placed;
 use bm_lines::Parcel;
 use bm_session::{Item, Results};
@@ -62,6 +61,17 @@ fn end_all(commands: &mut [CommandLogs], results: Results)
 {
     for command in commands.iter_mut() {
         command.end(results);
+    }
+}
+
+/// What a viewer is told of lines that were gathered, or for which memory was wanting.
+fn told(gathered: Result<Chunk, AllocError>) -> Result<Chunk, ViewRefusal>
+    ensures { MatchResult gathered (λ chunk. result ≡ Ok chunk)
+        (λ _. result ≡ Err ViewRefusal.Mem) }
+{
+    match gathered {
+        Ok(chunk) => Ok(chunk),
+        Err(_) => Err(ViewRefusal::Mem),
     }
 }
 
@@ -148,52 +158,26 @@ impl Book {
     /// The lines of a log from the place `offset` on, `limit` at most, as far as the log goes: a
     /// place at or behind its end gives none. `NoLog` where the log isn't there.
     pub fn slice(&self, k: u64, name: &str, offset: u64, limit: u64) -> Result<Chunk, ViewRefusal>
-        ensures { MatchOption (chunk_in (logs_in self.now) k name.now offset limit) (result
-            ≡ Err ViewRefusal.NoLog) (λ lines. (result ≡ Ok (chunk_of offset lines))
-            ⊎ (result ≡ Err ViewRefusal.Mem)) }
+        ensures { LooksAt result offset (chunk_in (logs_in self.now) k name.now offset limit) }
     {
-        self.gather(&mut [], k, name, offset, limit)
+        self.lines(k, name, offset, limit, None)
     }
 
-    /// The same, by pages: of a log that is asked for again and again they keep the text of small
-    /// blocks side by side, so that not each block is visited each time.
-    pub fn slice_by(
+    /// The same, or as many of these lines from the first on as have `enough` bytes together, where
+    /// a number is enough: no line follows once the text has so many.
+    pub fn lines(
         &self,
-        pages: &mut Pages,
         k: u64,
         name: &str,
         offset: u64,
         limit: u64,
+        enough: Option<usize>,
     ) -> Result<Chunk, ViewRefusal>
-        requires { HoldsPages (logs_in self.now) pages.old }
-        ensures pages { HoldsPages (logs_in self.now) pages.new }
-        ensures answer { MatchOption (chunk_in (logs_in self.now) k name.now offset limit) (result
-            ≡ Err ViewRefusal.NoLog) (λ lines. (result ≡ Ok (chunk_of offset lines))
-            ⊎ (result ≡ Err ViewRefusal.Mem)) }
+        ensures { LooksAtSome (logs_in self.now) k name.now offset limit enough result }
     {
-        pages.turn_to(k, name);
-        self.gather(pages.slots.as_mut_slice(), k, name, offset, limit)
-    }
-
-    /// The lines of a log, by pages of it.
-    fn gather(
-        &self,
-        slots: &mut [Option<Page>],
-        k: u64,
-        name: &str,
-        offset: u64,
-        limit: u64,
-    ) -> Result<Chunk, ViewRefusal>
-        requires { ArePages (blocks_in (logs_in self.now) k name.now) slots.old }
-        ensures pages { ArePages (blocks_in (logs_in self.now) k name.now) slots.new }
-        ensures room { length slots.new ≡ length slots.old }
-        ensures answer { MatchOption (chunk_in (logs_in self.now) k name.now offset limit) (result
-            ≡ Err ViewRefusal.NoLog) (λ lines. (result ≡ Ok (chunk_of offset lines))
-            ⊎ (result ≡ Err ViewRefusal.Mem)) }
-    {
-        match self.command(k) {
-            Some(command) => {
-                command.chunk(*self.commands.allocator(), slots, name, offset, limit)
+        match self.blocks(k, name) {
+            Some(blocks) => {
+                told(lines(*self.commands.allocator(), blocks, offset, limit, enough))
             }
             None => Err(ViewRefusal::NoLog),
         }

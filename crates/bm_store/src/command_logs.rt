@@ -1,18 +1,15 @@
 //! The logs of one command.
 
-ghost use Rattle.std.specs.Prelude.{◌≡◌, ◌⊎◌, List, bytes_eq, length, position, slice_get, find as find_named, true, Some, None, Ok, Err, if◌then◌else◌, OnOk, OnErr, IfOk, MatchOption, MatchResult};
+ghost use Rattle.std.specs.Prelude.{◌≡◌, List, bytes_eq, length, position, slice_get, find as find_named, true, Some, None, if◌then◌else◌, OnOk, OnErr, IfOk};
 ghost use Rattle.std.specs.Option.{option_copied};
 ghost use Rattle.bm_lines.specs.Names.{stdio};
 ghost use Rattle.bm_lines.specs.Places.{HasPlaces, HasPlacesIfAny};
 ghost use Rattle.bm_session.specs.Trace.{joined};
-ghost use Rattle.bm_store.specs.Book.{is_there, placed_log, state_log, chunk_log, chunk_of};
-ghost use Rattle.bm_store.specs.Paging.{ArePages};
+ghost use Rattle.bm_store.specs.Book.{is_there, placed_log, state_log};
 ghost use Rattle.bm_store.specs.Kept.{Named, names_kept, blocks_of, logs_kept, with_block, with_parts, without_block, have_blocks, nothing_kept, kept_with_parcel, kept_with_end};
 
-use crate::chunk::{Chunk, LogState, ViewRefusal};
-use crate::gather::chunk;
+use crate::chunk::LogState;
 use crate::named_log::NamedLog;
-use crate::page::Page;
 use crate::placed::Placed;
 use bm_lines::{FEW_NAMES, LogName, NameTable, Parcel, Part, STDIO};
 use bm_session::Results;
@@ -197,17 +194,6 @@ fn add_all_by_table(
     Ok(places)
 }
 
-/// What a viewer is told of lines that were gathered, or for which memory was wanting.
-fn told(gathered: Result<Chunk, AllocError>) -> Result<Chunk, ViewRefusal>
-    ensures { MatchResult gathered (λ chunk. result ≡ Ok chunk)
-        (λ _. result ≡ Err ViewRefusal.Mem) }
-{
-    match gathered {
-        Ok(chunk) => Ok(chunk),
-        Err(_) => Err(ViewRefusal::Mem),
-    }
-}
-
 /// The places of the logs' names.
 fn table_of(logs: &Vec<NamedLog>) -> Result<NameTable, AllocError>
     ensures { IfOk result (λ t. HasPlaces t (names_kept logs.now.items)) }
@@ -241,29 +227,6 @@ impl CommandLogs {
             Some(log) => Some(log.blocks()),
             None if name == STDIO => Some(&[]),
             None => None,
-        }
-    }
-
-    /// The asked lines of a log, by pages of it.
-    pub fn chunk(
-        &self,
-        alloc: Global,
-        slots: &mut [Option<Page>],
-        name: &str,
-        offset: u64,
-        limit: u64,
-    ) -> Result<Chunk, ViewRefusal>
-        requires { ArePages (blocks_of self.now.named name.now) slots.old }
-        ensures pages { ArePages (blocks_of self.now.named name.now) slots.new }
-        ensures room { length slots.new ≡ length slots.old }
-        ensures answer { MatchOption (chunk_log name.now offset limit (logs_kept self.now)) (result
-            ≡ Err ViewRefusal.NoLog) (λ lines. (result ≡ Ok (chunk_of offset lines))
-            ⊎ (result ≡ Err ViewRefusal.Mem)) }
-    {
-        match known(&self.places, self.named.as_slice(), name) {
-            Some(log) => told(log.chunk(slots, offset, limit)),
-            None if name == STDIO => told(chunk(alloc, &[], slots, offset, limit)),
-            None => Err(ViewRefusal::NoLog),
         }
     }
 

@@ -1,46 +1,20 @@
 //! Lines of a log from a place on, gathered from its blocks.
 
-ghost use Rattle.std.specs.Prelude.{◌≡◌, ◌++◌, ◌≤◌, ◌<◌, ◌+◌, length, map, take, drop, Some, IfOk, string_bytes, slice_get};
+ghost use Rattle.std.specs.Prelude.{◌≡◌, ◌⊎◌, ◌++◌, ◌≤◌, ◌<◌, ◌+◌, ◌^◌, ℕ, length, map, drop, Some, IfOk, IsTrue, IsFalse, string_bytes, slice_get};
 ghost use Rattle.bm_lines.specs.Lines.{content_of};
 ghost use Rattle.bm_session.specs.Trace.{joined, slice};
-ghost use Rattle.bm_store.specs.Book.{placed, chunk_of};
-ghost use Rattle.bm_store.specs.Paging.{ArePages};
+ghost use Rattle.bm_store.specs.Book.{placed};
+ghost use Rattle.bm_store.specs.Pieces.{HasSome, IsEnough};
 ghost use Rattle.bm_store.specs.Placing.{block_at};
 ghost use Rattle.bm_store.specs.declared.placed.Placed.{Placed};
 
 use crate::chunk::Chunk;
-use crate::page::Page;
-use crate::pages::{make_page, whole_page};
 use crate::placed::Placed;
-use bm_lines::Text;
+use bm_lines::{Block, Text};
 use std::alloc::{AllocError, Global};
 
-/// A place between two: half way, or `reach` from one end, whichever is nearer to that end: the low one
-/// where the search is for an early line, else the high one.
-fn probe(low: usize, high: usize, reach: usize, is_early: bool) -> usize
-    requires { (low + 1 < high) × (0 < reach) }
-    ensures { (low < result) × (result < high) }
-{
-    let middle = low + (high - low) / 2;
-    if is_early {
-        middle.min(low.saturating_add(reach))
-    } else {
-        middle.max(high.saturating_sub(reach))
-    }
-}
-
-/// Whether the line `offset` is in the first half of the lines that stand before the last block.
-fn is_early(blocks: &[Placed], offset: u64) -> bool {
-    match blocks.last() {
-        Some(last) => offset < last.first / 2,
-        None => false,
-    }
-}
-
 /// The place of the last block that begins at or before the line `offset` (0 where there is none),
-/// and how many of its lines stand before that line. Who follows a log asks near its end, and who
-/// reads it whole at its start: so the search goes from the nearer end by steps that double, and
-/// then by halves.
+/// and how many of its lines stand before that line.
 fn seek(blocks: &[Placed], offset: u64) -> (usize, u64)
     requires { blocks.now ≡ placed (map block_at blocks.now) }
     ensures inside { result.0 ≤ length blocks.now }
@@ -48,83 +22,101 @@ fn seek(blocks: &[Placed], offset: u64) -> (usize, u64)
         ≡ drop result.1 (joined (map block_at (drop result.0 blocks.now))) }
     ensures last { (p : Placed) → slice_get blocks.now (result.0 + 1) ≡ Some p → offset < p.first }
 {
-    let is_early = is_early(blocks, offset);
     let mut low = 0;
     let mut before = 0;
     let mut high = blocks.len();
-    let mut reach = 1;
     while high - low > 1 {
-        let place = probe(low, high, reach, is_early);
-        reach = reach.saturating_add(reach);
-        let first = blocks[place].first;
+        let middle = low + (high - low) / 2;
+        let first = blocks[middle].first;
         if first <= offset {
-            low = place;
+            low = middle;
             before = first;
         } else {
-            high = place;
+            high = middle;
         }
     }
     (low, offset - before)
 }
 
+/// Whether a text has as many bytes as are enough, where a number is enough.
+fn is_enough(text: &str, enough: Option<usize>) -> bool
+    ensures { IsTrue result → IsEnough enough text.now }
+{
+    match enough {
+        Some(bytes) => bytes <= text.len(),
+        None => false,
+    }
+}
+
+/// Whether all that is asked of a block is appended at once: where nothing is asked of it, where no
+/// number of bytes is enough, and where it has no more than are still wanted.
+fn is_taken_whole(block: &Block, skip: u64, text: &str, enough: Option<usize>) -> bool
+    ensures { IsFalse result → (skip < length block.now) × (skip + 1 < 2 ^ 64) }
+{
+    if skip >= block.len() as u64 {
+        return true;
+    }
+    match enough {
+        Some(bytes) => block.content().len() <= bytes.saturating_sub(text.len()),
+        None => true,
+    }
+}
+
 /// Appends the content of the lines of the blocks from the place `start` on, behind the first
-/// `skip`, of `limit` lines at most, and counts them. Where all of a page is asked for, its text is
-/// appended at once; where there is none, it is made first if there is room for it.
+/// `skip`, of `limit` lines at most, and counts them. No more follow once the text has as many bytes
+/// as are enough: so the text of all but the last line that was appended has fewer.
 fn gather(
     out: &mut String,
     blocks: &[Placed],
-    slots: &mut [Option<Page>],
     start: usize,
     skip: u64,
     limit: u64,
+    enough: Option<usize>,
 ) -> Result<u64, AllocError>
-    requires { ArePages (map block_at blocks.now) slots.old }
-    ensures pages { ArePages (map block_at blocks.now) slots.new }
-    ensures room { length slots.new ≡ length slots.old }
+    ensures few { IfOk result (λ n. n ≤ limit) }
     ensures content { IfOk result (λ n. string_bytes out.new
         ≡ string_bytes out.old
-        ++ content_of (slice (joined (map block_at (drop start blocks.now))) skip limit)) }
-    ensures count { IfOk result (λ n. n
-        ≡ length (slice (joined (map block_at (drop start blocks.now))) skip limit)) }
+        ++ content_of (slice (joined (map block_at (drop start blocks.now))) skip n)) }
+    ensures count { IfOk result
+        (λ n. n ≡ length (slice (joined (map block_at (drop start blocks.now))) skip n)) }
+    ensures all { IfOk result
+        (λ n. (slice (joined (map block_at (drop start blocks.now))) skip n
+        ≡ slice (joined (map block_at (drop start blocks.now))) skip limit)
+        ⊎ IsEnough enough (string_bytes out.new)) }
 {
     let mut at = start;
     let mut skip = skip;
     let mut left = limit;
-    while at < blocks.len() && left > 0 {
-        make_page(*out.allocator(), slots, blocks, at, skip, left);
-        if let Some(page) = whole_page(slots, at, skip, left) {
-            out.push_str(page.text.as_str())?;
-            left -= page.lines;
-            at = page.to;
-        } else {
-            let block = &blocks[at].block;
-            let taken = block.append_to(out, skip, left)?;
-            left -= taken;
+    while at < blocks.len() && left > 0 && !is_enough(out.as_str(), enough) {
+        let block = &blocks[at].block;
+        if is_taken_whole(block, skip, out.as_str(), enough) {
+            left -= block.append_to(out, skip, left)?;
             skip = skip.saturating_sub(block.len() as u64);
             at += 1;
+        } else {
+            left -= block.append_to(out, skip, 1)?;
+            skip += 1;
         }
     }
     Ok(limit - left)
 }
 
-/// The asked lines of a log whose blocks stand at their places, by its pages.
-pub fn chunk(
+/// The asked lines of a log whose blocks stand at their places: all, or as many from the first on as
+/// have enough bytes together.
+pub fn lines(
     alloc: Global,
     blocks: &[Placed],
-    slots: &mut [Option<Page>],
     offset: u64,
     limit: u64,
+    enough: Option<usize>,
 ) -> Result<Chunk, AllocError>
-    requires placed { blocks.now ≡ placed (map block_at blocks.now) }
-    requires pages { ArePages (map block_at blocks.now) slots.old }
-    ensures pages { ArePages (map block_at blocks.now) slots.new }
-    ensures room { length slots.new ≡ length slots.old }
-    ensures chunk { IfOk result (λ c. c
-        ≡ chunk_of offset (slice (joined (map block_at blocks.now)) offset limit)) }
+    requires { blocks.now ≡ placed (map block_at blocks.now) }
+    ensures { IfOk result (λ c. (n : ℕ)
+        × HasSome (joined (map block_at blocks.now)) offset limit enough c n) }
 {
     let (start, skip) = seek(blocks, offset);
     let mut content = String::new(alloc);
-    let lines = gather(&mut content, blocks, slots, start, skip, limit)?;
+    let lines = gather(&mut content, blocks, start, skip, limit, enough)?;
     Ok(Chunk {
         first_line: offset,
         lines,

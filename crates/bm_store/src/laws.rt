@@ -1,6 +1,6 @@
 //! Whose logs a book has, as a contract.
 
-ghost use Rattle.bm_store.specs.Laws.{BooksHaveTheLogs, VisibleBooksHaveTheLogs, BooksAnswerLooks, KeptBooksMeanLogs, PagesStay};
+ghost use Rattle.bm_store.specs.Laws.{BooksHaveTheLogs, VisibleBooksHaveTheLogs, BooksAnswerLooks, KeptBooksMeanLogs, LogsGrow};
 
 /// Where each event of a trace was taken, the book of its items has the logs, by name, and the
 /// outcomes of the trace; the book of the first `d` items has those of the prefix that viewers see,
@@ -16,7 +16,7 @@ pub fn kept_books_mean_logs()
     ensures { KeptBooksMeanLogs }
 {}
 
-/// The pages that are held of a log are its pages, whatever items come.
-pub fn pages_stay()
-    ensures { PagesStay }
+/// A log only gets blocks at its end, whatever items come.
+pub fn logs_grow()
+    ensures { LogsGrow }
 {}

@@ -8,11 +8,8 @@ mod command_logs;
 mod gather;
 pub mod laws;
 mod named_log;
-mod page;
-mod pages;
 mod placed;
 
 pub use book::Book;
 pub use chunk::{Chunk, LogState, ViewRefusal};
-pub use pages::Pages;
 pub use placed::Placed;

@@ -1,13 +1,9 @@
 //! One log of a command.
 
 ghost use Rattle.std.specs.Prelude.{◌≡◌, ◌++◌, ◌∷◌, [], ◌-◌, length, take, IfOk, OnOk, OnErr};
-ghost use Rattle.bm_session.specs.Trace.{joined, slice};
-ghost use Rattle.bm_store.specs.Book.{placed, chunk_of};
-ghost use Rattle.bm_store.specs.Paging.{ArePages};
+ghost use Rattle.bm_session.specs.Trace.{joined};
+ghost use Rattle.bm_store.specs.Book.{placed};
 
-use crate::chunk::Chunk;
-use crate::gather::chunk;
-use crate::page::Page;
 use crate::placed::Placed;
 use bm_lines::{Block, LogName};
 use std::alloc::{AllocError, Global};
@@ -94,22 +90,5 @@ impl NamedLog {
         if let Some(last) = self.blocks.pop() {
             self.lines = last.first;
         }
-    }
-
-    /// The asked lines, by pages of it.
-    pub fn chunk(
-        &self,
-        slots: &mut [Option<Page>],
-        offset: u64,
-        limit: u64,
-    ) -> Result<Chunk, AllocError>
-        requires { ArePages self.now.blocks slots.old }
-        ensures pages { ArePages self.now.blocks slots.new }
-        ensures room { length slots.new ≡ length slots.old }
-        ensures chunk { IfOk result (λ c. c
-            ≡ chunk_of offset (slice (joined self.now.blocks) offset limit)) }
-    {
-        let alloc = *self.blocks.allocator();
-        chunk(alloc, self.blocks.as_slice(), slots, offset, limit)
     }
 }

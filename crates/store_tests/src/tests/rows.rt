@@ -24,6 +24,25 @@ fn slices_run_over_blocks(rt: HostRuntime) {
 }
 
 #[test]
+fn no_line_follows_what_is_enough(rt: HostRuntime) {
+    static ROWS: [Row; 12] = [
+        (Open(0), Taken),
+        (PieceOf("stdio", 0, 9, 1), Slice(0, 0, "")),
+        (Add(&[("stdio", "a\nb\n")]), Taken),
+        (Add(&[("stdio", "cccc\nd\ne\n")]), Taken),
+        (PieceOf("stdio", 0, 9, 1), Slice(0, 1, "oa\n")),
+        (PieceOf("stdio", 1, 9, 4), Slice(1, 2, "ob\nocccc\n")),
+        (PieceOf("stdio", 0, 9, 6), Slice(0, 2, "oa\nob\n")),
+        (PieceOf("stdio", 2, 1, 99), Slice(2, 1, "occcc\n")),
+        (PieceOf("stdio", 0, 9, 99), Slice(0, 5, "oa\nob\nocccc\nod\noe\n")),
+        (PieceOf("stdio", 3, 9, 0), Slice(3, 0, "")),
+        (PieceOf("stdio", 7, 9, 9), Slice(7, 0, "")),
+        (PieceOf("l", 0, 9, 9), NoLog),
+    ];
+    goes_through(&rt, &mut Book::new(rt.alloc()), &ROWS);
+}
+
+#[test]
 fn offset_is_never_moved(rt: HostRuntime) {
     static ROWS: [Row; 8] = [
         (Open(0), Taken),

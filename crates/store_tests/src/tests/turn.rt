@@ -16,6 +16,8 @@ pub enum Turn {
     Gone,
     /// A log of command 0, and from where on how many lines.
     SliceOf(&'static str, u64, u64),
+    /// The same, and how many bytes are enough.
+    PieceOf(&'static str, u64, u64, usize),
     StateOf(u64, &'static str),
     BlocksOf(u64, &'static str),
     Totals,
@@ -113,10 +115,26 @@ pub fn slice(book: &Book, name: &str, offset: u64, limit: u64) -> Result<Chunk, 
     }
 }
 
+fn piece(
+    book: &Book,
+    name: &str,
+    offset: u64,
+    limit: u64,
+    enough: usize,
+) -> Result<Chunk, ViewRefusal> {
+    match book.lines(0, name, offset, limit, Some(enough)) {
+        Err(ViewRefusal::Mem) => book.lines(0, name, offset, limit, Some(enough)),
+        answer => answer,
+    }
+}
+
 /// Whether the book gives that.
 pub fn plays(alloc: Global, book: &mut Book, (turn, gives): &Row) -> bool {
     match turn {
         Turn::SliceOf(name, offset, limit) => gives.is_slice(slice(book, name, *offset, *limit)),
+        Turn::PieceOf(name, offset, limit, enough) => {
+            gives.is_slice(piece(book, name, *offset, *limit, *enough))
+        }
         Turn::StateOf(k, name) => gives.is_state(book.state(*k, name)),
         Turn::BlocksOf(k, name) => gives.are_blocks(book.blocks(*k, name)),
         Turn::Totals => gives.are_counts(book),

@@ -13,7 +13,6 @@ invariant-loop-high l = record {
   stands : l.before ≡ length (joined (take l.low (map block_at l.blocks)));
   reached : l.before ≤ l.offset;
   ahead : (p : Placed) → slice_get l.blocks l.high ≡ Some p → l.offset < p.first;
-  some : 0 < l.reach;
 }
 
 abbrev pub decreases-loop-high : goal.decreases-loop-high
