@@ -206,7 +206,8 @@ def configuration(latent, builds, idle_ticks=100, resume_ticks=500, slots=2, lis
     `builds` are lists of steps, each a list of words; `latent` is None where the worker connects by itself.
     """
     quoted = json.dumps  # a JSON text, or list of texts, of printable characters is one of TOML too
-    lines = [f"listen = {quoted(listen)}", 'web = "127.0.0.1:0"', "[[worker]]", 'name = "w0"', 'password = "secret"', f"slots = {slots}"]
+    lines = [f"listen = {quoted(listen)}", 'web = "127.0.0.1:0"']
+    lines += ["[[worker]]", 'name = "w0"', 'password = "secret"', f"slots = {slots}"]
     if latent is not None:
         lines += [f"latent = {quoted(latent)}", f"idle_ticks = {idle_ticks}"]
     lines.append(f"resume_ticks = {resume_ticks}")
