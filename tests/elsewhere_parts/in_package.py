@@ -141,7 +141,7 @@ def service():
 
 
 def worker_file():
-    """bolgrudi-worker logs in by a password of a file, and tells what is wrong with its words"""
+    """bolgrudi-worker logs in by a password of a file"""
     with Packages() as packages:
         packages.install()
         with open(f"{packages.root}/etc/bolgrudi/w0.password", "w") as file:
@@ -154,9 +154,19 @@ def worker_file():
             drive.check(results == ["SUCCESS"], f"results {results}")
             print(f"   {drive.compare_all(master, [['echo', 'one']])}; status {master.end()}")
         before.leaves_nothing("the end")
-        for words, status in ((["1", "2"], 2), (["127.0.0.1:1", "w0", "/no/such/file"], 1)):
-            done = subprocess.run(["chroot", packages.root, "bolgrudi-worker", *words], stderr=subprocess.PIPE, env=ENVIRONMENT)
-            drive.check(done.returncode == status and done.stderr, f"bolgrudi-worker {words}: status {done.returncode}")
+
+
+def usages():
+    """each command tells its usage where its words are wrong"""
+    commands = ("bolgrudi-worker", "bolgrudi-alone", "bolgrudi-ssh", "bolgrudi-tidy", "buildworker", "buildmaster")
+    wrong = [(name, [], 2) for name in (*commands, "/usr/lib/bolgrudi/master-service")]
+    wrong.append(("bolgrudi-worker", ["127.0.0.1:1", "w0", "/no/such/file"], 1))
+    with Packages() as packages:
+        packages.install()
+        for name, words, status in wrong:
+            done = subprocess.run(["chroot", packages.root, name, *words], stderr=subprocess.PIPE, text=True, env=ENVIRONMENT)
+            drive.check(done.returncode == status and done.stderr, f"{name} {words}: status {done.returncode}: {done.stderr}")
+            print("   " + done.stderr.strip())
 
 
 def examples():
@@ -178,4 +188,4 @@ def examples():
 
 
 if __name__ == "__main__":
-    drive.main({function.__name__: function for function in (same, debian, tar, units, service, worker_file, examples)})
+    drive.main({function.__name__: function for function in (same, debian, tar, units, service, worker_file, usages, examples)})
