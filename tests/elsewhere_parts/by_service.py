@@ -16,7 +16,8 @@ import urllib.request
 import drive
 
 FOLDER = "/etc/bolgrudi"
-WEB = "127.0.0.1:8010"
+LISTEN, WEB = "127.0.0.1:9989", "127.0.0.1:8010"
+OTHER_LISTEN, OTHER_WEB = "127.0.0.1:9999", "127.0.0.1:8020"
 MASTER, WORKER = "bolgrudi-master@main", "bolgrudi-worker@w0"
 SHOWN = ["sh", "-c", "echo one; echo two >&2; exit 3"]
 BELOW = ["sh", "-c", "echo begun; sleep 4322; echo not reached"]
@@ -37,16 +38,16 @@ def wait_until(what, is_so):
         time.sleep(0.1)
 
 
-def told():
-    """What the master has told since it was started last."""
-    run = shown(MASTER, "InvocationID")
+def told(unit=MASTER):
+    """What a master has told since it was started last."""
+    run = shown(unit, "InvocationID")
     return drive.run("journalctl", "--output=cat", f"_SYSTEMD_INVOCATION_ID={run}").splitlines()
 
 
-def log(build):
+def log(build, unit=MASTER, web=WEB):
     """The lines of the log of a build's step."""
-    (number,) = [line.split()[5].rstrip(":") for line in told() if line.startswith(f"build {build} step started, log")]
-    with urllib.request.urlopen(f"http://{WEB}/api/v2/logs/{number}/contents", timeout=10) as answer:
+    (number,) = [line.split()[5].rstrip(":") for line in told(unit) if line.startswith(f"build {build} step started, log")]
+    with urllib.request.urlopen(f"http://{web}/api/v2/logs/{number}/contents", timeout=10) as answer:
         return json.load(answer)["logchunks"][0]["content"].split("\n")[:-1]
 
 
@@ -56,20 +57,20 @@ def write(name, text):
     os.chmod(f"{FOLDER}/{name}", 0o600)
 
 
-def configure(*commands):
+def configure(commands, name="main", worker="w0", listen=LISTEN, web=WEB):
     """A master of one worker that connects by itself, with a build of one step for each command."""
-    lines = ['listen = "127.0.0.1:9989"', f'web = "{WEB}"', "[[worker]]", 'name = "w0"', 'password = "secret"', "slots = 4"]
+    lines = [f'listen = "{listen}"', f'web = "{web}"', "[[worker]]", f'name = "{worker}"', 'password = "secret"', "slots = 4"]
     for command in commands:
-        lines += ["[[build]]", 'worker = "w0"', "[[build.step]]", 'name = "step"', f"command = {json.dumps(command)}"]
-    write("main.toml", "\n".join(lines) + "\n")
-    write("w0.worker", "MASTER=127.0.0.1:9989\n")
-    write("w0.password", "secret\n")
+        lines += ["[[build]]", f'worker = "{worker}"', "[[build.step]]", 'name = "step"', f"command = {json.dumps(command)}"]
+    write(f"{name}.toml", "\n".join(lines) + "\n")
+    write(f"{worker}.worker", f"MASTER={listen}\n")
+    write(f"{worker}.password", "secret\n")
 
 
 @contextlib.contextmanager
 def units(*commands):
     """Both units, in which each build runs a step or has run it. They are stopped at the end, and nothing is to stay."""
-    configure(*commands)
+    configure(commands)
     before = drive.Before()
     try:
         system("start", MASTER, WORKER)
@@ -77,9 +78,9 @@ def units(*commands):
         time.sleep(0.5)
         yield
     finally:
-        subprocess.run(["systemctl", "stop", WORKER, MASTER], check=True)
+        subprocess.run(["systemctl", "stop", "bolgrudi-*"], check=True)
         subprocess.run(["systemctl", "reset-failed"], check=True)
-    before.leaves_nothing("a stop of both units")
+    before.leaves_nothing("a stop of all units")
 
 
 def stop():
@@ -133,5 +134,19 @@ def secrets():
         drive.check(users == ["bolgrudi-master-main", "bolgrudi-worker-w0"], f"users {users}")
 
 
+def two_masters():
+    """two masters beside each other, each with a worker: the stop of one leaves the other alone"""
+    other = "bolgrudi-master@other"
+    configure([SHOWN], "other", "w1", OTHER_LISTEN, OTHER_WEB)
+    with units(BELOW):
+        system("start", other, "bolgrudi-worker@w1")
+        wait_until("the other's build", lambda: "build 0 FAILURE" in told(other))
+        drive.compare(log(0, other, OTHER_WEB), SHOWN)
+        drive.check(shown(MASTER, "UID") != shown(other, "UID"), "both have one user")
+        system("stop", MASTER)
+        drive.check("build 0 CANCELLED" in told(), f"{told()}")
+        drive.compare(log(0, other, OTHER_WEB), SHOWN)
+
+
 if __name__ == "__main__":
-    drive.main({function.__name__: function for function in (stop, worker_killed, master_again, secrets)})
+    drive.main({function.__name__: function for function in (stop, worker_killed, master_again, two_masters, secrets)})
