@@ -23,6 +23,8 @@ pub mod Carries
 pub mod Greeting
 pub mod Asked
 pub mod Working
+-- What is sent beside messages: pings, and close frames.
+pub mod Frames
 -- Laws of what is carried, and of what a fault leaves behind it.
 pub mod Laws
 pub mod LawsOfFaults

@@ -15,6 +15,7 @@ mod attaching;
 mod carry;
 mod credentials;
 mod fault;
+mod frames;
 mod greeting;
 mod incoming;
 pub mod laws;

@@ -5,3 +5,5 @@ pub mod Headers
 pub mod Pipes
 pub mod Pieces
 pub mod Opening
+pub mod Turns
+pub mod Keepalives

@@ -1,6 +1,5 @@
 -- How a command begins and ends in what waits to be told.
 use Rattle.std.specs.Prelude.{◌≡◌, ◌⊎◌, ℕ, ℤ, List, [], ◌∷◌, ◌++◌, map, Option, Some, None}
-use Rattle.bm_lines.specs.declared.letter.Letter.{Letter}
 use Rattle.bm_lines.specs.declared.letter.Letter.TheVariants.{H}
 use Rattle.bm_work.specs.Cuts.{texts_of as cut_texts, left_of, shown}
 use Rattle.bm_outbox.specs.Headers.{words_line, exit_line}

@@ -5,19 +5,23 @@
 mod ending;
 mod item;
 mod joining;
+mod keepalive;
 mod outbox;
 mod pipe_texts;
 mod pipes;
 mod said;
 mod session;
 mod tries;
+mod turn;
 mod words;
 
 pub use ending::Ending;
 pub use item::Item;
+pub use keepalive::{Keepalive, after_silence};
 pub use outbox::{Outbox, Told};
 pub use pipe_texts::PipeTexts;
 pub use pipes::Pipes;
 pub use said::{MOST_BYTES, Said};
 pub use session::begin;
 pub use tries::Tries;
+pub use turn::{Ready, next_turn};

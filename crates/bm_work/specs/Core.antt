@@ -1,7 +1,7 @@
 -- A worker's side of a session: what it answers, what it reported, and what it still awaits an
 -- answer to.
 use Rattle.std.specs.Prelude.{◌≡◌, ℕ, ◌+◌, ◌<◌, ◌≤◌, ◌==◌, ◌^◌, Bool, not, ◌&&◌, nat_le, List, [], ◌∷◌, ◌++◌, length, map, filter, All, codes, bytes_eq, Option, Some, None, is_none, if◌then◌else◌}
-use Rattle.std.specs.List.{list_any}
+use Rattle.std.specs.List.{list_any, sum_by}
 use Rattle.std.specs.Ordering.{nat_cmp}
 use Rattle.std.specs.FinMap.{FinMap, empty, get, insert}
 use Rattle.bm_msg.specs.Meaning.{Asked, print, keepalive, get_worker_info, start_command, interrupt_command, shutdown, Meaning, request, response}
@@ -35,6 +35,10 @@ next_number c = length c.reports
 -- the requests of its stream without an answer, oldest first
 abbrev pub unanswered_requests : Core → List Sent
 unanswered_requests c = without_answer c.answered (stream c.reports)
+
+-- how many bytes requests have together
+abbrev pub bytes_of : List Sent → ℕ
+bytes_of requests = sum_by (λ (s : Sent). length s.bytes) requests
 
 -- command k is one of those that run
 abbrev pub runs_among : List ℕ → ℕ → Bool

@@ -1,13 +1,13 @@
 //! A worker's side of a session.
 
-ghost use Rattle.std.specs.Prelude.{◌≡◌, ℕ, ◌≤◌, ◌<◌, ◌^◌, ◌⊎◌, ◌∷◌, [], length, not, ◌==◌, filter, Vec, IfOk, IfErr, OnOk, OnErr, Some, None, if◌then◌else◌};
+ghost use Rattle.std.specs.Prelude.{◌≡◌, ℕ, ◌≤◌, ◌<◌, ◌^◌, ◌⊎◌, ◌∷◌, [], length, min, not, ◌==◌, ◌-◌, filter, Vec, IfOk, IfErr, OnOk, OnErr, Some, None, if◌then◌else◌};
 ghost use Rattle.std.specs.List.{list_any};
 ghost use Rattle.std.specs.Option.{option_map};
 ghost use Rattle.bm_work.specs.Stream.{text as text_of, sent, stream, stream_from, without_answer};
 ghost use Rattle.bm_work.specs.Reports.{reports_of, fault_of};
 ghost use Rattle.bm_work.specs.declared.sent.Sent.{Sent as SentRequest};
 ghost use Rattle.bm_msg.specs.Meaning.{meaning, asked, request};
-ghost use Rattle.bm_work.specs.Core.{heard, heard_request, bad_request, new_core, runs, refusal as refusal_of, next_number, unanswered_requests, with_reports, without_command, freed, awaits, Rise, numbers};
+ghost use Rattle.bm_work.specs.Core.{bytes_of, heard, heard_request, bad_request, new_core, runs, refusal as refusal_of, next_number, unanswered_requests, with_reports, without_command, freed, awaits, Rise, numbers};
 
 use crate::act::{WorkAct, WorkRefusal};
 use crate::answer::Answer;
@@ -210,6 +210,21 @@ impl Worker {
         copies(*self.unanswered.allocator(), self.unanswered.as_slice())
     }
 
+    /// Whether a request of the stream has no answer.
+    pub fn has_unanswered(&self) -> bool
+        ensures { result ≡ not (length (unanswered_requests self.now) == 0) }
+    {
+        !self.unanswered.is_empty()
+    }
+
+    /// How many bytes the requests of the stream that have no answer have together; 2^64 - 1 where
+    /// there are more.
+    pub fn unanswered_bytes(&self) -> usize
+        ensures { result ≡ min (bytes_of (unanswered_requests self.now)) (2 ^ 64 - 1) }
+    {
+        total_bytes(self.unanswered.as_slice())
+    }
+
     /// What a request asks, and its response. Want of memory gives it back and changes nothing.
     fn hear_request(&mut self, numbered: Numbered) -> Result<(WorkAct, Vec<u8>), Numbered>
         ensures act { IfOk result (λ r. r.0
@@ -304,6 +319,17 @@ fn contains(requests: &[Sent], seq: u64) -> bool
     ensures { result ≡ list_any (λ (s : SentRequest). s.seq == seq) requests.now }
 {
     requests.iter().any(|sent| sent.seq == seq)
+}
+
+/// How many bytes requests have together, 2^64 - 1 where there are more.
+fn total_bytes(requests: &[Sent]) -> usize
+    ensures { result ≡ min (bytes_of requests.now) (2 ^ 64 - 1) }
+{
+    let mut total = 0usize;
+    for request in requests {
+        total = total.saturating_add(request.bytes.as_slice().len());
+    }
+    total
 }
 
 /// How many requests tell of the end of a command.
