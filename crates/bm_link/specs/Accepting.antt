@@ -11,10 +11,14 @@ use Rattle.bm_link.specs.Link.{LinkState}
 abbrev pub most_bytes : ℕ
 most_bytes = 1048576
 
+-- and no more than this waits to be sent
+abbrev pub most_waiting : ℕ
+most_waiting = 2097152
+
 abbrev pub IsLimited : WebSocketConfig → Type 0
 IsLimited c =
     (c.max_message_size ≡ Some most_bytes) × (c.max_frame_size ≡ Some most_bytes)
-    × (c.accept_unmasked_frames ≡ false)
+    × (c.max_write_buffer_size ≡ most_waiting) × (c.accept_unmasked_frames ≡ false)
 
 abbrev pub Limit : Limits → Type 0
 Limit c =

@@ -14,10 +14,11 @@ pub mod Users
 pub mod Logins
 pub mod Telling
 pub mod Attaching
--- What a master sends unasked, and what a lane carries from one link to the next.
+-- What a master sends unasked, its pings and closes, and what a lane carries from one link to the next.
 pub mod Orders
 pub mod Asks
 pub mod Asking
+pub mod Control
 pub mod Carries
 -- The worker's end: its login, and what a turn of its link does.
 pub mod Greeting

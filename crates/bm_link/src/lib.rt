@@ -13,6 +13,7 @@ mod asked;
 mod asks;
 mod attaching;
 mod carry;
+mod control;
 mod credentials;
 mod fault;
 mod frames;

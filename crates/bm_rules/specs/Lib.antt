@@ -5,6 +5,7 @@ pub mod Post
 pub mod Cancel
 pub mod Exit
 pub mod Pace
+pub mod PeerTimer
 pub mod OneLine
 pub mod Reasons
 pub mod Report

@@ -1,0 +1,105 @@
+//! What a master's link sends beside messages: a ping, a close frame, and the answer to a login
+//! whose lane can't be asked.
+
+ghost use Rattle.std.specs.Prelude.{◌≡◌};
+ghost use Rattle.bm_link.specs.Control.{ClosesFor, PingsFor, PutsOff, SendsClose, SendsPing};
+
+use crate::carry::Carry;
+use crate::fault::{LinkFault, fault_of};
+use crate::master::MasterLink;
+use crate::parts::Stage;
+use crate::telling::refuse;
+use bm_lane::HearRefusal;
+use std::alloc::Global;
+use std::io::{Read, Write};
+use tungstenite::{Bytes, Message, NoMask, WebSocket};
+
+/// Sends a ping without a payload, where the connection takes one.
+fn send_ping<S: Read + Write + Drop>(socket: &mut WebSocket<S, NoMask>) -> Result<(), LinkFault>
+    ensures { SendsPing S.contents socket.old result socket.new }
+{
+    if !socket.can_write() {
+        return Err(LinkFault::Closed);
+    }
+    match socket.send(Message::Ping(Bytes::new())) {
+        Ok(()) => Ok(()),
+        Err(error) => Err(fault_of(&error)),
+    }
+}
+
+/// Sends a close frame without a code, where the connection takes one.
+fn send_close<S: Read + Write + Drop>(socket: &mut WebSocket<S, NoMask>) -> Result<(), LinkFault>
+    ensures { SendsClose S.contents socket.old result socket.new }
+{
+    if !socket.can_write() {
+        return Err(LinkFault::Closed);
+    }
+    match socket.close(None) {
+        Ok(()) => Ok(()),
+        Err(error) => Err(fault_of(&error)),
+    }
+}
+
+impl<S: Read + Write + Drop> MasterLink<S> {
+    /// Asks the worker for a sign of life, which is no request of the session: a peer that is there
+    /// answers with a pong, which a `turn` passes over.
+    ///
+    /// # Errors
+    ///
+    /// `Closed` where no lane is up by the link. After any fault the link has failed, and the next
+    /// `turn` cuts the lane or takes it down.
+    pub fn ping(&mut self, carry: &Carry) -> Result<(), LinkFault>
+        ensures pinged { PingsFor S.contents self.old.stage self.old carry.now result self.new }
+        ensures login { self.new.login ≡ self.old.login }
+        ensures refused { self.new.refused ≡ self.old.refused }
+    {
+        let Stage::Up = self.stage else {
+            return Err(LinkFault::Closed);
+        };
+        match send_ping(&mut self.socket) {
+            Ok(()) => Ok(()),
+            Err(fault) => {
+                self.kept = None;
+                self.stage = Stage::Falling {
+                    may_cut: carry.may_cut(&fault),
+                };
+                Err(fault)
+            }
+        }
+    }
+
+    /// Ends the link by a close frame. Nothing is heard any more: the next `turn` takes the lane
+    /// down.
+    ///
+    /// # Errors
+    ///
+    /// `Closed` where no lane is up by the link, which then is as before. After any other fault no
+    /// more than a beginning of the frame left, and the next `turn` takes the lane down as well.
+    pub fn close(&mut self) -> Result<(), LinkFault>
+        ensures closed { ClosesFor S.contents self.old.stage self.old result self.new }
+        ensures login { self.new.login ≡ self.old.login }
+        ensures refused { self.new.refused ≡ self.old.refused }
+    {
+        let Stage::Up = self.stage else {
+            return Err(LinkFault::Closed);
+        };
+        let answer = send_close(&mut self.socket);
+        self.kept = None;
+        self.stage = Stage::Falling { may_cut: false };
+        answer
+    }
+
+    /// Answers the login that waits by `busy`, where its lane can't be asked just now. The result
+    /// is the link's fault, and the link has failed: `Closed` where no login waits.
+    pub fn put_off(&mut self, alloc: Global) -> LinkFault
+        ensures put_off { PutsOff S.contents self.old.login self.old result self.new }
+        ensures kept { self.new.kept ≡ self.old.kept }
+        ensures refused { self.new.refused ≡ self.old.refused }
+    {
+        let Some(login) = self.login.take() else {
+            return LinkFault::Closed;
+        };
+        self.stage = Stage::Failed;
+        refuse(alloc, &mut self.socket, login.seq, HearRefusal::Busy)
+    }
+}
