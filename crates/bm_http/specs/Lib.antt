@@ -10,6 +10,10 @@ pub mod Bodies
 pub mod Replies
 pub mod Shown
 pub mod Laws
+pub mod LongAnswers
+pub mod Pieces
+pub mod FirstLooks
+pub mod WholeOrLong
 -- The others only help proofs: the rows of the router, and the values whose texts the bodies are.
 pub mod Held
 pub mod Values

@@ -85,7 +85,7 @@ fn with_chunk(
 }
 
 // A look of one viewer at the state of a command's log.
-fn state_by<'t, Y: Yard>(
+pub(crate) fn state_by<'t, Y: Yard>(
     viewer: &mut Viewer<Y>,
     command: u64,
     id: u64,

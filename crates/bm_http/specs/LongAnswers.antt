@@ -1,0 +1,26 @@
+-- Answers that are told piece by piece.
+use Rattle.std.specs.Prelude.{ℕ, ◌-◌, List, [], ◌++◌, Option, Some, None}
+use Rattle.json.specs.Print.{escape}
+use Rattle.bm_lines.specs.Names.{Name}
+use Rattle.bm_lines.specs.Lines.{Line, content_of}
+use Rattle.bm_session.specs.declared.item.Item.{Item}
+use Rattle.bm_session.specs.Trace.{joined, slice}
+use Rattle.bm_store.specs.Book.{book, blocks_in}
+
+-- the lines of a log in the book of these items, none where it isn't there
+abbrev pub log_in : List Item → ℕ → Name → List Line
+log_in seen k name = joined (blocks_in (book seen) k name)
+
+-- lines as they stand inside a string of JSON
+abbrev pub escaped : List Line → List ℕ
+escaped lines = escape (content_of lines)
+
+abbrev pub held : Option (List ℕ) → List ℕ
+held None = []
+held (Some text) = text
+
+-- what is left to tell: what stands before the lines, the lines from one place up to another, and
+-- what stands behind them
+abbrev pub left_text : Option (List ℕ) → List Line → ℕ → ℕ → Option (List ℕ) → List ℕ
+left_text front lines at end back =
+    held front ++ (escaped (slice lines at (end - at)) ++ held back)

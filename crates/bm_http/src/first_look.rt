@@ -1,0 +1,118 @@
+//! What one viewer shows of what was asked for at the first look: a long answer is only begun.
+ghost use Rattle.std.specs.Prelude.{◌≡◌, ◌<◌, ◌/◌, IfOk};
+ghost use Rattle.std.specs.Cow.{cow_str_bytes};
+ghost use Rattle.bm_http.specs.FirstLooks.{GoesOn, ShowsLines, Tells, shown_by};
+ghost use Rattle.bm_http.specs.Replies.{chunk_reply};
+ghost use Rattle.bm_http.specs.Shown.{asked_by};
+
+use crate::long_answer::{ENOUGH, LongAnswer};
+use crate::request::{Request, Span};
+use crate::sight::{Sight, state_by};
+use bm_lane::{Viewer, Yard};
+use std::alloc::{AllocError, Global};
+use std::borrow::CowStr;
+
+/// What one viewer showed of what a request asks for, of which the answer is made.
+#[derive(Drop)]
+pub enum FirstLook<'t, Y: Yard> {
+    /// All of it.
+    Whole(Sight<'t>),
+    /// Many lines, which are still to be told.
+    Long(LongAnswer<Y>),
+}
+
+// The beginning of a long answer, by a look at where it ends.
+fn long_by<'t, Y: Yard>(
+    alloc: Global,
+    viewer: &mut Viewer<Y>,
+    command: u64,
+    id: u64,
+    name: CowStr<'t>,
+    span: Span,
+) -> Result<FirstLook<'t, Y>, AllocError>
+    ensures on { GoesOn viewer.old viewer.new }
+    ensures shown { IfOk result (λ g. (r : _)
+        × ShowsLines viewer.new command (cow_str_bytes name.entry) span.offset span.limit r
+        × (shown_by g ≡ chunk_reply id r)) }
+{
+    let state = match viewer.state(command, name.as_str()) {
+        Ok(state) => state,
+        Err(refused) => return Ok(FirstLook::Whole(Sight::Lines(id, Err(refused)))),
+    };
+    let count = span.limit.min(state.lines.saturating_sub(span.offset));
+    // A log of 2^64 lines has no memory, and one that had lines has them still.
+    if count == 0 || state.lines == u64::MAX {
+        return Err(AllocError);
+    }
+    let name = name.into_owned(alloc)?;
+    let answer = LongAnswer::new(alloc, viewer, id, command, name, span.offset, count)?;
+    Ok(FirstLook::Long(answer))
+}
+
+// A look of one viewer at lines of a command's log: all of them, where they are no longer than a
+// piece.
+fn lines_by<'t, Y: Yard>(
+    alloc: Global,
+    viewer: &mut Viewer<Y>,
+    command: u64,
+    id: u64,
+    name: CowStr<'t>,
+    span: Span,
+) -> Result<FirstLook<'t, Y>, AllocError>
+    ensures on { GoesOn viewer.old viewer.new }
+    ensures shown { IfOk result (λ g. (r : _)
+        × ShowsLines viewer.new command (cow_str_bytes name.entry) span.offset span.limit r
+        × (shown_by g ≡ chunk_reply id r)) }
+{
+    match viewer.piece(command, name.as_str(), span.offset, span.limit, ENOUGH) {
+        Err(refused) => Ok(FirstLook::Whole(Sight::Lines(id, Err(refused)))),
+        Ok(chunk) => {
+            if chunk.content.as_str().len() < ENOUGH {
+                return Ok(FirstLook::Whole(Sight::Lines(id, Ok(chunk))));
+            }
+            long_by(alloc, viewer, command, id, name, span)
+        }
+    }
+}
+
+impl<'t> Request<'t> {
+    /// The lane whose viewer is asked, of so many; none where no viewer is needed.
+    pub fn lane(&self, lanes: u64) -> Option<u64>
+        requires { 0 < lanes }
+    {
+        match self {
+            Request::Refused(_) => None,
+            Request::State(id, _) | Request::Lines(id, _, _) => Some(*id % lanes),
+        }
+    }
+
+    /// What the viewer of that lane shows of it. An error where memory is wanting, or where it is
+    /// the viewer of another lane.
+    pub fn first_look<Y: Yard>(
+        self,
+        alloc: Global,
+        lanes: u64,
+        viewer: &mut Viewer<Y>,
+    ) -> Result<FirstLook<'t, Y>, AllocError>
+        requires { 0 < lanes }
+        ensures on { GoesOn viewer.old viewer.new }
+        ensures told { IfOk result
+            (λ g. Tells (asked_by self.entry) lanes viewer.new (shown_by g)) }
+    {
+        match self {
+            Request::Refused(refusal) => Ok(FirstLook::Whole(Sight::Refused(refusal))),
+            Request::State(id, name) => {
+                if viewer.lane() != id % lanes {
+                    return Err(AllocError);
+                }
+                Ok(FirstLook::Whole(state_by(viewer, id / lanes, id, name)))
+            }
+            Request::Lines(id, name, span) => {
+                if viewer.lane() != id % lanes {
+                    return Err(AllocError);
+                }
+                lines_by(alloc, viewer, id / lanes, id, name, span)
+            }
+        }
+    }
+}

@@ -1,0 +1,188 @@
+//! Lines of a log that are told piece by piece, as the log stood at one look.
+ghost use Rattle.std.specs.Prelude.{◌≡◌, ◌+◌, ◌^◌, ◌<◌, ◌≤◌, ◌++◌, [], length, IfOk, MatchOption, string_bytes};
+ghost use mathlib.Core.List.{IsPrefix};
+ghost use Rattle.json.specs.Print.{escape};
+ghost use Rattle.bm_lines.specs.Lines.{content_of};
+ghost use Rattle.bm_session.specs.Trace.{slice};
+ghost use Rattle.bm_http.specs.Bodies.{contents_text};
+ghost use Rattle.bm_http.specs.LongAnswers.{log_in};
+ghost use Rattle.bm_http.specs.Pieces.{piece_text};
+
+use crate::bodies;
+use bm_lane::{Mark, Viewer, Yard};
+use bm_lines::Text;
+use bm_store::Chunk;
+use bytes::Bytes;
+use serde_json::Value;
+use std::alloc::{AllocError, Global};
+use std::marker::Model;
+use thiserror::Error;
+
+/// How long the text before the lines is.
+const FRONT: usize = 26;
+
+/// How many bytes of lines are enough for a piece.
+pub(crate) const ENOUGH: usize = 65_536;
+
+/// Why a piece can't be had.
+#[derive(Clone, Copy, Debug, Error)]
+pub enum PieceError {
+    /// Memory is wanting.
+    #[error("out of memory")]
+    Memory,
+    /// The viewer shows no lines, or isn't the one that the answer began at.
+    #[error("no view")]
+    View,
+}
+
+/// What is left to tell of lines of a log, as the log stood when the answer began. Contracts see
+/// the text.
+#[derive(Drop)]
+pub struct LongAnswer<Y: Yard> {
+    mark: Mark<Y>,
+    command: u64,
+    name: String,
+    front: Option<Bytes>,
+    at: u64,
+    end: u64,
+    back: Option<Bytes>,
+}
+
+impl<Y: Yard> Model for LongAnswer<Y> {
+    ghost use Rattle.std.specs.Prelude.{ℕ, List, ◌≤◌, ◌<◌, length, string_bytes};
+    ghost use Rattle.bm_http.specs.LongAnswers.{left_text, log_in};
+
+    ghost Value = { List ℕ };
+
+    ghost view = { λ s. left_text s.front (log_in s.mark.seen s.command (string_bytes s.name)) s.at
+        s.end s.back };
+
+    ghost invariant = { λ s. (s.at ≤ s.end)
+        × (s.end ≤ length (log_in s.mark.seen s.command (string_bytes s.name))) };
+}
+
+/// A piece of a text: as it is, or still to be escaped.
+#[derive(Drop)]
+pub enum Piece {
+    Ready(Bytes),
+    Raw(Text),
+}
+
+impl Piece {
+    /// The bytes. No viewer is needed for it.
+    pub fn told(self, alloc: Global) -> Result<Bytes, PieceError>
+        ensures { IfOk result (λ b. b ≡ piece_text self) }
+    {
+        match self {
+            Piece::Ready(bytes) => Ok(bytes),
+            Piece::Raw(text) => match inside(alloc, text) {
+                Ok(bytes) => Ok(bytes),
+                Err(_) => Err(PieceError::Memory),
+            },
+        }
+    }
+}
+
+/// A text as it stands inside a string of JSON.
+fn inside(alloc: Global, text: Text) -> Result<Bytes, AllocError>
+    ensures { IfOk result (λ b. b ≡ escape text) }
+{
+    let value = Value::String(text.into_string());
+    let quoted = Bytes::from_vec(value.to_vec(alloc)?)?;
+    if quoted.len() < 2 {
+        return Err(AllocError);
+    }
+    quoted.slice(1..quoted.len() - 1)
+}
+
+/// Lines of a log as it stood at a mark, by a look of now: as many as make a piece.
+fn lines_at<Y: Yard>(
+    viewer: &mut Viewer<Y>,
+    mark: &Mark<Y>,
+    command: u64,
+    name: &str,
+    at: u64,
+    count: u64,
+) -> Result<Chunk, PieceError>
+    requires { at + count ≤ length (log_in mark.now.seen command name.now) }
+    ensures seen { (viewer.new.lane ≡ viewer.old.lane) × IsPrefix viewer.old.seen viewer.new.seen }
+    ensures lines { IfOk result (λ c. (c.lines ≤ count)
+        × (c.content ≡ content_of (slice (log_in mark.now.seen command name.now) at c.lines))) }
+{
+    let Ok(chunk) = viewer.piece(command, name, at, count, ENOUGH) else {
+        return Err(PieceError::View);
+    };
+    if !viewer.has_seen(mark) {
+        return Err(PieceError::View);
+    }
+    Ok(chunk)
+}
+
+impl<Y: Yard> LongAnswer<Y> {
+    /// The answer with lines of a log as the viewer has seen it.
+    pub fn new(
+        alloc: Global,
+        viewer: &Viewer<Y>,
+        id: u64,
+        command: u64,
+        name: String,
+        first: u64,
+        count: u64,
+    ) -> Result<LongAnswer<Y>, AllocError>
+        requires there { first + count ≤ length (log_in viewer.now.seen command (string_bytes name)) }
+        requires few { first + count < 2 ^ 64 }
+        ensures { IfOk result (λ s. s ≡ contents_text id first (content_of
+            (slice (log_in viewer.now.seen command (string_bytes name)) first count))) }
+    {
+        let empty = Text::from_string(String::new(alloc));
+        let mut back = Bytes::from_vec(bodies::contents(alloc, id, first, empty)?)?;
+        let front = back.split_to(FRONT)?;
+        Ok(LongAnswer {
+            mark: viewer.mark(),
+            command,
+            name,
+            front: Some(front),
+            at: first,
+            end: first + count,
+            back: Some(back),
+        })
+    }
+
+    /// The lane that it is of.
+    pub fn lane(&self) -> u64 {
+        self.mark.lane()
+    }
+
+    /// The next piece of the text, or none at its end. The viewer is one of the lane that the
+    /// answer began at, which has seen no less; else the piece is lost.
+    pub fn next(&mut self, viewer: &mut Viewer<Y>) -> Option<Result<Piece, PieceError>>
+        ensures seen { (viewer.new.lane ≡ viewer.old.lane)
+            × IsPrefix viewer.old.seen viewer.new.seen }
+        ensures piece { MatchOption result (self.old ≡ [])
+            (λ r. IfOk r (λ p. self.old ≡ piece_text p ++ self.new)) }
+    {
+        if let Some(front) = self.front.take() {
+            return Some(Ok(Piece::Ready(front)));
+        }
+        if self.at < self.end {
+            let lines = lines_at(
+                viewer,
+                &self.mark,
+                self.command,
+                self.name.as_str(),
+                self.at,
+                self.end - self.at,
+            );
+            let chunk = match lines {
+                Ok(chunk) => chunk,
+                Err(error) => return Some(Err(error)),
+            };
+            self.at += chunk.lines;
+            return Some(Ok(Piece::Raw(chunk.content)));
+        }
+        match self.back.take() {
+            Some(back) => Some(Ok(Piece::Ready(back))),
+            None => None,
+        }
+    }
+}
