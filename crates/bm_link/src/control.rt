@@ -2,43 +2,17 @@
 //! whose lane can't be asked.
 
 ghost use Rattle.std.specs.Prelude.{◌≡◌};
-ghost use Rattle.bm_link.specs.Control.{ClosesFor, PingsFor, PutsOff, SendsClose, SendsPing};
+ghost use Rattle.bm_link.specs.Control.{ClosesFor, PingsFor, PutsOff};
 
 use crate::carry::Carry;
-use crate::fault::{LinkFault, fault_of};
+use crate::fault::LinkFault;
+use crate::frames::{send_close, send_ping};
 use crate::master::MasterLink;
 use crate::parts::Stage;
 use crate::telling::refuse;
 use bm_lane::HearRefusal;
 use std::alloc::Global;
 use std::io::{Read, Write};
-use tungstenite::{Bytes, Message, NoMask, WebSocket};
-
-/// Sends a ping without a payload, where the connection takes one.
-fn send_ping<S: Read + Write + Drop>(socket: &mut WebSocket<S, NoMask>) -> Result<(), LinkFault>
-    ensures { SendsPing S.contents socket.old result socket.new }
-{
-    if !socket.can_write() {
-        return Err(LinkFault::Closed);
-    }
-    match socket.send(Message::Ping(Bytes::new())) {
-        Ok(()) => Ok(()),
-        Err(error) => Err(fault_of(&error)),
-    }
-}
-
-/// Sends a close frame without a code, where the connection takes one.
-fn send_close<S: Read + Write + Drop>(socket: &mut WebSocket<S, NoMask>) -> Result<(), LinkFault>
-    ensures { SendsClose S.contents socket.old result socket.new }
-{
-    if !socket.can_write() {
-        return Err(LinkFault::Closed);
-    }
-    match socket.close(None) {
-        Ok(()) => Ok(()),
-        Err(error) => Err(fault_of(&error)),
-    }
-}
 
 impl<S: Read + Write + Drop> MasterLink<S> {
     /// Asks the worker for a sign of life, which is no request of the session: a peer that is there
