@@ -1,55 +1,86 @@
 //! The processes of the commands that run.
 
-ghost use Rattle.std.specs.Prelude.{OnOk};
+ghost use Rattle.std.specs.Prelude.{◌<◌, length, OnOk};
 ghost use Rattle.bm_outbox.specs.Opening.{Starts};
 
-use crate::pump::{Part, Piece, Pump};
+use crate::host::Host;
+use crate::job::Job;
+use crate::mailbox::{Mail, Part, Piece};
+use crate::pipe_reader::PipeReader;
 use bm_lines::{Letter, Text};
-use bm_outbox::{Ending, Item, Outbox, Pipes};
+use bm_outbox::{Ending, Item, Outbox, Pipes, Ready, Said, next_turn};
 use bm_work::Argv;
 use crossbeam_channel::{Receiver, Sender};
 use std::alloc::{AllocError, Global};
+use std::collections::VecDeque;
 use std::io::Read;
-use std::process::{Child, Command, Processes, Stdio, SystemProcess};
-use std::sync::atomic::{AtomicBool, Ordering};
-use std::sync::{Arc, Wait};
-use std::thread::Threads;
+use std::process::{Child, Command, Stdio};
+use std::sync::Wait;
+use std::time::{Clock, Duration, Instant};
 use std::{mem, thread};
 
-/// How many pieces wait for the owner before the pipes' threads wait in turn.
-const MOST_PIECES: usize = 16;
+/// How much mail lies before the owner until the threads wait in turn.
+pub const MOST_MAIL: usize = 16;
 
-/// A command whose process was started.
-#[derive(Drop)]
-struct Job {
-    number: u64,
-    command: u64,
-    child: Child,
-    pipes: Pipes,
-    stop: Arc<AtomicBool, Global>,
-}
+/// How many texts of a command wait to be told before its pipes' threads wait in turn.
+const MOST_TEXTS: usize = 8;
 
-/// The processes of the commands that run, and those whose end nobody is told of.
+/// After how many milliseconds a process that is about to end is first looked at again.
+const FIRST_PAUSE_MS: u64 = 1;
+
+/// After how many milliseconds it is looked at again at the latest.
+const LAST_PAUSE_MS: u64 = 64;
+
+/// The processes of the commands that run, in the order of their turns, and those whose end nobody
+/// is told of.
 #[derive(Drop)]
 pub struct Crew {
     jobs: Vec<Job>,
-    left: Vec<Child>,
+    killed: Vec<Child>,
     started: u64,
-    owner: Sender<Piece>,
-    pieces: Receiver<Piece>,
+    pause_ms: u64,
+    pub owner: Sender<Mail>,
+    mailbox: Receiver<Mail>,
 }
 
 impl Crew {
     /// No process was started.
     pub fn new(alloc: Global) -> Result<Crew, AllocError> {
-        let (owner, pieces) = crossbeam_channel::bounded(alloc, MOST_PIECES)?;
+        let (owner, mailbox) = crossbeam_channel::bounded(alloc, MOST_MAIL)?;
         Ok(Crew {
             jobs: Vec::new(alloc),
-            left: Vec::new(alloc),
+            killed: Vec::new(alloc),
             started: 0,
+            pause_ms: FIRST_PAUSE_MS,
             owner,
-            pieces,
+            mailbox,
         })
+    }
+
+    /// The mail that comes next. The answer is None where a process that is about to end is to be
+    /// looked at again first.
+    pub fn wait<R: Wait + Clock>(&mut self, rt: &R) -> Option<Mail> {
+        if !self.is_ending() {
+            return self.mailbox.recv(rt).ok();
+        }
+        let pause = Duration::from_millis(self.pause_ms);
+        self.pause_ms = LAST_PAUSE_MS.min(self.pause_ms.saturating_mul(2));
+        self.mailbox.recv_timeout(rt, pause).ok()
+    }
+
+    /// The mail that comes next, if any does until then.
+    pub fn wait_until<R: Wait + Clock>(&mut self, rt: &R, deadline: Instant) -> Option<Mail> {
+        self.mailbox.recv_deadline(rt, deadline).ok()
+    }
+
+    /// The mail that lies ready, if any does.
+    pub fn mail<R: Wait>(&mut self, rt: &R) -> Option<Mail> {
+        self.mailbox.try_recv(rt).ok()
+    }
+
+    /// Whether a process is about to end.
+    fn is_ending(&self) -> bool {
+        !self.killed.is_empty() || self.jobs.iter().any(|job| job.is_ending())
     }
 
     /// Starts a command. The line of its words is told first, also where the process can't be
@@ -63,7 +94,7 @@ impl Crew {
         outbox: &mut Outbox,
     ) -> Result<(), AllocError>
     where
-        R: Wait + Threads + Processes<Started = SystemProcess> + Copy + Send + Sync + 'static,
+        R: Host,
         ensures { OnOk result (Starts command argv.now outbox.old outbox.new) }
     {
         outbox.open(alloc, command, argv.as_slice())?;
@@ -84,10 +115,11 @@ impl Crew {
         words: &[Text],
     ) -> Result<bool, AllocError>
     where
-        R: Wait + Threads + Processes<Started = SystemProcess> + Copy + Send + Sync + 'static,
+        R: Host,
     {
         self.jobs.reserve(1)?;
-        self.left.reserve(1)?;
+        self.killed.reserve(1)?;
+        let (permits, given) = permits(rt, alloc)?;
         let Some(child) = started(rt, alloc, words) else {
             return Ok(false);
         };
@@ -97,147 +129,199 @@ impl Crew {
             command,
             child,
             pipes: Pipes::open(),
-            stop: Arc::new(alloc, AtomicBool::new(false))?,
+            texts: VecDeque::new(alloc),
+            permits,
+            code: None,
         };
-        if self.watches(rt, alloc, &mut job) {
+        if self.watches(rt, alloc, &mut job, &given) {
             self.jobs.push(job)?;
             return Ok(true);
         }
-        self.leave(job)?;
+        self.kill(job)?;
         Ok(false)
     }
 
     /// Starts the threads of a process's pipes, or answers that one of them can't be started.
-    fn watches<R>(&self, rt: &R, alloc: Global, job: &mut Job) -> bool
+    fn watches<R>(&self, rt: &R, alloc: Global, job: &mut Job, permits: &Receiver<()>) -> bool
     where
-        R: Wait + Threads + Copy + Send + Sync + 'static,
+        R: Host,
     {
         let (output, errors) = (job.child.stdout.take(), job.child.stderr.take());
         match (output, errors) {
             (Some(output), Some(errors)) => {
-                self.pump(rt, alloc, job, Letter::O, output)
-                    && self.pump(rt, alloc, job, Letter::E, errors)
+                self.read_pipe(rt, alloc, job.number, permits, Letter::O, output)
+                    && self.read_pipe(rt, alloc, job.number, permits, Letter::E, errors)
             }
             _ => false,
         }
     }
 
     /// Starts the thread of a pipe.
-    fn pump<R, P>(&self, rt: &R, alloc: Global, job: &Job, letter: Letter, pipe: P) -> bool
+    fn read_pipe<R, P>(
+        &self,
+        rt: &R,
+        alloc: Global,
+        job: u64,
+        permits: &Receiver<()>,
+        letter: Letter,
+        pipe: P,
+    ) -> bool
     where
-        R: Wait + Threads + Copy + Send + Sync + 'static,
+        R: Host,
         P: Read + Drop + Send + 'static,
     {
         let owner: Result<_, _> = self.owner.clone();
-        let (Ok(owner), Ok(stop)) = (owner, Arc::try_clone(&job.stop)) else {
+        let permits: Result<_, _> = permits.clone();
+        let (Ok(owner), Ok(permits)) = (owner, permits) else {
             return false;
         };
-        let pump = Pump {
-            job: job.number,
+        let reader = PipeReader {
+            job,
             letter,
             owner,
+            permits,
         };
         let handle = *rt;
         // A thread that reads a silent pipe may outlive the program's work, so it is never joined.
-        thread::spawn(rt, move || pump.run(&handle, alloc, pipe, &stop)).is_ok()
+        thread::spawn(rt, move || reader.run(&handle, alloc, pipe)).is_ok()
     }
 
-    /// Ends a command at once: its pipes are closed after their next reads, and how it ended is
-    /// told in place of all that waits of it.
+    /// Keeps what a pipe's thread tells until its command's turn.
+    pub fn keep(&mut self, piece: Piece, outbox: &mut Outbox) -> Result<(), AllocError> {
+        let Some(at) = self.jobs.iter().position(|job| job.number == piece.job) else {
+            return Ok(());
+        };
+        let job = &mut self.jobs[at];
+        match piece.part {
+            Part::Text(said) => match job.texts.push_back(said) {
+                Ok(()) => Ok(()),
+                Err(_) => Err(AllocError),
+            },
+            Part::End => {
+                job.pipes.end(piece.letter);
+                self.pause_ms = FIRST_PAUSE_MS;
+                Ok(())
+            }
+            Part::NoMemory => {
+                let command = job.command;
+                self.cut_short(command, Ending::NoMemory, outbox)
+            }
+        }
+    }
+
+    /// Puts what is told next into the outbox: the end of a command, or else, where texts may be said
+    /// or no other command runs, one of the command whose turn it is.
+    pub fn next<R: Wait>(
+        &mut self,
+        rt: &R,
+        alloc: Global,
+        may_say: bool,
+        outbox: &mut Outbox,
+    ) -> Result<(), AllocError> {
+        self.look();
+        let may_say = may_say || self.jobs.len() < 2;
+        let mut commands = Vec::new(alloc);
+        for job in &self.jobs {
+            commands.push(job.ready(may_say))?;
+        }
+        match next_turn(commands.as_slice()) {
+            Some(at) if at < self.jobs.len() => self.turn(rt, alloc, at, outbox),
+            _ => Ok(()),
+        }
+    }
+
+    /// Looks at the processes that are about to end.
+    fn look(&mut self) {
+        self.killed
+            .retain_mut(|child| matches!(child.try_wait(), Ok(None)));
+        for job in self.jobs.iter_mut() {
+            if job.is_ending() {
+                job.look();
+            }
+        }
+    }
+
+    /// Puts a text of a command into the outbox, and permits its pipes another one; or
+    /// else puts its end there.
+    fn turn<R: Wait>(
+        &mut self,
+        rt: &R,
+        alloc: Global,
+        at: usize,
+        outbox: &mut Outbox,
+    ) -> Result<(), AllocError>
+        requires { at < length self.old.jobs.items }
+    {
+        let mut job = self.jobs.remove(at);
+        let command = job.command;
+        let Some(said) = job.texts.pop_front() else {
+            return match job.code {
+                Some(code) => outbox.close(alloc, command, code),
+                None => self.kill(job),
+            };
+        };
+        // It fails where both pipes have ended, and then nobody asks for it.
+        let _ = job.permits.send(rt, ());
+        self.jobs.push(job)?;
+        outbox.push(Item::Text { command, said })
+    }
+
+    /// Ends a command at once: its process is killed, and how it ended is told in place of all that
+    /// waits of it.
     pub fn cut_short(
         &mut self,
         command: u64,
         ending: Ending,
         outbox: &mut Outbox,
     ) -> Result<(), AllocError> {
-        self.left.reserve(1)?;
+        self.killed.reserve(1)?;
         outbox.cut_short(command, ending)?;
         if let Some(at) = self.jobs.iter().position(|job| job.command == command) {
             let job = self.jobs.remove(at);
-            self.leave(job)?;
+            self.kill(job)?;
         }
         Ok(())
     }
 
-    /// Leaves a process: its pipes are closed after their next reads.
-    fn leave(&mut self, job: Job) -> Result<(), AllocError> {
-        let Job { child, stop, .. } = job;
-        stop.store(true, Ordering::SeqCst);
-        self.left.push(child)?;
+    /// Kills a process, and hears its pipes no more.
+    fn kill(&mut self, job: Job) -> Result<(), AllocError> {
+        let Job { mut child, .. } = job;
+        // A child that can't be killed has ended, or runs as another user.
+        let _ = child.kill();
+        self.killed.push(child)?;
+        self.pause_ms = FIRST_PAUSE_MS;
         Ok(())
     }
 
-    /// Leaves all processes, whose session was lost: their pipes are closed after their next reads.
-    pub fn leave_all(&mut self, alloc: Global) -> Result<(), AllocError> {
+    /// Kills all processes, since their session was lost or the worker ends.
+    ///
+    /// # Errors
+    ///
+    /// Want of memory for the list of those that were killed. All are killed all the same.
+    pub fn kill_all(&mut self, alloc: Global) -> Result<(), AllocError> {
+        let mut done = Ok(());
         for job in mem::replace(&mut self.jobs, Vec::new(alloc)) {
-            self.leave(job)?;
-        }
-        Ok(())
-    }
-
-    /// Takes the next piece, if one lies ready, and puts what it tells into the outbox.
-    pub fn take<R: Wait>(&mut self, rt: &R, outbox: &mut Outbox) -> Result<bool, AllocError> {
-        let Ok(piece) = self.pieces.try_recv(rt) else {
-            return Ok(false);
-        };
-        let Some(at) = self.jobs.iter().position(|job| job.number == piece.job) else {
-            return Ok(true);
-        };
-        let job = &mut self.jobs[at];
-        let command = job.command;
-        match piece.part {
-            Part::Text(said) => outbox.push(Item::Text { command, said })?,
-            Part::End => job.pipes.end(piece.letter),
-            Part::NoMemory => self.cut_short(command, Ending::NoMemory, outbox)?,
-        }
-        Ok(true)
-    }
-
-    /// Tells of a process that has ended, once all that it printed was taken; and looks after those
-    /// that were left.
-    pub fn reap(&mut self, alloc: Global, outbox: &mut Outbox) -> Result<(), AllocError> {
-        self.left
-            .retain_mut(|child| matches!(child.try_wait(), Ok(None)));
-        let Some((at, code)) = self.ended() else {
-            return Ok(());
-        };
-        if at < self.jobs.len() {
-            let Job { command, .. } = self.jobs.remove(at);
-            outbox.close(alloc, command, code)?;
-        }
-        Ok(())
-    }
-
-    /// The place of a process that has ended and whose texts were all taken, and its exit code.
-    fn ended(&mut self) -> Option<(usize, i64)> {
-        for (at, job) in self.jobs.iter_mut().enumerate() {
-            if let Some(code) = job.exit_code() {
-                return Some((at, code));
+            if let Err(refused) = self.kill(job) {
+                done = Err(refused);
             }
         }
-        None
+        done
     }
 }
 
-impl Job {
-    /// The exit code of the process, where it has ended and all that it printed was taken; -1 where
-    /// it gave none.
-    fn exit_code(&mut self) -> Option<i64> {
-        if !self.pipes.are_over() {
-            return None;
-        }
-        match self.child.try_wait() {
-            Ok(None) => None,
-            Ok(Some(status)) => Some(self.pipes.exit_code(status.code())),
-            Err(_) => Some(self.pipes.exit_code(None)),
-        }
+/// The permits of the first texts of a command, and where more of them are given.
+fn permits<R: Wait>(rt: &R, alloc: Global) -> Result<(Sender<()>, Receiver<()>), AllocError> {
+    let (permits, given) = crossbeam_channel::bounded(alloc, MOST_TEXTS)?;
+    for _ in 0..MOST_TEXTS {
+        let _ = permits.send(rt, ());
     }
+    Ok((permits, given))
 }
 
 /// A process of these words with an empty input, and with pipes for its output and its errors.
 fn started<R>(rt: &R, alloc: Global, words: &[Text]) -> Option<Child>
 where
-    R: Processes<Started = SystemProcess>,
+    R: Host,
 {
     let (first, rest) = words.split_first()?;
     let mut command = Command::new(alloc, first.as_str()).ok()?;

@@ -1,20 +1,31 @@
 //! A worker's life: connections in turn, and the work that outlives them.
 
-use crate::patient::Patient;
-use crate::serving::{Left, Work};
+use crate::closing::close;
+use crate::connection::{Connection, ConnectionEnd};
+use crate::host::Host;
+use crate::ready_stream::ReadyStream;
+use crate::serving::Work;
+use crate::socket_watch::SocketWatch;
 use bm_link::WorkerLink;
-use std::alloc::{AllocError, AllocGlobal, Global};
+use std::alloc::{AllocGlobal, Global};
 use std::io::{Read, Write};
+use std::net::{OpenStream, Shutdown};
 use std::process::{Processes, SystemProcess};
 use std::random::RandomSource;
-use std::sync::atomic::{AtomicBool, Ordering};
+use std::sync::atomic::AtomicU64;
 use std::sync::{Arc, Wait};
 use std::thread;
 use std::thread::Threads;
 use std::time::{Clock, Duration};
 
-/// How long the worker waits before it connects again, in milliseconds.
-const TICK: u64 = 10;
+/// How long the worker waits before it connects again.
+const TICK_MS: u64 = 10;
+
+/// For how long a try to connect again goes on once a login was answered.
+const RETRY_LIMIT_SECONDS: u64 = 1;
+
+/// The most reads of a login.
+const LOGIN_READS: u64 = 1_000;
 
 /// The exit status of a worker whose master ended its work.
 const DONE: u8 = 0;
@@ -31,19 +42,13 @@ pub struct Login<'a> {
 }
 
 /// Works for the master that `dial` connects with, and answers the exit status: 0 after a shutdown
-/// or a close frame, 1 after 10 failed tries to connect again or want of memory. `dial` answers
-/// None for a failed try. A read of its streams is to wait for a short while alone, since the
-/// worker looks at its commands between reads.
-pub fn work_run<S, D, R>(
-    rt: &R,
-    mut dial: D,
-    name: &str,
-    password: &str,
-    session: Option<&str>,
-) -> u8
+/// or a close frame, 1 after 10 failed tries to connect again or want of memory. `dial` is told for
+/// how long it may try, and answers None for a failed try. A read of its streams is to wait for some
+/// seconds at the most, since a login waits for its answer. All commands are killed at the end.
+pub fn work_run<S, D, R>(rt: &R, dial: D, name: &str, password: &str, session: Option<&str>) -> u8
 where
-    S: Read + Write + Drop,
-    D: FnMut() -> Option<S>,
+    S: Read + Write + OpenStream + Drop + Send + 'static,
+    D: FnMut(Duration) -> Option<S>,
     R: Wait
         + Threads
         + Clock
@@ -55,7 +60,7 @@ where
         + Send
         + Sync
         + 'static,
-    requires { (state : _) → D.pre state }
+    requires { (state : _) (limit : _) → D.pre state limit }
 {
     let alloc = rt.alloc();
     let login = Login {
@@ -66,62 +71,100 @@ where
     let Ok(mut work) = Work::new(alloc) else {
         return GIVEN_UP;
     };
+    let status = work_on(rt, alloc, &mut work, dial, login);
+    // Where memory is wanting they are killed all the same.
+    let _ = work.crew.kill_all(alloc);
+    status
+}
+
+/// Connections in turn, until the master ends the work or no connection comes to be.
+fn work_on<S, D, R>(rt: &R, alloc: Global, work: &mut Work, mut dial: D, login: Login<'_>) -> u8
+where
+    S: Read + Write + OpenStream + Drop + Send + 'static,
+    D: FnMut(Duration) -> Option<S>,
+    R: Host + RandomSource + Drop,
+    requires { (state : _) (limit : _) → D.pre state limit }
+{
+    let mut limit = Duration::ZERO;
+    let mut number = 0u64;
     for _ in rt.forever() {
-        let left = match dial() {
-            Some(stream) => connected(rt, alloc, &mut work, stream, login),
-            None => Left::Lost,
+        number = number.wrapping_add(1);
+        let end = match dial(limit) {
+            Some(stream) => connected(rt, alloc, work, number, stream, login),
+            None => ConnectionEnd::Lost,
         };
-        match left {
-            Left::Done => return DONE,
-            Left::NoMemory => return GIVEN_UP,
-            Left::Lost => {}
+        match end {
+            ConnectionEnd::Shutdown | ConnectionEnd::Closed => return DONE,
+            ConnectionEnd::NoMemory => return GIVEN_UP,
+            ConnectionEnd::Lost => {}
+        }
+        if work.is_known {
+            limit = Duration::from_secs(RETRY_LIMIT_SECONDS);
         }
         if !work.tries.again() {
             return GIVEN_UP;
         }
-        thread::sleep(rt, Duration::from_millis(TICK));
+        thread::sleep(rt, Duration::from_millis(TICK_MS));
     }
     unreachable!()
 }
 
 /// Logs in over a stream, and serves the connection to its end.
-fn connected<S, R>(rt: &R, alloc: Global, work: &mut Work, stream: S, login: Login<'_>) -> Left
+fn connected<S, R>(
+    rt: &R,
+    alloc: Global,
+    work: &mut Work,
+    number: u64,
+    stream: S,
+    login: Login<'_>,
+) -> ConnectionEnd
 where
-    S: Read + Write + Drop,
-    R: Wait
-        + Threads
-        + RandomSource
-        + Processes<Started = SystemProcess>
-        + Copy
-        + Drop
-        + Send
-        + Sync
-        + 'static,
+    S: Read + Write + OpenStream + Drop + Send + 'static,
+    R: Host + RandomSource + Drop,
 {
-    let Ok((patience, flag)) = patience(alloc) else {
-        return Left::NoMemory;
+    let Some((connection, ready, watch)) = watched(alloc, work, number, stream) else {
+        return ConnectionEnd::Lost;
     };
-    let stream = Patient::new(stream, flag);
-    let joined = WorkerLink::connect(
-        alloc,
-        *rt,
-        stream,
-        login.name,
-        login.password,
-        login.session,
-    );
+    let joined = WorkerLink::connect(alloc, *rt, ready, login.name, login.password, login.session);
     let Ok((mut link, attached)) = joined else {
-        return Left::Lost;
+        return ConnectionEnd::Lost;
     };
-    patience.store(false, Ordering::SeqCst);
-    work.serve(rt, alloc, &mut link, attached)
+    connection.allow_reads(0);
+    work.is_known = true;
+    let handle = *rt;
+    // It ends once the stream is shut down and nobody can ask it any more.
+    if thread::spawn(rt, move || watch.run(&handle)).is_err() {
+        return ConnectionEnd::Lost;
+    }
+    let end = work.serve(rt, alloc, &connection, &mut link, attached);
+    if end == ConnectionEnd::Shutdown {
+        close(rt, &mut link);
+    }
+    let _ = link.get_ref().get_ref().shutdown(Shutdown::Both);
+    end
 }
 
-/// A flag that says whether a stream is patient, at both its ends.
-fn patience(
+/// A stream to be read where it is ready, with what its owner and its thread need. None where the
+/// system or memory is wanting.
+fn watched<S: OpenStream + Drop>(
     alloc: Global,
-) -> Result<(Arc<AtomicBool, Global>, Arc<AtomicBool, Global>), AllocError> {
-    let patience = Arc::new(alloc, AtomicBool::new(true))?;
-    let flag = Arc::try_clone(&patience)?;
-    Ok((patience, flag))
+    work: &Work,
+    number: u64,
+    stream: S,
+) -> Option<(Connection, ReadyStream<S>, SocketWatch<S>)> {
+    let reads = Arc::new(alloc, AtomicU64::new(LOGIN_READS)).ok()?;
+    let left = Arc::try_clone(&reads).ok()?;
+    let (asks, asked) = crossbeam_channel::bounded(alloc, 1).ok()?;
+    let watch = SocketWatch {
+        connection: number,
+        stream: stream.try_clone().ok()?,
+        owner: work.crew.owner.clone().ok()?,
+        asks: asked,
+    };
+    let connection = Connection {
+        number,
+        reads,
+        asks,
+    };
+    Some((connection, ReadyStream::new(stream, left), watch))
 }

@@ -1,35 +1,30 @@
-//! A connection from its login to its end.
+//! A connection from its login to its end: what is told over it.
 
+use crate::connection::{Connection, ConnectionEnd};
 use crate::crew::Crew;
-use bm_link::{Attached, Turn, WorkerLink};
-use bm_outbox::{Ending, Outbox, Told, Tries, begin};
-use bm_work::{Sent, WorkAct, Worker};
+use crate::host::Host;
+use bm_link::{Attached, WorkerLink};
+use bm_outbox::{Outbox, Told, Tries, begin};
+use bm_work::{Sent, Worker};
 use bumpalo::Bump;
 use std::alloc::{AllocError, Global};
 use std::io::{Read, Write};
-use std::process::{Processes, SystemProcess};
 use std::sync::Wait;
-use std::thread::Threads;
 use tungstenite::MaskKeys;
 
-/// How a connection ended.
-#[derive(Clone, Copy, PartialEq, Eq)]
-pub enum Left {
-    /// The master asked for the end of the worker, or closed the connection.
-    Done,
-    /// The connection was lost.
-    Lost,
-    /// Memory is wanting.
-    NoMemory,
-}
+/// How many bytes without an answer there are before texts wait, where several commands run: what is
+/// told of one stands behind those of the others. Ends don't wait for this.
+const MOST_UNANSWERED_BYTES: usize = 262_144;
 
 /// All that outlives a connection.
 #[derive(Drop)]
 pub struct Work {
-    worker: Worker,
-    outbox: Outbox,
-    crew: Crew,
-    pub tries: Tries,
+    pub(crate) worker: Worker,
+    pub(crate) outbox: Outbox,
+    pub(crate) crew: Crew,
+    pub(crate) tries: Tries,
+    /// Whether a login was answered.
+    pub(crate) is_known: bool,
 }
 
 impl Work {
@@ -40,6 +35,7 @@ impl Work {
             outbox: Outbox::new(alloc),
             crew: Crew::new(alloc)?,
             tries: Tries::new(),
+            is_known: false,
         })
     }
 
@@ -48,146 +44,147 @@ impl Work {
         &mut self,
         rt: &R,
         alloc: Global,
+        connection: &Connection,
         link: &mut WorkerLink<S, K>,
         attached: Attached,
-    ) -> Left
+    ) -> ConnectionEnd
     where
         S: Read + Write + Drop,
         K: MaskKeys + Drop,
-        R: Wait + Threads + Processes<Started = SystemProcess> + Copy + Send + Sync + 'static,
+        R: Host,
     {
         let mut arena = Bump::new(alloc);
-        if let Err(left) = self.begin(rt, alloc, &mut arena, link, attached) {
-            return left;
+        let end = self.work(rt, alloc, &mut arena, connection, link, attached);
+        if end == ConnectionEnd::Shutdown {
+            self.hear_last_answers(rt, alloc, &mut arena, connection, link);
+        }
+        end
+    }
+
+    /// Goes on with the session, or begins anew, and works until the connection ends.
+    fn work<S, K, R>(
+        &mut self,
+        rt: &R,
+        alloc: Global,
+        arena: &mut Bump,
+        connection: &Connection,
+        link: &mut WorkerLink<S, K>,
+        attached: Attached,
+    ) -> ConnectionEnd
+    where
+        S: Read + Write + Drop,
+        K: MaskKeys + Drop,
+        R: Host,
+    {
+        if let Err(end) = self.begin(rt, alloc, arena, connection, link, attached) {
+            return end;
         }
         for _ in rt.forever() {
-            if let Err(left) = self.step(rt, alloc, &mut arena, link) {
-                return left;
+            if let Err(end) = self.step(rt, alloc, arena, connection, link) {
+                return end;
             }
         }
         unreachable!()
     }
 
-    /// Goes on with the session, or begins anew. It listens after each request that is sent again,
-    /// so that answers count although the connection should not last until the end of them.
+    /// Goes on with the session, or begins anew. It takes its mail after each request that is sent
+    /// again, so that answers count although the connection should not last until the end of them.
     fn begin<S, K, R>(
         &mut self,
         rt: &R,
         alloc: Global,
         arena: &mut Bump,
+        connection: &Connection,
         link: &mut WorkerLink<S, K>,
         attached: Attached,
-    ) -> Result<(), Left>
+    ) -> Result<(), ConnectionEnd>
     where
         S: Read + Write + Drop,
         K: MaskKeys + Drop,
-        R: Wait + Threads + Processes<Started = SystemProcess> + Copy + Send + Sync + 'static,
+        R: Host,
     {
         let resumed = attached == Attached::Resumed;
-        if !resumed && self.crew.leave_all(alloc).is_err() {
-            return Err(Left::NoMemory);
+        if !resumed && self.crew.kill_all(alloc).is_err() {
+            return Err(ConnectionEnd::NoMemory);
         }
         let Ok(requests) = begin(alloc, resumed, &mut self.worker, &mut self.outbox) else {
-            return Err(Left::NoMemory);
+            return Err(ConnectionEnd::NoMemory);
         };
+        self.hear(rt, alloc, arena, connection, link)?;
         for request in requests {
             send(alloc, link, &[request])?;
-            self.hear(rt, alloc, arena, link)?;
+            self.take_all(rt, alloc, arena, connection, link)?;
         }
         Ok(())
     }
 
-    /// Tells what waits first; or else takes what the commands tell; or else hears the master.
+    /// Tells what can be told next, or else waits for mail; and takes all mail that lies ready.
     fn step<S, K, R>(
         &mut self,
         rt: &R,
         alloc: Global,
         arena: &mut Bump,
+        connection: &Connection,
         link: &mut WorkerLink<S, K>,
-    ) -> Result<(), Left>
+    ) -> Result<(), ConnectionEnd>
     where
         S: Read + Write + Drop,
         K: MaskKeys + Drop,
-        R: Wait + Threads + Processes<Started = SystemProcess> + Copy + Send + Sync + 'static,
+        R: Host,
     {
-        match self.outbox.tell(alloc, &mut self.worker) {
-            Ok(Told::Text(sent)) => send(alloc, link, &[sent]),
-            Ok(Told::End(requests)) => send(alloc, link, requests.as_slice()),
-            Ok(Told::Passed) => Ok(()),
-            Ok(Told::Full) => self.hear(rt, alloc, arena, link),
-            Ok(Told::Nothing) => {
-                if self.takes(rt, alloc)? {
-                    return Ok(());
-                }
-                self.hear(rt, alloc, arena, link)
+        if !self.tell(rt, alloc, link)? {
+            if let Some(mail) = self.crew.wait(rt) {
+                self.take(rt, alloc, arena, connection, link, mail)?;
             }
-            Err(_) => Err(Left::NoMemory),
         }
+        self.take_all(rt, alloc, arena, connection, link)
     }
 
-    /// Takes what the commands tell, and answers whether that was anything.
-    fn takes<R: Wait>(&mut self, rt: &R, alloc: Global) -> Result<bool, Left> {
-        match self.crew.take(rt, &mut self.outbox) {
-            Ok(true) => return Ok(true),
-            Ok(false) => {}
-            Err(_) => return Err(Left::NoMemory),
-        }
-        match self.crew.reap(alloc, &mut self.outbox) {
-            Ok(()) => Ok(!self.outbox.is_empty()),
-            Err(_) => Err(Left::NoMemory),
-        }
-    }
-
-    /// Hears a message of the master, if one comes, and does what it asks.
-    fn hear<S, K, R>(
+    /// Tells what is told next, and answers whether there was anything that can be told.
+    fn tell<S, K, R>(
         &mut self,
         rt: &R,
         alloc: Global,
-        arena: &mut Bump,
         link: &mut WorkerLink<S, K>,
-    ) -> Result<(), Left>
+    ) -> Result<bool, ConnectionEnd>
     where
         S: Read + Write + Drop,
         K: MaskKeys + Drop,
-        R: Wait + Threads + Processes<Started = SystemProcess> + Copy + Send + Sync + 'static,
+        R: Wait,
     {
-        let act = match link.turn(alloc, arena, &mut self.worker) {
-            Ok((turn, act)) => {
-                if turn == Turn::Heard || turn == Turn::Noted {
-                    self.tries.heard();
-                }
-                act
-            }
-            Err(_) if link.closed() => return Err(Left::Done),
-            Err(_) => return Err(Left::Lost),
-        };
-        let done = match act {
-            WorkAct::Run { command, argv } => {
-                self.crew.run(rt, alloc, command, &argv, &mut self.outbox)
-            }
-            WorkAct::Interrupt(command) => {
-                self.crew
-                    .cut_short(command, Ending::Interrupted, &mut self.outbox)
-            }
-            WorkAct::Shutdown => return Err(Left::Done),
-            _ => Ok(()),
-        };
-        match done {
-            Ok(()) => Ok(()),
-            Err(_) => Err(Left::NoMemory),
+        let may_say = self.worker.unanswered_bytes() < MOST_UNANSWERED_BYTES;
+        if self.outbox.is_empty()
+            && self
+                .crew
+                .next(rt, alloc, may_say, &mut self.outbox)
+                .is_err()
+        {
+            return Err(ConnectionEnd::NoMemory);
         }
+        match self.outbox.tell(alloc, &mut self.worker) {
+            Ok(Told::Text(sent)) => send(alloc, link, &[sent])?,
+            Ok(Told::End(requests)) => send(alloc, link, requests.as_slice())?,
+            Ok(Told::Passed) => {}
+            Ok(Told::Full | Told::Nothing) => return Ok(false),
+            Err(_) => return Err(ConnectionEnd::NoMemory),
+        }
+        Ok(true)
     }
 }
 
 /// Sends requests, oldest first.
-fn send<S, K>(alloc: Global, link: &mut WorkerLink<S, K>, requests: &[Sent]) -> Result<(), Left>
+fn send<S, K>(
+    alloc: Global,
+    link: &mut WorkerLink<S, K>,
+    requests: &[Sent],
+) -> Result<(), ConnectionEnd>
 where
     S: Read + Write + Drop,
     K: MaskKeys + Drop,
 {
     for request in requests {
         if link.send(alloc, request).is_err() {
-            return Err(Left::Lost);
+            return Err(ConnectionEnd::Lost);
         }
     }
     Ok(())

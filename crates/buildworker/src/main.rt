@@ -4,14 +4,26 @@
 use bm_crew::{USAGE, new_session, read_job, words, work_run};
 use std::net::{Net, TcpStream, ToSocketAddrs};
 use std::process::ExitCode;
-use std::time::Duration;
+use std::thread;
+use std::time::{Clock, Duration, Instant};
 
 /// The exit status for words that ask for nothing that the program does.
 const WRONG_WORDS: u8 = 2;
 
-/// How long a read waits for its master, in milliseconds, before the worker looks at its commands
-/// again.
-const READ_WAIT: u64 = 5;
+/// How long a login waits for its master, and how often the worker looks how long one is silent.
+const READ_LIMIT_SECONDS: u64 = 5;
+
+/// How long a master may take nothing of what it is sent: as long as it may be silent.
+const WRITE_LIMIT_SECONDS: u64 = 60;
+
+/// How long a connection may take to come to be.
+const CONNECT_LIMIT_SECONDS: u64 = 1;
+
+/// How long the worker waits after a refused connection before the next one.
+const PAUSE_MS: u64 = 25;
+
+/// The most connections that are begun in one try.
+const MOST_CONNECTS: u32 = 1_000;
 
 fn main(rt: HostRuntime) -> ExitCode {
     let Ok(words) = words(&rt) else {
@@ -26,18 +38,40 @@ fn main(rt: HostRuntime) -> ExitCode {
         return ExitCode::FAILURE;
     };
     let session = Some(session.as_str());
-    let dial = || dial(&rt, job.address);
+    let dial = |limit: Duration| dial(&rt, job.address, limit);
     ExitCode::from(work_run(&rt, dial, job.name, job.password, session))
 }
 
+/// A connection with the first address that a host's name stands for. It is tried again and again for
+/// as long as the limit says, and once where that is no time.
+fn dial<R: Net<Stream = TcpStream> + Clock>(
+    rt: &R,
+    address: &str,
+    limit: Duration,
+) -> Option<TcpStream> {
+    let begun = Instant::now(rt).ok()?;
+    for _ in 0..MOST_CONNECTS {
+        if let Some(stream) = connected(rt, address) {
+            return Some(stream);
+        }
+        if begun.elapsed(rt).ok()? >= limit {
+            return None;
+        }
+        thread::sleep(rt, Duration::from_millis(PAUSE_MS));
+    }
+    None
+}
+
 /// A connection with the first address that a host's name stands for. Small messages leave at once,
-/// and a read waits for a short while alone.
-fn dial<R: Net<Stream = TcpStream>>(rt: &R, address: &str) -> Option<TcpStream> {
+/// and neither a read nor a write waits for ever.
+fn connected<R: Net<Stream = TcpStream>>(rt: &R, address: &str) -> Option<TcpStream> {
     let first = address.to_socket_addrs(rt).ok()?.next()?;
-    let stream = TcpStream::connect(rt, first).ok()?;
+    let limit = Duration::from_secs(CONNECT_LIMIT_SECONDS);
+    let stream = TcpStream::connect_timeout(rt, &first, limit).ok()?;
     stream.set_nodelay(true).ok()?;
-    stream
-        .set_read_timeout(Some(Duration::from_millis(READ_WAIT)))
-        .ok()?;
+    let read_limit = Duration::from_secs(READ_LIMIT_SECONDS);
+    stream.set_read_timeout(Some(read_limit)).ok()?;
+    let write_limit = Duration::from_secs(WRITE_LIMIT_SECONDS);
+    stream.set_write_timeout(Some(write_limit)).ok()?;
     Some(stream)
 }

@@ -7,13 +7,13 @@ mod memory;
 mod rows;
 mod words;
 
-use bm_crew::{Patient, work_run};
+use bm_crew::{ReadyStream, work_run};
 use master::Master;
 use std::alloc::{AllocGlobal, Global};
 use std::net::{Net, SocketAddr, TcpListener, TcpStream};
 use std::process::{Processes, SystemProcess};
 use std::random::RandomSource;
-use std::sync::atomic::AtomicBool;
+use std::sync::atomic::AtomicU64;
 use std::sync::{Arc, Wait};
 use std::thread;
 use std::thread::Threads;
@@ -28,10 +28,10 @@ fn is_set(stream: &TcpStream, wait: u64) -> bool {
             .is_ok()
 }
 
-/// A connection with the address. Small messages leave at once, and a read waits for 5 ms.
+/// A connection with the address. Small messages leave at once, and a read waits for 5 seconds.
 fn dial<R: Net<Stream = TcpStream>>(rt: &R, address: SocketAddr) -> Option<TcpStream> {
     let stream = TcpStream::connect(rt, address).ok()?;
-    if is_set(&stream, 5) {
+    if is_set(&stream, 5_000) {
         Some(stream)
     } else {
         None
@@ -39,10 +39,10 @@ fn dial<R: Net<Stream = TcpStream>>(rt: &R, address: SocketAddr) -> Option<TcpSt
 }
 
 /// The master's end of a stream, whose reads wait for 20 seconds at the most.
-fn waiting(alloc: Global, stream: TcpStream) -> Option<Patient<TcpStream>> {
-    let is_patient = Arc::new(alloc, AtomicBool::new(false)).ok()?;
+fn waiting(alloc: Global, stream: TcpStream) -> Option<ReadyStream<TcpStream>> {
+    let reads = Arc::new(alloc, AtomicU64::new(u64::MAX)).ok()?;
     if is_set(&stream, 20_000) {
-        Some(Patient::new(stream, is_patient))
+        Some(ReadyStream::new(stream, reads))
     } else {
         None
     }
@@ -86,7 +86,7 @@ where
     let address = listener.local_addr().ok()?;
     let worker = thread::spawn(&rt, move || {
         let mut is_first = true;
-        let dial = || {
+        let dial = |_: Duration| {
             let stream = if is_first { dial(&rt, address) } else { None };
             is_first = false;
             stream

@@ -3,6 +3,8 @@ ghost use Rattle.std.specs.Prelude.{◌≤◌, IfOk};
 
 use std::io;
 use std::io::{ErrorKind, Read, Write};
+use std::net::{OpenStream, Shutdown};
+use std::time::Duration;
 
 /// What a stream is counted in.
 #[derive(Clone, Copy)]
@@ -80,5 +82,28 @@ impl<S: Write> Write for Cut<S> {
             self.count(0);
         }
         self.stream.flush()
+    }
+}
+
+/// Another handle of the stream counts anew.
+impl<S: OpenStream> OpenStream for Cut<S> {
+    fn shutdown(&self, how: Shutdown) -> io::Result<()> {
+        self.stream.shutdown(how)
+    }
+
+    fn set_read_timeout(&self, dur: Option<Duration>) -> io::Result<()> {
+        self.stream.set_read_timeout(dur)
+    }
+
+    fn peek(&self, buf: &mut [u8]) -> io::Result<usize> {
+        self.stream.peek(buf)
+    }
+
+    fn try_clone(&self) -> io::Result<Cut<S>> {
+        Ok(Cut {
+            stream: self.stream.try_clone()?,
+            unit: self.unit,
+            left: self.left,
+        })
     }
 }

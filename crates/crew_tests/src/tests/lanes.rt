@@ -3,7 +3,7 @@ ghost use Rattle.std.specs.Prelude.{◌≡◌};
 
 use super::cut::{Cut, Unit};
 use super::{dial, waiting};
-use bm_crew::{Patient, work_run};
+use bm_crew::{ReadyStream, work_run};
 use bm_lane::{Blank, Drained, Ends, Yard, open};
 use bm_lines::{STDIO, Text};
 use bm_link::{Ask, Carry, MasterLink, User};
@@ -17,7 +17,7 @@ use std::random::RandomSource;
 use std::sync::Wait;
 use std::thread;
 use std::thread::{JoinHandle, Threads};
-use std::time::Clock;
+use std::time::{Clock, Duration};
 
 /// The most items that wait in a lane's queue.
 const CAPACITY: usize = 64;
@@ -96,7 +96,7 @@ struct Log {
 }
 
 /// A master's end of a worker's connection.
-type Link = MasterLink<Patient<TcpStream>>;
+type Link = MasterLink<ReadyStream<TcpStream>>;
 
 fn link_over(alloc: Global, stream: TcpStream) -> Option<Link> {
     match waiting(alloc, stream) {
@@ -273,7 +273,7 @@ where
 {
     let worker = thread::spawn(&rt, move || {
         let mut made = 0usize;
-        let dial = || {
+        let dial = |_: Duration| {
             let left = cuts.left(made);
             made = made.saturating_add(1);
             match dial(&rt, address) {

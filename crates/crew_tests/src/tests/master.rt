@@ -4,7 +4,7 @@
 ghost use Rattle.std.specs.Prelude.{◌<◌, ◌^◌};
 
 use super::waiting;
-use bm_crew::Patient;
+use bm_crew::ReadyStream;
 use bm_lines::{Letter, Text};
 use bm_msg::{Field, Message, Numbered, Request, read, write_answer, write_request};
 use bm_value::{Items, Pair, Pairs, Value, decode_whole};
@@ -21,7 +21,7 @@ const MOST_ORDERS: u64 = 1_000;
 /// How the login is answered: true to request 0.
 const TRUE: &[u8] = b"\x83\xaaseq_number\0\xa2op\xa8response\xa6result\xc3";
 
-type Socket = WebSocket<Patient<TcpStream>, NoMask>;
+type Socket = WebSocket<ReadyStream<TcpStream>, NoMask>;
 
 /// A master's end of a connection with a worker that has logged in.
 #[derive(Drop)]

@@ -4,14 +4,13 @@
 //! then, and nothing else is told; and the same call again does as ever. In the gate no request is
 //! refused, and no call is made twice.
 
-use bm_crew::{Part, Piece, Pump, new_session, words};
+use bm_crew::{Mail, Part, Piece, PipeReader, new_session, words};
 use bm_lines::Letter;
 use crossbeam_channel::{Receiver, bounded};
 use std::alloc::{AllocGlobal, Global};
 use std::io;
 use std::random::RandomSource;
 use std::sync::Wait;
-use std::sync::atomic::AtomicBool;
 use std::test::Fail;
 
 /// How often a call is made where one request for memory is refused.
@@ -83,11 +82,11 @@ fn outcome_by(piece: &Piece, told: usize) -> Option<Outcome> {
 }
 
 /// How a pipe was told by these pieces.
-fn outcome_of<R: Wait>(rt: &R, pieces: &Receiver<Piece>) -> Outcome {
+fn outcome_of<R: Wait>(rt: &R, mail: &Receiver<Mail>) -> Outcome {
     for told in 0..=TEXTS.len() {
-        let outcome = match pieces.try_recv(rt) {
-            Ok(piece) => outcome_by(&piece, told),
-            Err(_) => Some(Outcome::Wrongly),
+        let outcome = match mail.try_recv(rt) {
+            Ok(Mail::Piece(piece)) => outcome_by(&piece, told),
+            _ => Some(Outcome::Wrongly),
         };
         if let Some(outcome) = outcome {
             return outcome;
@@ -96,17 +95,22 @@ fn outcome_of<R: Wait>(rt: &R, pieces: &Receiver<Piece>) -> Outcome {
     Outcome::Wrongly
 }
 
-/// What a pump tells of the pipe. None where it wasn't made.
-fn pumped<R: Wait>(rt: &R, alloc: Global) -> Option<Outcome> {
-    let (owner, pieces) = bounded(alloc, TEXTS.len() + 1).ok()?;
-    let pump = Pump {
+/// What a thread of a pipe tells of it. None where it could not be made.
+fn read_by_thread<R: Wait>(rt: &R, alloc: Global) -> Option<Outcome> {
+    let (owner, mail) = bounded(alloc, TEXTS.len() + 1).ok()?;
+    let (giver, permits) = bounded(alloc, TEXTS.len()).ok()?;
+    for _ in TEXTS {
+        giver.send(rt, ()).ok()?;
+    }
+    let reader = PipeReader {
         job: 1,
         letter: Letter::O,
         owner,
+        permits,
     };
-    pump.run(rt, alloc, BYTES, &AtomicBool::new(false));
-    let outcome = outcome_of(rt, &pieces);
-    if pieces.try_recv(rt).is_ok() {
+    reader.run(rt, alloc, BYTES);
+    let outcome = outcome_of(rt, &mail);
+    if mail.try_recv(rt).is_ok() {
         return Some(Outcome::Wrongly);
     }
     Some(outcome)
@@ -118,7 +122,7 @@ fn refused_text_of_a_pipe_is_told_as_that(rt: HostRuntime) {
     let mut outcome = None;
     for _ in 0..CALLS {
         if outcome.is_none() || outcome == Some(Outcome::NoMemory) {
-            outcome = pumped(&rt, rt.alloc());
+            outcome = read_by_thread(&rt, rt.alloc());
         }
     }
     assert!(rt; outcome == Some(Outcome::Ended));

@@ -1,49 +1,30 @@
 //! A thread for each pipe of a command.
 
+use crate::mailbox::{Mail, Part, Piece};
 use bm_lines::Letter;
 use bm_outbox::{PipeTexts, Said};
-use crossbeam_channel::Sender;
+use crossbeam_channel::{Receiver, Sender};
 use std::alloc::{AllocError, Global};
 use std::io::{ErrorKind, Read};
 use std::sync::Wait;
-use std::sync::atomic::{AtomicBool, Ordering};
 
 /// How many bytes a pipe's thread reads at once.
-const ROOM: usize = 65_536;
-
-/// What a pipe's thread tells of its pipe.
-#[derive(Drop)]
-pub enum Part {
-    /// The next text.
-    Text(Said),
-    /// All texts were told.
-    End,
-    /// Memory is wanting for the next text.
-    NoMemory,
-}
-
-/// What a pipe's thread tells.
-#[derive(Drop)]
-pub struct Piece {
-    /// Which of the program's processes it is of.
-    pub job: u64,
-    /// Which of its pipes it is of.
-    pub letter: Letter,
-    pub part: Part,
-}
+const ROOM: usize = 16_384;
 
 /// A pipe's thread: which pipe it reads, and whom it tells.
 #[derive(Drop)]
-pub struct Pump {
+pub struct PipeReader {
     pub job: u64,
     pub letter: Letter,
-    pub owner: Sender<Piece>,
+    pub owner: Sender<Mail>,
+    /// Each of these permits a text. Once nobody can give any more, nobody hears the pipe.
+    pub permits: Receiver<()>,
 }
 
-impl Pump {
-    /// Tells what the pipe gives, until it ends, the owner is gone or `stop` is set.
-    pub fn run<R: Wait, P: Read + Drop>(self, rt: &R, alloc: Global, pipe: P, stop: &AtomicBool) {
-        let part = match self.tell_all(rt, alloc, pipe, stop) {
+impl PipeReader {
+    /// Tells what the pipe gives, until it ends, or nobody hears it any more.
+    pub fn run<R: Wait, P: Read + Drop>(self, rt: &R, alloc: Global, pipe: P) {
+        let part = match self.tell_all(rt, alloc, pipe) {
             Ok(true) => Part::End,
             Ok(false) => return,
             Err(_) => Part::NoMemory,
@@ -57,7 +38,6 @@ impl Pump {
         rt: &R,
         alloc: Global,
         mut pipe: P,
-        stop: &AtomicBool,
     ) -> Result<bool, AllocError> {
         let mut room = vec![in alloc; 0u8; ROOM]?;
         let mut texts = PipeTexts::new(alloc, self.letter);
@@ -65,22 +45,24 @@ impl Pump {
             let Some(bytes) = next_bytes(&mut pipe, room.as_mut_slice()) else {
                 continue;
             };
-            if stop.load(Ordering::SeqCst) {
-                return Ok(false);
-            }
             if bytes.is_empty() {
                 break;
             }
             for said in texts.take(alloc, bytes)? {
-                if !self.tell(rt, Part::Text(said)) {
+                if !self.tell_text(rt, said) {
                     return Ok(false);
                 }
             }
         }
         match texts.last()? {
-            Some(said) => Ok(self.tell(rt, Part::Text(said))),
+            Some(said) => Ok(self.tell_text(rt, said)),
             None => Ok(true),
         }
+    }
+
+    /// Tells a text, once it may; or answers that nobody hears it any more.
+    fn tell_text<R: Wait>(&self, rt: &R, said: Said) -> bool {
+        self.permits.recv(rt).is_ok() && self.tell(rt, Part::Text(said))
     }
 
     /// Tells a part; or answers that nobody hears it any more.
@@ -90,7 +72,7 @@ impl Pump {
             letter: self.letter,
             part,
         };
-        self.owner.send(rt, piece).is_ok()
+        self.owner.send(rt, Mail::Piece(piece)).is_ok()
     }
 }
 

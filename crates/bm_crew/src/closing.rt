@@ -1,0 +1,136 @@
+//! How a connection is closed, so that nothing that was sent is lost.
+
+use crate::connection::Connection;
+use crate::mailbox::Mail;
+use crate::ready_stream::ReadyStream;
+use crate::serving::Work;
+use bm_link::{Turn, WorkerLink};
+use bm_work::Worker;
+use bumpalo::Bump;
+use std::alloc::Global;
+use std::io::{Read, Write};
+use std::net::{OpenStream, Shutdown};
+use std::sync::Wait;
+use std::time::{Clock, Duration, Instant};
+use tungstenite::MaskKeys;
+
+/// How long a worker that was told to end waits for its last answers.
+const LAST_ANSWERS_SECONDS: u64 = 1;
+
+/// How long a worker that has said its close frame waits for its master's end of the connection.
+const LAST_BYTES_SECONDS: u64 = 1;
+
+impl Work {
+    /// Kills all commands, and hears the answers to what was said of them, for a second at the most:
+    /// a master that finds its connection closed may not look at what came before that.
+    pub(crate) fn hear_last_answers<S, K, R>(
+        &mut self,
+        rt: &R,
+        alloc: Global,
+        arena: &mut Bump,
+        connection: &Connection,
+        link: &mut WorkerLink<S, K>,
+    )
+    where
+        S: Read + Write + Drop,
+        K: MaskKeys + Drop,
+        R: Wait + Clock,
+    {
+        // Where memory is wanting they are killed all the same.
+        let _ = self.crew.kill_all(alloc);
+        let Some(deadline) = after(rt, LAST_ANSWERS_SECONDS) else {
+            return;
+        };
+        for _ in rt.forever() {
+            let is_open = hears_all(rt, alloc, arena, link, &mut self.worker);
+            if !is_open || !self.worker.has_unanswered() || !connection.ask(rt) {
+                return;
+            }
+            if !self.is_readable_by(rt, connection.number, deadline) {
+                return;
+            }
+            connection.allow_reads(1);
+        }
+    }
+
+    /// Waits until the connection with this number has bytes to read, and forgets all other mail. The
+    /// answer is false where that isn't so until then.
+    fn is_readable_by<R: Wait + Clock>(&mut self, rt: &R, number: u64, deadline: Instant) -> bool {
+        for _ in rt.forever() {
+            match self.crew.wait_until(rt, deadline) {
+                Some(Mail::Readable(one)) if one == number => return true,
+                Some(_) => {}
+                None => return false,
+            }
+        }
+        unreachable!()
+    }
+}
+
+/// So many seconds from now on. None where the clock fails.
+fn after<R: Clock>(rt: &R, seconds: u64) -> Option<Instant> {
+    let now = Instant::now(rt).ok()?;
+    now.checked_add(Duration::from_secs(seconds))
+}
+
+/// Hears the messages that have come, and does nothing else that they ask; or answers that the
+/// connection has ended.
+fn hears_all<S, K, R>(
+    rt: &R,
+    alloc: Global,
+    arena: &mut Bump,
+    link: &mut WorkerLink<S, K>,
+    worker: &mut Worker,
+) -> bool
+where
+    S: Read + Write + Drop,
+    K: MaskKeys + Drop,
+    R: Wait,
+{
+    for _ in rt.forever() {
+        match link.turn(alloc, arena, worker) {
+            Ok((Turn::Quiet, _)) => return true,
+            Ok(_) => {}
+            Err(_) => return false,
+        }
+    }
+    unreachable!()
+}
+
+/// Closes a connection: a close frame goes out, and what still comes is read until the other end
+/// closes, for a second at the most, since bytes that nobody read would reset the connection, and
+/// what was written last would be lost with it.
+pub(crate) fn close<S, K, R>(rt: &R, link: &mut WorkerLink<ReadyStream<S>, K>)
+where
+    S: Read + Write + OpenStream + Drop,
+    K: MaskKeys + Drop,
+    R: Clock,
+{
+    // Where it can't be sent the other end is told by the stream's end alone.
+    let _ = link.close();
+    read_to_end(rt, link.get_ref().get_ref());
+}
+
+/// Ends a stream for writing, and reads it to its end, for a second at the most.
+fn read_to_end<S, R>(rt: &R, stream: &S)
+where
+    S: Read + OpenStream + Drop,
+    R: Clock,
+{
+    let (Ok(mut rest), Some(deadline)) = (stream.try_clone(), after(rt, LAST_BYTES_SECONDS)) else {
+        return;
+    };
+    let _ = stream.shutdown(Shutdown::Write);
+    let _ = stream.set_read_timeout(Some(Duration::from_secs(LAST_BYTES_SECONDS)));
+    let mut room = [0u8; 4096];
+    for _ in 0..u64::MAX {
+        match rest.read(&mut room) {
+            Ok(0) | Err(_) => return,
+            Ok(_) => {}
+        }
+        match Instant::now(rt) {
+            Ok(now) if now < deadline => {}
+            _ => return,
+        }
+    }
+}

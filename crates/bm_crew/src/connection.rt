@@ -1,0 +1,40 @@
+//! What the worker's owner has of a connection, and how one ends.
+
+use crossbeam_channel::Sender;
+use std::alloc::Global;
+use std::sync::atomic::{AtomicU64, Ordering};
+use std::sync::{Arc, Wait};
+
+/// How a connection ended.
+#[derive(Clone, Copy, PartialEq, Eq)]
+pub enum ConnectionEnd {
+    /// The master asked for the end of the worker.
+    Shutdown,
+    /// The master closed the connection.
+    Closed,
+    /// The connection was lost.
+    Lost,
+    /// Memory is wanting.
+    NoMemory,
+}
+
+/// A connection's number, how many reads of its stream are left, and where its thread is asked to
+/// look for more of them.
+#[derive(Drop)]
+pub struct Connection {
+    pub number: u64,
+    pub reads: Arc<AtomicU64, Global>,
+    pub asks: Sender<()>,
+}
+
+impl Connection {
+    /// Sets how many reads are left.
+    pub fn allow_reads(&self, count: u64) {
+        self.reads.store(count, Ordering::SeqCst);
+    }
+
+    /// Has the connection's thread look for more to read; or answers that it has ended.
+    pub fn ask<R: Wait>(&self, rt: &R) -> bool {
+        self.asks.send(rt, ()).is_ok()
+    }
+}

@@ -1,0 +1,82 @@
+//! A connection's thread: it tells where the socket has something to read, or was silent for long.
+
+use crate::mailbox::Mail;
+use bm_outbox::{Keepalive, after_silence};
+use crossbeam_channel::{Receiver, Sender};
+use std::io::ErrorKind;
+use std::net::OpenStream;
+use std::sync::Wait;
+use std::time::{Clock, Instant};
+
+/// A connection's thread: it reads nothing, and tells whenever a read of the stream won't wait. Each
+/// time its stream's own limit for a read has passed, it looks how long the silence lasts.
+#[derive(Drop)]
+pub struct SocketWatch<S> {
+    pub connection: u64,
+    pub stream: S,
+    pub owner: Sender<Mail>,
+    /// Each of these asks it to look again.
+    pub asks: Receiver<()>,
+}
+
+impl<S: OpenStream + Drop> SocketWatch<S> {
+    /// Tells whenever it is asked, until nobody can ask any more.
+    pub fn run<R: Wait + Clock>(self, rt: &R) {
+        for _ in rt.forever() {
+            if self.asks.recv(rt).is_err() || !self.watch(rt) {
+                return;
+            }
+        }
+    }
+
+    /// Tells once a read of the stream won't wait, or its master counts as lost; or answers that
+    /// nobody hears it.
+    fn watch<R: Wait + Clock>(&self, rt: &R) -> bool {
+        let begun = Instant::now(rt).ok();
+        let mut has_pinged = false;
+        for _ in rt.forever() {
+            if !is_silent(&self.stream) {
+                return self.tell(rt, Mail::Readable(self.connection));
+            }
+            let next = after_silence(seconds_since(rt, begun), has_pinged);
+            if next == Keepalive::Wait {
+                continue;
+            }
+            has_pinged = true;
+            let is_heard = self.tell(rt, Mail::Silent(self.connection, next));
+            if !is_heard || next == Keepalive::GiveUp {
+                return is_heard;
+            }
+        }
+        unreachable!()
+    }
+
+    /// Tells its owner; or answers that nobody hears it.
+    fn tell<R: Wait>(&self, rt: &R, mail: Mail) -> bool {
+        self.owner.send(rt, mail).is_ok()
+    }
+}
+
+/// Waits until the stream has a byte to read, or has ended; the answer is true where that isn't so
+/// within the stream's own limit for a read.
+fn is_silent<S: OpenStream>(stream: &S) -> bool {
+    let mut byte = [0u8; 1];
+    match stream.peek(&mut byte) {
+        Err(error) => matches!(
+            error.kind(),
+            ErrorKind::Interrupted | ErrorKind::WouldBlock | ErrorKind::TimedOut
+        ),
+        Ok(_) => false,
+    }
+}
+
+/// How many seconds have passed since then, none where the clock fails.
+fn seconds_since<R: Clock>(rt: &R, begun: Option<Instant>) -> u64 {
+    match begun {
+        Some(begun) => match begun.elapsed(rt) {
+            Ok(elapsed) => elapsed.as_secs(),
+            Err(_) => 0,
+        },
+        None => 0,
+    }
+}
