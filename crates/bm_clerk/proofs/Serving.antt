@@ -9,13 +9,14 @@ use Rattle.bm_link.specs.declared.fault.LinkFault.{LinkFault}
 use Rattle.bm_link.specs.declared.parts.Turn.{Turn}
 use Rattle.bm_link.specs.Asking.{AsksFor}
 use Rattle.bm_link.specs.Carries.{Carried}
+use Rattle.bm_link.specs.Control.{ClosesFor, PingsFor}
 use Rattle.bm_link.specs.Link.{LinkState, Turned}
 use Rattle.bm_link.specs.Orders.{Starts as LinkStarts, Interrupts as LinkInterrupts}
 use Rattle.bm_rules.specs.Tenure.{Term, begun, dismissed}
 use Rattle.bm_clerk.specs.declared.door.Told.{Told}
 use Rattle.bm_rules.specs.declared.standing.Standing.TheVariants.{Up, Cut, Down}
 use Rattle.bm_clerk.specs.Notices.{is_awaited, standing_of}
-use Rattle.bm_clerk.specs.Desks.{Seat, kept, counting, term_in, renewed, told_start, told_interrupt, TakesUp, Attaches, Turns, Starts, Interrupts, ShutsDown}
+use Rattle.bm_clerk.specs.Desks.{Seat, kept, counting, term_in, renewed, told_start, told_interrupt, TakesUp, Attaches, Turns, Starts, Interrupts, ShutsDown, Pings, Closes}
 
 -- after a login ticks are counted just where the lane is cut
 counted : (u k x : Bool) (term : Term)
@@ -75,3 +76,11 @@ module _ {S : Type 0} where
       → old.link ≡ Some l → AsksFor contents Shutdown l.stage l old.carry r l2 new.carry
       → new.link ≡ Some l2 → new.lane ≡ old.lane → new.tenure ≡ dismissed old.tenure → ShutsDown contents old.link old new
   shut_down contents old new l l2 r is h k lane c = subst (λ (x : Option (LinkState S)). ShutsDown contents x old new) (sym is) (r, l2, h, k, lane, c)
+
+  pub pinged : (contents : S → Option (List ℕ)) (old new : Seat S) (l l2 : LinkState S) (r : Result (Unit {0}) LinkFault)
+      → old.link ≡ Some l → PingsFor contents l.stage l old.carry r l2 → new ≡ record old { link = Some l2 } → Pings contents old.link old new
+  pinged contents old new l l2 r is h same = subst (λ (x : Option (LinkState S)). Pings contents x old new) (sym is) (r, l2, h, same)
+
+  pub closed : (contents : S → Option (List ℕ)) (old new : Seat S) (l l2 : LinkState S) (r : Result (Unit {0}) LinkFault)
+      → old.link ≡ Some l → ClosesFor contents l.stage l r l2 → new ≡ record old { link = Some l2 } → Closes contents old.link old new
+  closed contents old new l l2 r is h same = subst (λ (x : Option (LinkState S)). Closes contents x old new) (sym is) (r, l2, h, same)

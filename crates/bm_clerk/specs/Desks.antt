@@ -20,6 +20,7 @@ use Rattle.bm_link.specs.declared.parts.Turn.TheVariants.{Quiet}
 use Rattle.bm_link.specs.Asking.{AsksFor}
 use Rattle.bm_link.specs.Attaching.{TakesUpFor}
 use Rattle.bm_link.specs.Carries.{Carried}
+use Rattle.bm_link.specs.Control.{ClosesFor, PingsFor}
 use Rattle.bm_link.specs.Link.{LinkState, Turned}
 use Rattle.bm_link.specs.Orders.{Starts as LinkStarts, Interrupts as LinkInterrupts}
 use Rattle.bm_rules.specs.Tenure.{Term, begun, cut_off, dismissed, is_over, passed}
@@ -155,6 +156,21 @@ module _ {S : Type 0} where
       (r : Result (Unit {0}) LinkFault) × (link2 : LinkState S)
       × AsksFor contents Shutdown link.stage link old.carry r link2 new.carry
       × (new.link ≡ Some link2) × (new.lane ≡ old.lane) × (new.tenure ≡ dismissed old.tenure)
+
+  -- the worker is asked for a sign of life, which is no event of the lane
+  abbrev pub Pings : (S → Option (List ℕ)) → Option (LinkState S) → Seat S → Seat S → Type 0
+  Pings contents None old new = new ≡ old
+  Pings contents (Some link) old new =
+      (r : Result (Unit {0}) LinkFault) × (link2 : LinkState S)
+      × PingsFor contents link.stage link old.carry r link2
+      × (new ≡ record old { link = Some link2 })
+
+  -- the worker is told that its connection ends; the lane is still to be given up
+  abbrev pub Closes : (S → Option (List ℕ)) → Option (LinkState S) → Seat S → Seat S → Type 0
+  Closes contents None old new = new ≡ old
+  Closes contents (Some link) old new =
+      (r : Result (Unit {0}) LinkFault) × (link2 : LinkState S)
+      × ClosesFor contents link.stage link r link2 × (new ≡ record old { link = Some link2 })
 
   -- the lane hears a Down: the session is given up, if there was one; or nothing changed, since the
   -- lane is busy

@@ -5,28 +5,35 @@ ghost use Rattle.bm_clerk.specs.Notices.{loss_of};
 
 use crate::bell::Bell;
 use crate::desk::{Desk, Rest};
-use crate::door::{Inbox, Next, Order, Told};
+use crate::door::{Inbox, Next, Order, Signal, Told};
 use crate::notice::{Notice, loss_of, notice_of};
+use crate::stream::{Timed, WorkerStream};
 use bm_board::Words;
 use bm_lane::{ReaderEnd, Yard};
 use bm_link::{Attached, LinkFault, MasterLink, Turn};
-use bm_rules::{LossCause, Standing};
+use bm_rules::{Care, LossCause, PeerTimer, Standing};
 use bumpalo::Bump;
 use crossbeam_channel::Sender;
 use std::alloc::Global;
 use std::io::{Read, Write};
 use std::sync::Wait;
 use std::thread;
-use std::time::{Clock, Duration};
+use std::time::{Clock, Duration, Instant};
 
 /// How long a tick is, in milliseconds.
 const TICK: u64 = 10;
 
-/// How long a clerk waits for an order before it looks at a silent link, in milliseconds.
+/// How long a clerk waits for an order before it looks at its signals and at a silent link, in
+/// milliseconds.
 const GLANCE: u64 = 500;
 
 /// How many orders are taken at most between two ticks.
 const MOST_ORDERS: u32 = 64;
+
+/// The most bytes that the arena of a lane's messages takes, and what it keeps after a message.
+const MOST_ARENA_BYTES: usize = 32 * 1_048_576;
+
+const MOST_KEPT_BYTES: usize = 1_048_576;
 
 /// Who is told what happens to a lane.
 pub trait Tell {
@@ -38,8 +45,13 @@ pub trait Tell {
 struct Clerk<'a, Y: Yard, S, T, R: Wait + Clock + Drop> {
     rt: &'a R,
     alloc: Global,
-    desk: Desk<Y, S>,
+    desk: Desk<Y, WorkerStream<S, R>>,
     arena: Bump,
+    /// Since when the timer counts. None where the clock failed: it then counts nothing.
+    began: Option<Instant>,
+    timer: PeerTimer,
+    /// A link that has logged in while the lane is up, until its worker lives or is given up.
+    waiting: Option<MasterLink<WorkerStream<S, R>>>,
     bell: &'a Bell<R>,
     place: usize,
     tell: T,
@@ -51,21 +63,29 @@ struct Clerk<'a, Y: Yard, S, T, R: Wait + Clock + Drop> {
     why: LossCause,
 }
 
-/// Serves a lane until its door says `Leave`: obeys each order, hears the worker, counts ticks
-/// while the lane is cut, rings the bell after each event, and tells what happens to the lane
-/// before it takes or answers an order after that. Then the door is shut, the session is given up,
-/// and the lane's end comes back.
+/// An arena for a lane's messages.
+fn arena_of(alloc: Global) -> Bump {
+    let arena = Bump::new(alloc);
+    arena.set_allocation_limit(Some(MOST_ARENA_BYTES));
+    arena
+}
+
+/// Serves a lane until its door says `Leave`: obeys each order, hears the worker, asks it for a
+/// sign of life where it is silent, counts ticks while the lane is cut, rings the bell after each
+/// event, and tells what happens to the lane before it takes or answers an order after that. Then
+/// the door is shut, the worker is told by a close frame, the session is given up, and the lane's
+/// end comes back.
 pub fn serve_lane<Y, S, T, R>(
     rt: &R,
     alloc: Global,
-    desk: Desk<Y, S>,
-    inbox: &Inbox<S>,
+    desk: Desk<Y, WorkerStream<S, R>>,
+    inbox: &Inbox<WorkerStream<S, R>>,
     bell: &Bell<R>,
     tell: T,
 ) -> ReaderEnd<Y>
 where
     Y: Yard,
-    S: Read + Write + Drop,
+    S: Read + Write + Timed + Drop,
     T: Tell + Drop,
     R: Wait + Clock + Drop,
     requires { desk.lane.lane ≡ inbox.now }
@@ -74,7 +94,10 @@ where
         rt,
         alloc,
         desk,
-        arena: Bump::new(alloc),
+        arena: arena_of(alloc),
+        began: Instant::now(rt).ok(),
+        timer: PeerTimer::new(0, 0),
+        waiting: None,
         bell,
         place: inbox.lane() as usize,
         tell,
@@ -94,15 +117,22 @@ where
 impl<'a, Y, S, T, R> Clerk<'a, Y, S, T, R>
 where
     Y: Yard,
-    S: Read + Write + Drop,
+    S: Read + Write + Timed + Drop,
     T: Tell + Drop,
     R: Wait + Clock + Drop,
 {
     /// Waits for what the lane waits for, and does what comes. False once it is told to leave.
-    fn goes_on(&mut self, inbox: &Inbox<S>) -> bool {
-        match self.desk.rest(self.is_lively || self.open > 0) {
-            Rest::Order => self.takes(inbox.wait(self.rt)),
-            Rest::Glance => self.takes(inbox.wait_for(self.rt, Duration::from_millis(GLANCE))),
+    fn goes_on(&mut self, inbox: &Inbox<WorkerStream<S, R>>) -> bool {
+        if inbox.takes(Signal::Leave) {
+            return false;
+        }
+        self.takes_signals(inbox);
+        self.watch();
+        let is_lively = self.is_lively || self.open > 0 || self.waiting.is_some();
+        match self.desk.rest(is_lively) {
+            Rest::Order | Rest::Glance => {
+                self.takes(inbox.wait_for(self.rt, Duration::from_millis(GLANCE)))
+            }
             Rest::Message => self.takes(inbox.look(self.rt)),
             Rest::Tick => {
                 self.expire();
@@ -113,27 +143,37 @@ where
         }
     }
 
-    /// Obeys what came through the door, or hears the worker where nothing came.
-    fn takes(&mut self, next: Next<S>) -> bool {
-        match next {
-            Next::Order(order) => self.obeys(order),
-            Next::Nothing => {
-                self.turn();
-                true
-            }
-            Next::Left => false,
+    /// Does what signals ask for.
+    fn takes_signals(&mut self, inbox: &Inbox<WorkerStream<S, R>>) {
+        if inbox.takes(Signal::ShutDown) {
+            self.why = LossCause::Dismissed;
+            self.desk.shut_down(self.alloc);
+            self.is_lively = true;
+            self.expire();
+        }
+        if inbox.takes(Signal::Ended) {
+            self.why = LossCause::Ended;
+            self.desk.dismiss();
+            self.is_lively = true;
+            self.expire();
         }
     }
 
+    /// Obeys what came through the door, or hears the worker where nothing came.
+    fn takes(&mut self, next: Next<WorkerStream<S, R>>) -> bool {
+        match next {
+            Next::Order(order) => self.obeys(order),
+            Next::Nothing => self.turn(),
+            Next::Left => return false,
+        }
+        true
+    }
+
     /// Obeys all that came through the door.
-    fn takes_all(&mut self, inbox: &Inbox<S>) -> bool {
+    fn takes_all(&mut self, inbox: &Inbox<WorkerStream<S, R>>) -> bool {
         for _ in 0..MOST_ORDERS {
             match inbox.look(self.rt) {
-                Next::Order(order) => {
-                    if !self.obeys(order) {
-                        return false;
-                    }
-                }
+                Next::Order(order) => self.obeys(order),
                 Next::Nothing => return true,
                 Next::Left => return false,
             }
@@ -141,8 +181,8 @@ where
         true
     }
 
-    /// Obeys an order. False where that is to leave.
-    fn obeys(&mut self, order: Order<S>) -> bool {
+    /// Obeys an order.
+    fn obeys(&mut self, order: Order<WorkerStream<S, R>>) {
         match order {
             Order::Attach(link) => self.attach(link),
             Order::Start(words, answer) => self.start(&words, &answer),
@@ -151,21 +191,8 @@ where
             Order::Settle(answer) => {
                 let _ = answer.send(self.rt, ());
             }
-            Order::ShutDown => {
-                self.why = LossCause::Dismissed;
-                self.desk.shut_down(self.alloc);
-                self.is_lively = true;
-                self.expire();
-            }
-            Order::Ended => {
-                self.why = LossCause::Ended;
-                self.desk.dismiss();
-                self.is_lively = true;
-                self.expire();
-            }
-            Order::Leave => return false,
+            Order::Look => {}
         }
-        true
     }
 
     /// The bell is rung, and it is told how the lane went on from where it stood.
@@ -176,17 +203,81 @@ where
         }
     }
 
-    /// A link comes. Where the lane is up it is looked first whether that still holds.
-    fn attach(&mut self, link: MasterLink<S>) {
+    /// The time in milliseconds, for the timer.
+    fn now(&self) -> u64 {
+        let passed = match &self.began {
+            Some(began) => began.elapsed(self.rt),
+            None => return 0,
+        };
+        match passed {
+            Ok(passed) => passed
+                .as_secs()
+                .saturating_mul(1000)
+                .saturating_add(u64::from(passed.subsec_millis())),
+            Err(_) => 0,
+        }
+    }
+
+    /// What is to be done about the worker now.
+    fn care(&mut self) -> Care {
+        let (heard, now) = (self.heard(), self.now());
+        match self.desk.standing() {
+            Standing::Up => self.timer.look(heard, now),
+            Standing::Cut | Standing::Down => Care::Nothing,
+        }
+    }
+
+    /// Asks a silent worker for a sign of life. Where it is taken for dead, and nothing of it waits
+    /// to be read, its link fails at once. Then another link waits no longer.
+    fn watch(&mut self) {
+        let mut care = self.care();
+        if care == Care::GiveUp {
+            self.turn();
+            care = self.care();
+        }
+        match care {
+            Care::Nothing => {}
+            Care::Ask => self.desk.ping(),
+            Care::GiveUp => {
+                if let Some(stream) = self.desk.stream() {
+                    stream.give_up();
+                }
+                self.turn();
+            }
+        }
+        let is_wanted = care == Care::Nothing && self.timer.is_wanted();
+        if !is_wanted || self.desk.standing() != Standing::Up {
+            if let Some(link) = self.waiting.take() {
+                self.admit(link);
+            }
+        }
+    }
+
+    /// A link comes. Where the lane is up it is looked first whether that still holds. Then its
+    /// worker is asked for a sign of life, and the link waits for that.
+    fn attach(&mut self, link: MasterLink<WorkerStream<S, R>>) {
         if self.desk.standing() == Standing::Up {
             self.turn();
+            self.watch();
         }
+        if self.desk.standing() != Standing::Up || self.waiting.is_some() {
+            return self.admit(link);
+        }
+        self.desk.ping();
+        let now = self.now();
+        self.timer.want(now);
+        self.waiting = Some(link);
+    }
+
+    /// A link takes the lane up, or is told why not.
+    fn admit(&mut self, link: MasterLink<WorkerStream<S, R>>) {
         let before = self.desk.standing();
         let answer = self.desk.attach(self.rt, self.alloc, link);
         match answer {
             Ok(attached) => {
                 self.bell.ring(self.place);
                 self.why = LossCause::Expired;
+                self.timer = PeerTimer::new(self.heard(), self.now());
                 if attached == Attached::Resumed {
                     self.tell.tell(Notice::Resumed);
                 } else {
@@ -202,6 +293,14 @@ where
             }
         }
         self.is_lively = true;
+    }
+
+    /// A count of what came from the worker by the lane's link.
+    fn heard(&self) -> u64 {
+        match self.desk.stream() {
+            Some(stream) => stream.heard(),
+            None => 0,
+        }
     }
 
     fn start(&mut self, words: &Words, answer: &Sender<Told, Global>) {
@@ -227,12 +326,16 @@ where
     fn turn(&mut self) {
         let before = self.desk.standing();
         let took = self.bell.took(self.place);
+        let heard = self.heard();
         self.is_lively = true;
         match self.desk.turn(self.rt, self.alloc, &mut self.arena) {
-            Ok(Turn::Quiet) => self.is_lively = false,
+            Ok(Turn::Quiet) => self.is_lively = heard != self.heard(),
             Ok(Turn::Busy) => self.bell.wait_for_place(self.place, took),
             Ok(Turn::Heard | Turn::Noted | Turn::Dropped) => self.bell.ring(self.place),
             Err(fault) => self.note(before, loss_of(fault)),
+        }
+        if self.arena.allocated_bytes() > MOST_KEPT_BYTES {
+            self.arena = arena_of(self.alloc);
         }
     }
 
@@ -248,12 +351,13 @@ where
         self.note(before, self.why);
     }
 
-    /// Gives the session up, and hands the lane's end back.
+    /// Tells the worker that the master ends, gives the session up, and hands the lane's end back.
     fn leave(self) -> ReaderEnd<Y> {
         let rt = self.rt;
         let bell = self.bell;
         let place = self.place;
         let mut desk = self.desk;
+        desk.close();
         for _ in rt.forever() {
             let took = bell.took(place);
             if desk.give_up(rt) {

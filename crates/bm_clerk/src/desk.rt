@@ -1,21 +1,21 @@
 //! A lane's reader's end with the link by which it is up.
 
-ghost use Rattle.std.specs.Prelude.{◌≡◌, [], nat_lt, true, None, if◌then◌else◌};
+ghost use Rattle.std.specs.Prelude.{◌≡◌, [], nat_lt, is_some, true, None, if◌then◌else◌};
 ghost use Rattle.bm_session.specs.Trace.{is_up};
 ghost use Rattle.bm_link.specs.Carries.{new_carried};
 ghost use Rattle.bm_rules.specs.Standing.{keeps_link};
 ghost use Rattle.bm_rules.specs.Tenure.{kept as kept_term, dismissed};
-ghost use Rattle.bm_clerk.specs.Desks.{counting, kept, renewed, rest_of, term_in, told_interrupt, told_start, told_unlinked};
-ghost use Rattle.bm_clerk.specs.Desks.{Attaches, Expires, GivesUp, Interrupts, ShutsDown, Starts, TakesUp, Ticks, Turns, with_term};
+ghost use Rattle.bm_clerk.specs.Desks.{counting, kept, renewed, rest_of, term_in};
+ghost use Rattle.bm_clerk.specs.Desks.{Attaches, Closes, Expires, GivesUp, Interrupts, Pings, ShutsDown, Starts, TakesUp, Ticks, Turns, with_term};
 ghost use Rattle.bm_clerk.specs.Notices.{standing_of};
 
 use crate::door::Told;
 use crate::notice::standing_of;
+use crate::told::{told_interrupt, told_start, told_unlinked};
 use bm_lane::{HearRefusal, ReaderEnd, Yard};
 use bm_lines::Text;
 use bm_link::{Ask, Attached, Carry, LinkFault, MasterLink, Turn};
 use bm_rules::{Standing, Tenure};
-use bm_session::Refusal;
 use bumpalo::Bump;
 use std::alloc::Global;
 use std::io::{Read, Write};
@@ -55,7 +55,7 @@ impl<Y: Yard, S> Model for Desk<Y, S> {
 /// What a clerk waits for.
 #[derive(Clone, Copy, PartialEq, Eq)]
 pub(crate) enum Rest {
-    /// An order, however long it takes: the lane is down.
+    /// An order: the lane is down.
     Order,
     /// An order, but for a look at the link now and then: the worker has nothing to say.
     Glance,
@@ -63,44 +63,6 @@ pub(crate) enum Rest {
     Message,
     /// The next tick: the lane is cut.
     Tick,
-}
-
-/// What a build is told of a start, by the link's answer and whether the lane took the order.
-fn told_start(answer: Result<u64, LinkFault>, is_taken: bool) -> Told
-    ensures { result ≡ told_start is_taken answer }
-{
-    match answer {
-        Ok(command) => Told::Started(command),
-        Err(LinkFault::Lane(HearRefusal::Busy)) => Told::Later,
-        Err(LinkFault::Lane(HearRefusal::Session(Refusal::Full))) => Told::Full,
-        Err(LinkFault::Lane(HearRefusal::Session(_))) => Told::Refused,
-        Err(_) if is_taken => Told::Refused,
-        Err(_) => Told::Later,
-    }
-}
-
-/// What a build is told of an interruption.
-fn told_interrupt(answer: Result<(), LinkFault>, is_taken: bool) -> Told
-    ensures { result ≡ told_interrupt is_taken answer }
-{
-    match answer {
-        Ok(()) => Told::Interrupted,
-        Err(LinkFault::Lane(HearRefusal::Busy | HearRefusal::Session(Refusal::Mem))) => Told::Later,
-        Err(LinkFault::Lane(HearRefusal::Session(_))) => Told::Refused,
-        Err(_) if is_taken => Told::Interrupted,
-        Err(_) => Told::Later,
-    }
-}
-
-/// What a build is told where the lane has no link.
-fn told_unlinked<Y: Yard>(reader: &ReaderEnd<Y>) -> Told
-    ensures { result ≡ told_unlinked reader.now }
-{
-    if reader.is_cut() {
-        Told::Later
-    } else {
-        Told::Refused
-    }
 }
 
 /// After the lane had events: a link is kept while the lane is up, and ticks are counted while it
@@ -253,6 +215,16 @@ impl<Y: Yard, S> Desk<Y, S> {
 }
 
 impl<Y: Yard, S: Read + Write + Drop> Desk<Y, S> {
+    /// The stream of its link, if it has one.
+    pub(crate) fn stream(&self) -> Option<&S>
+        ensures { is_some result ≡ is_some self.now.link }
+    {
+        match &self.link {
+            Some(link) => Some(link.get_ref()),
+            None => None,
+        }
+    }
+
     /// A link that has logged in takes the lane up. Where the lane is up, it is declined, and the
     /// first link goes on unharmed.
     ///
@@ -340,6 +312,26 @@ impl<Y: Yard, S: Read + Write + Drop> Desk<Y, S> {
         self.tenure.dismiss();
         if let Some(link) = &mut self.link {
             let _ = link.ask(alloc, &mut self.carry, Ask::Shutdown);
+        }
+    }
+
+    /// Asks the worker for a sign of life, where the lane has a link. A fault of the link is told by
+    /// its next turn.
+    pub fn ping(&mut self)
+        ensures { Pings S.contents self.old.link self.old self.new }
+    {
+        if let Some(link) = &mut self.link {
+            let _ = link.ping(&self.carry);
+        }
+    }
+
+    /// Tells the worker by a close frame that its connection ends, where the lane has a link.
+    /// Nothing is heard any more, and the lane is still to be given up.
+    pub fn close(&mut self)
+        ensures { Closes S.contents self.old.link self.old self.new }
+    {
+        if let Some(link) = &mut self.link {
+            let _ = link.close();
         }
     }
 

@@ -4,7 +4,7 @@ ghost use Rattle.std.specs.Prelude.{◌≡◌, IfOk, IfSome};
 
 use bm_board::Words;
 use bm_link::MasterLink;
-use crossbeam_channel::{Receiver, RecvTimeoutError, Sender, bounded};
+use crossbeam_channel::{Receiver, RecvTimeoutError, SendTimeoutError, Sender, bounded};
 use std::alloc::{AllocError, Global};
 use std::marker::Model;
 use std::sync::atomic::{AtomicBool, Ordering};
@@ -17,7 +17,10 @@ const ROOM: usize = 64;
 /// How long an answer is waited for before the door is looked at again, in milliseconds.
 const TICK: u64 = 10;
 
-/// What a lane's clerk is told.
+/// How long a link waits for room at the door, in milliseconds.
+const ATTACH_MS: u64 = 1_000;
+
+/// What a lane's clerk is told in its turn.
 #[derive(Drop)]
 pub enum Order<S> {
     /// A link of the lane's worker has logged in.
@@ -30,12 +33,55 @@ pub enum Order<S> {
     Seen,
     /// Answer once all that happened to the lane so far was told.
     Settle(Sender<(), Global>),
+    /// Look at the signals.
+    Look,
+}
+
+/// What a lane's clerk is told before what waits at its door, by who never waits for it.
+#[derive(Clone, Copy, PartialEq, Eq)]
+pub enum Signal {
     /// Ask the worker to shut down: from then on its session isn't resumed.
     ShutDown,
     /// The worker's process has ended: its session isn't resumed.
     Ended,
     /// Give the session up, and hand the lane's end back.
     Leave,
+}
+
+/// Which signals were given, and not taken.
+#[derive(Drop)]
+struct Signals {
+    shut_down: AtomicBool,
+    ended: AtomicBool,
+    leave: AtomicBool,
+}
+
+impl Signals {
+    fn new() -> Signals {
+        Signals {
+            shut_down: AtomicBool::new(false),
+            ended: AtomicBool::new(false),
+            leave: AtomicBool::new(false),
+        }
+    }
+
+    fn flag(&self, signal: Signal) -> &AtomicBool {
+        match signal {
+            Signal::ShutDown => &self.shut_down,
+            Signal::Ended => &self.ended,
+            Signal::Leave => &self.leave,
+        }
+    }
+}
+
+/// What becomes of a link that is handed through a door.
+#[derive(Drop)]
+pub(crate) enum Handed<S> {
+    Taken,
+    /// The door had no room for it.
+    Back(MasterLink<S>),
+    /// The clerk has left.
+    Left,
 }
 
 /// What came of an order to start or to interrupt a command.
@@ -59,6 +105,7 @@ pub enum Told {
 pub struct Door<S> {
     lane: u64,
     sender: Sender<Order<S>, Global>,
+    signals: Arc<Signals, Global>,
     /// Set once the clerk has left.
     is_shut: Arc<AtomicBool, Global>,
 }
@@ -76,6 +123,7 @@ impl<S> Model for Door<S> {
 pub struct Inbox<S> {
     lane: u64,
     receiver: Receiver<Order<S>, Global>,
+    signals: Arc<Signals, Global>,
     is_shut: Arc<AtomicBool, Global>,
 }
 
@@ -94,14 +142,17 @@ pub fn open_door<S: Drop>(alloc: Global, lane: u64) -> Result<(Door<S>, Inbox<S>
 {
     let (sender, receiver) = bounded(alloc, ROOM)?;
     let is_shut = Arc::new(alloc, AtomicBool::new(false))?;
+    let signals = Arc::new(alloc, Signals::new())?;
     let door = Door {
         lane,
         sender,
+        signals: Arc::try_clone(&signals)?,
         is_shut: Arc::try_clone(&is_shut)?,
     };
     let inbox = Inbox {
         lane,
         receiver,
+        signals,
         is_shut,
     };
     Ok((door, inbox))
@@ -115,6 +166,7 @@ impl<S: Drop> Door<S> {
         Ok(Door {
             lane: self.lane,
             sender: self.sender.clone()?,
+            signals: Arc::try_clone(&self.signals)?,
             is_shut: Arc::try_clone(&self.is_shut)?,
         })
     }
@@ -129,6 +181,27 @@ impl<S: Drop> Door<S> {
     /// Tells the clerk, once its door has room. It answers false where the clerk has left.
     pub fn tell<R: Wait>(&self, rt: &R, order: Order<S>) -> bool {
         !self.is_shut() && self.sender.send(rt, order).is_ok()
+    }
+
+    /// Hands the clerk a link that has logged in. It comes back where the door has no room for a
+    /// second.
+    pub(crate) fn attach<R: Wait + Clock>(&self, rt: &R, link: MasterLink<S>) -> Handed<S> {
+        if self.is_shut() {
+            return Handed::Left;
+        }
+        let most = Duration::from_millis(ATTACH_MS);
+        match self.sender.send_timeout(rt, Order::Attach(link), most) {
+            Ok(()) => Handed::Taken,
+            Err(SendTimeoutError::Timeout(Order::Attach(link))) => Handed::Back(link),
+            Err(_) => Handed::Left,
+        }
+    }
+
+    /// Gives the clerk a signal, and doesn't wait for it. Where the door is full the clerk looks
+    /// at it all the same, after its next order.
+    pub fn signal<R: Wait>(&self, rt: &R, signal: Signal) {
+        self.signals.flag(signal).store(true, Ordering::SeqCst);
+        let _ = self.sender.try_send(rt, Order::Look);
     }
 
     /// What the clerk answers to an order that it was told. None where it has left before: an order
@@ -175,12 +248,9 @@ impl<S: Drop> Inbox<S> {
         self.is_shut.store(true, Ordering::SeqCst);
     }
 
-    /// The next order, however long it takes.
-    pub(crate) fn wait<R: Wait>(&self, rt: &R) -> Next<S> {
-        match self.receiver.recv(rt) {
-            Ok(order) => Next::Order(order),
-            Err(_) => Next::Left,
-        }
+    /// Whether the signal was given, told once.
+    pub(crate) fn takes(&self, signal: Signal) -> bool {
+        self.signals.flag(signal).swap(false, Ordering::SeqCst)
     }
 
     /// The next order, if it comes within this time.

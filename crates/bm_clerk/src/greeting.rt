@@ -3,21 +3,18 @@
 ghost use Rattle.std.specs.Prelude.{◌≡◌, IfOk, IfSome};
 ghost use Rattle.bm_clerk.specs.Greeting.{IsLoggedIn};
 
-use crate::caller::{Caller, Timed};
-use crate::door::{Door, Order};
+use crate::door::{Door, Handed};
+use crate::stream::{Timed, WorkerStream};
 use bm_link::{LinkFault, MasterLink, User};
 use bumpalo::Bump;
 use std::alloc::Global;
 use std::io::{Read, Write};
 use std::sync::Wait;
-use std::time::{Clock, Duration};
+use std::time::Clock;
 
-/// How long a read of a worker's stream waits, in milliseconds: so long an order may wait too while
-/// a command is open.
-const READ_TIME: u64 = 20;
-
-/// How long a write waits for a worker that doesn't read, in milliseconds.
-const WRITE_TIME: u64 = 5_000;
+/// The most bytes that the arena of a login takes: enough for all that a login may say, and so little
+/// that all connections without a login may take it at once.
+const MOST_LOGIN_BYTES: usize = 2 * 1_048_576;
 
 /// A worker that has logged in: the place of its user, and its link.
 #[derive(Drop)]
@@ -39,6 +36,7 @@ fn admit<S: Read + Write + Drop>(
         Err(fault) => return Err(fault),
     };
     let mut arena = Bump::new(alloc);
+    arena.set_allocation_limit(Some(MOST_LOGIN_BYTES));
     match link.login(alloc, &mut arena, users) {
         Ok(place) => Ok(Visitor { place, link }),
         Err(fault) => Err(fault),
@@ -52,11 +50,28 @@ fn door_of<S: Drop>(doors: &[Door<S>], lane: usize) -> Option<&Door<S>>
     doors.iter().find(|door| door.lane() == lane as u64)
 }
 
-/// Hands a visitor's link through the door of its own lane. False where the clerk has left.
-fn hand<S: Drop, R: Wait>(rt: &R, door: &Door<S>, visitor: Visitor<S>) -> bool
+/// Hands a visitor's link through the door of its own lane. Where that has no room the worker is
+/// told `busy`.
+///
+/// # Errors
+///
+/// `Closed` where the clerk has left; `Busy` of the lane where its door has no room.
+fn hand<S: Read + Write + Drop, R: Wait + Clock>(
+    rt: &R,
+    alloc: Global,
+    door: &Door<S>,
+    visitor: Visitor<S>,
+) -> Result<(), LinkFault>
     requires { door.now ≡ visitor.place }
 {
-    door.tell(rt, Order::Attach(visitor.link))
+    match door.attach(rt, visitor.link) {
+        Handed::Taken => Ok(()),
+        Handed::Back(link) => {
+            let mut link = link;
+            Err(link.put_off(alloc))
+        }
+        Handed::Left => Err(LinkFault::Closed),
+    }
 }
 
 /// Greets a worker on a new connection, within some 10 seconds, and hands its link through its
@@ -64,38 +79,35 @@ fn hand<S: Drop, R: Wait>(rt: &R, door: &Door<S>, visitor: Visitor<S>) -> bool
 ///
 /// # Errors
 ///
-/// Those of the link's `accept` and `login`; `Closed` where the lane's clerk has left; `Stream`
-/// also where the time is over. Nothing is left of the connection then.
+/// Those of the link's `accept` and `login`; `Closed` where the lane's clerk has left; `Busy` of
+/// the lane where its door has no room; `Stream` also where the time is over. Nothing is left of
+/// the connection then.
 pub fn greet<S, R>(
     rt: &R,
     alloc: Global,
-    stream: S,
+    stream: WorkerStream<S, R>,
     users: &[User],
-    doors: &[Door<Caller<S, R>>],
+    doors: &[Door<WorkerStream<S, R>>],
 ) -> Result<usize, LinkFault>
 where
     S: Read + Write + Timed + Drop,
-    R: Wait + Clock + Copy + Drop,
+    R: Wait + Clock + Drop,
 {
     let mut stream = stream;
-    let read = Duration::from_millis(READ_TIME);
-    if stream
-        .bound(read, Duration::from_millis(WRITE_TIME))
-        .is_err()
-    {
+    if stream.bound_calls().is_err() {
         return Err(LinkFault::Stream);
     }
-    let Ok((caller, latch)) = Caller::new(*rt, alloc, stream) else {
-        return Err(LinkFault::Mem);
-    };
-    let visitor = match admit(alloc, caller, users) {
+    let visitor = match admit(alloc, stream, users) {
         Ok(visitor) => visitor,
         Err(fault) => return Err(fault),
     };
-    latch.open();
+    visitor.link.get_ref().let_in();
     let place = visitor.place;
-    match door_of(doors, place) {
-        Some(door) if hand(rt, door, visitor) => Ok(place),
-        _ => Err(LinkFault::Closed),
+    let Some(door) = door_of(doors, place) else {
+        return Err(LinkFault::Closed);
+    };
+    match hand(rt, alloc, door, visitor) {
+        Ok(()) => Ok(place),
+        Err(fault) => Err(fault),
     }
 }

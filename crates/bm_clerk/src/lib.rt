@@ -8,7 +8,6 @@
 #![tactic(auto)]
 
 mod bell;
-mod caller;
 mod clerk;
 mod desk;
 mod door;
@@ -16,13 +15,15 @@ mod greeting;
 mod guests;
 mod notice;
 mod port;
+mod stream;
+mod told;
 
 pub use bell::Bell;
-pub use caller::{Caller, Timed};
 pub use clerk::{Tell, serve_lane};
 pub use desk::Desk;
-pub use door::{Door, Inbox, Order, Told, open_door};
+pub use door::{Door, Inbox, Order, Signal, Told, open_door};
 pub use greeting::greet;
 pub use guests::{Guests, MOST_GUESTS};
 pub use notice::Notice;
 pub use port::{LanePort, Watch};
+pub use stream::{Timed, WorkerStream};

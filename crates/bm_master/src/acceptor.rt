@@ -2,8 +2,7 @@
 
 use crate::common::Common;
 use crate::news::News;
-use crate::visit::Visit;
-use bm_clerk::greet;
+use bm_clerk::{WorkerStream, greet};
 use bm_lane::Yard;
 use bm_parts::refusal_of;
 use bm_rules::LoginRefusal;
@@ -30,11 +29,11 @@ where
     if !common.guests.enter(rt) {
         return mail.tell(rt, News::Refused(LoginRefusal::Crowded));
     }
-    let visit = Visit::new(*rt, stream, is_over);
+    let stream = WorkerStream::new(*rt, stream, is_over);
     let thread = scope.spawn(move || {
-        let visit = visit;
+        let stream = stream;
         let (users, doors) = (common.users.as_slice(), common.doors.as_slice());
-        if let Err(fault) = greet(rt, common.alloc, visit, users, doors) {
+        if let Err(fault) = greet(rt, common.alloc, stream, users, doors) {
             mail.tell(rt, News::Refused(refusal_of(fault)));
         }
         common.guests.leave(rt);

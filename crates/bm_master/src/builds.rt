@@ -1,9 +1,8 @@
 //! The threads of builds.
 ghost use Rattle.std.specs.Prelude.{◌≡◌};
 
-use crate::common::Common;
+use crate::common::{Common, Guest};
 use crate::news::{Mail, News, Returned, Step};
-use crate::visit::Guest;
 use bm_board::{Build, StepPlan};
 use bm_clerk::{Door, LanePort, Watch};
 use bm_lane::{Viewer, Yard};

@@ -1,16 +1,19 @@
 //! What all threads of a master share.
 
 use crate::news::Mail;
-use crate::visit::Guest;
 use crate::web::WebStop;
-use bm_clerk::{Bell, Door, Guests};
+use bm_clerk::{Bell, Door, Guests, WorkerStream};
 use bm_config::Config;
 use bm_lane::{WriterEnd, Yard};
 use bm_link::User;
 use std::alloc::{AllocError, Global};
+use std::net::TcpStream;
 use std::sync::atomic::AtomicBool;
 use std::sync::{Arc, Mutex, Wait};
 use std::time::Clock;
+
+/// A worker's connection.
+pub type Guest<R> = WorkerStream<TcpStream, R>;
 
 /// What all threads of a master share. Each list is in the order of the lanes, but for `cancels`.
 #[derive(Drop)]

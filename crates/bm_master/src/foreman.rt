@@ -4,7 +4,7 @@ use crate::builds::start_build;
 use crate::common::Common;
 use crate::news::{Letters, News, Returned, Step};
 use crate::seat::Seat;
-use bm_clerk::{Notice, Order};
+use bm_clerk::{Notice, Signal};
 use bm_lane::{Viewer, Yard};
 use bm_parts::{event_of, fills, refusal_of};
 use bm_roster::{Bench, Cancelled, Roster};
@@ -159,7 +159,7 @@ where
     // Has the worker told to shut down.
     fn dismiss(&mut self, worker: usize) {
         if let Some(door) = self.common.doors.get(worker) {
-            door.tell(&self.common.rt, Order::ShutDown);
+            door.signal(&self.common.rt, Signal::ShutDown);
             let worker = self.name(worker);
             self.remark(&Remark::Dismissed { worker });
         }
@@ -185,7 +185,7 @@ where
         let name = self.name(worker);
         self.remark(&Remark::ProgramEnded { worker: name });
         if let Some(door) = self.common.doors.get(worker) {
-            door.tell(&self.common.rt, Order::Ended);
+            door.signal(&self.common.rt, Signal::Ended);
         }
         self.happens(worker, WorkerEvent::Stopped);
     }

@@ -15,7 +15,6 @@ mod process;
 mod seat;
 mod serving;
 mod threads;
-mod visit;
 mod web;
 
 pub use serving::serve;

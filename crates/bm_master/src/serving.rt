@@ -2,12 +2,11 @@
 ghost use Rattle.std.specs.Prelude.{◌≡◌, ◌<◌, length, vec_len, IfSome};
 ghost use Rattle.bm_lane.specs.Placed.{ArePlaced};
 
-use crate::common::{Common, flags_of};
+use crate::common::{Common, Guest, flags_of};
 use crate::foreman::Left;
 use crate::news::{Letters, Mail, open_mail};
 use crate::seat::{Seat, seats_of};
 use crate::threads::{Came, Lead, Service, run_threads};
-use crate::visit::Guest;
 use crate::web::WebStop;
 use bm_clerk::{Bell, Desk, Guests};
 use bm_config::{Config, WorkerConfig};

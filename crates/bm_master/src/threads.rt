@@ -3,14 +3,13 @@ ghost use Rattle.std.specs.Prelude.{◌≡◌};
 ghost use Rattle.std.specs.Thread.{IsSend, IsSync};
 
 use crate::acceptor::accept_all;
-use crate::common::Common;
+use crate::common::{Common, Guest};
 use crate::foreman::{Foreman, Left, Ticker};
 use crate::input::read_input;
 use crate::news::{Letters, Mail, News};
 use crate::seat::Seat;
-use crate::visit::Guest;
 use crate::web::Web;
-use bm_clerk::{Desk, Inbox, Notice, Order, Tell, serve_lane};
+use bm_clerk::{Desk, Inbox, Notice, Signal, Tell, serve_lane};
 use bm_lane::{Gate, Pass, ReaderEnd, Yard, writers};
 use bm_roster::Roster;
 use bm_serve::Site;
@@ -224,7 +223,7 @@ impl<Y: Yard> Staff<Y> {
         let mut readers = room;
         common.is_over.store(true, Ordering::SeqCst);
         for door in common.doors.iter() {
-            door.tell(rt, Order::Leave);
+            door.signal(rt, Signal::Leave);
         }
         for clerk in clerks {
             let _ = readers.push(clerk.join(rt));

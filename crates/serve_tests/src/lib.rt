@@ -12,6 +12,8 @@ mod logins;
 #[cfg(test)]
 mod play;
 #[cfg(test)]
+mod second;
+#[cfg(test)]
 mod stage;
 #[cfg(test)]
 mod streams;

@@ -1,5 +1,6 @@
 //! What is done and seen on a stage with one worker, step by step.
 
+use crate::second::is_declined;
 use crate::stage::{Scene, open};
 use bm_lines::Letter;
 use std::alloc::AllocGlobal;
@@ -119,7 +120,7 @@ where
             Act::SaysLater(command, text) => hand.says_later(command, Letter::O, text),
             Act::Returns => hand.returns("w0", "p", "s"),
             Act::IsForgotten => hand.begins_anew("w0", "p", "s"),
-            Act::IsAlone => stage.refuses("w0", "p"),
+            Act::IsAlone => is_declined(stage.rt, stage.workers, hand),
             Act::Writes(line) => stage.writes(line),
             Act::Reports(line) => stage.reports(line),
             Act::Awaits(remark) => stage.awaits(remark),

@@ -1,0 +1,13 @@
+use Rattle.std.proofs.Common.{refl, Some}
+use Rattle.bm_clerk.proofs.Serving.{closed}
+use Rattle.bm_clerk.proofs.desk.Desk.close.Goals as goal
+
+pub returns-in-Some : goal.returns-in-Some
+returns-in-Some g c =
+    rw (← c.self.view_is) (
+    closed g.S.Write.contents
+    (record { lane = c.self.inside.reader; carry = c.self.inside.carry; link = c.self.inside.link; tenure = c.self.inside.tenure })
+    (record { lane = c.self.inside.reader; carry = c.self.inside.carry; link = Some c.close.new.self; tenure = c.self.inside.tenure })
+    c.in-Some.link c.close.new.self c.close.result
+    c.in-Some.is c.close.ensures.closed refl
+    )

@@ -1,0 +1,279 @@
+//! A worker's connection, whose calls all end in time.
+
+ghost use Rattle.std.specs.Io.{WritesAtMost};
+
+use std::alloc::Global;
+use std::io;
+use std::io::{ErrorKind, Read, Write};
+use std::net::TcpStream;
+use std::sync::Arc;
+use std::sync::atomic::{AtomicBool, AtomicU64, Ordering};
+use std::time::{Clock, Duration, Instant};
+
+/// How long a login may take, in milliseconds.
+const LOGIN_MS: u64 = 10_000;
+
+/// How long a read waits, in milliseconds: so long an order may wait too while a command is open.
+const READ_MS: u64 = 20;
+
+/// How long a turn may read, in milliseconds, whatever comes: the reads since the last that met
+/// nothing, or since the last write.
+const TURN_MS: u64 = 50;
+
+/// How long the writes between two reads may take together, in milliseconds.
+const WRITE_MS: u64 = 5_000;
+
+/// How long they may take once the master ends, and how long one of them waits then, in
+/// milliseconds.
+const LAST_WRITE_MS: u64 = 100;
+
+/// How many reads in a row may meet nothing before a read fails.
+const MOST_READS: u32 = 1_000_000;
+
+/// How many writes in a row may meet nothing before one fails.
+const MOST_WRITES: u32 = 100;
+
+/// A stream whose calls can be bounded in time.
+pub trait Timed {
+    /// From now on a read waits for no longer than `read`, a write for no longer than `write`, and
+    /// a short write leaves at once.
+    fn bound(&mut self, read: Duration, write: Duration) -> io::Result<()>;
+}
+
+impl Timed for TcpStream {
+    fn bound(&mut self, read: Duration, write: Duration) -> io::Result<()> {
+        self.set_nodelay(true)?;
+        self.set_read_timeout(Some(read))?;
+        self.set_write_timeout(Some(write))
+    }
+}
+
+/// A worker's connection. Nobody waits for its worker for long:
+///
+/// - Until it is let in, a read that met nothing is made again, until the time for a login is over
+///   or the master ends.
+/// - Then a read waits for a short while alone. After the time of a turn it says that nothing came,
+///   whatever comes: what was read stays with who reads, and the rest is read by the next turn.
+/// - A write fails where the worker reads too slowly. Once the master ends it has a tenth of a
+///   second.
+/// - Once the worker is given up, each call fails.
+#[derive(Drop)]
+pub struct WorkerStream<S, R> {
+    stream: S,
+    rt: R,
+    /// When the time for its login is over. Where the clock failed it is over at once.
+    login_ends: Option<Instant>,
+    is_in: AtomicBool,
+    /// How many reads gave something.
+    heard: AtomicU64,
+    is_given_up: AtomicBool,
+    /// Set once the master ends.
+    is_over: Arc<AtomicBool, Global>,
+    /// Whether its writes are bounded as those of a master that ends.
+    is_bound_at_end: bool,
+    /// When the turn's first read was made.
+    turn_began: Option<Instant>,
+    /// How long its writes have taken since its last read.
+    spent: Duration,
+}
+
+// The error of a stream for which nobody waits.
+fn aborted() -> io::Error {
+    io::Error::from(ErrorKind::ConnectionAborted)
+}
+
+// Whether a call that failed so met nothing: no bytes, or no room for them.
+fn meets_nothing(kind: ErrorKind) -> bool {
+    matches!(kind, ErrorKind::WouldBlock | ErrorKind::TimedOut)
+}
+
+impl<S, R: Clock> WorkerStream<S, R> {
+    /// A connection whose time for the login begins. It ends with what sets the flag.
+    pub fn new(rt: R, stream: S, is_over: Arc<AtomicBool, Global>) -> WorkerStream<S, R> {
+        let login_ends = match Instant::now(&rt) {
+            Ok(now) => now.checked_add(Duration::from_millis(LOGIN_MS)),
+            Err(_) => None,
+        };
+        WorkerStream {
+            stream,
+            rt,
+            login_ends,
+            is_in: AtomicBool::new(false),
+            heard: AtomicU64::new(0),
+            is_given_up: AtomicBool::new(false),
+            is_over,
+            is_bound_at_end: false,
+            turn_began: None,
+            spent: Duration::from_secs(0),
+        }
+    }
+
+    /// The worker has logged in: the time for that no longer counts.
+    pub(crate) fn let_in(&self) {
+        self.is_in.store(true, Ordering::SeqCst);
+    }
+
+    /// A count that grows with what comes from the worker.
+    pub(crate) fn heard(&self) -> u64 {
+        self.heard.load(Ordering::SeqCst)
+    }
+
+    /// The worker is taken for dead.
+    pub(crate) fn give_up(&self) {
+        self.is_given_up.store(true, Ordering::SeqCst);
+    }
+
+    fn is_in(&self) -> bool {
+        self.is_in.load(Ordering::SeqCst)
+    }
+
+    fn is_over(&self) -> bool {
+        self.is_over.load(Ordering::SeqCst)
+    }
+
+    /// Whether nothing is read any more. A worker that is in may still be told that the master
+    /// ends.
+    fn is_ended(&self) -> bool {
+        self.is_given_up.load(Ordering::SeqCst) || !self.is_in() && self.is_over()
+    }
+
+    /// Whether so much time has passed since then. Where the clock fails it has.
+    fn has_passed(&self, began: &Instant, most: Duration) -> bool {
+        match began.elapsed(&self.rt) {
+            Ok(passed) => passed >= most,
+            Err(_) => true,
+        }
+    }
+
+    /// Whether it isn't in, and its time is over.
+    fn is_late(&self) -> bool {
+        match (Instant::now(&self.rt), &self.login_ends) {
+            (Ok(now), Some(until)) => now >= *until,
+            _ => true,
+        }
+    }
+
+    /// Whether the turn has read for as long as it may. Its first read begins it.
+    fn is_turn_over(&mut self) -> bool {
+        match &self.turn_began {
+            Some(began) => self.has_passed(began, Duration::from_millis(TURN_MS)),
+            None => {
+                self.turn_began = Instant::now(&self.rt).ok();
+                false
+            }
+        }
+    }
+
+    /// Whether a read is made no more, since its time is over.
+    fn is_read_over(&mut self) -> bool {
+        if self.is_in() {
+            self.is_turn_over()
+        } else {
+            self.is_late()
+        }
+    }
+
+    /// Whether a read that failed so is made again. A read that may time out is interrupted by any
+    /// signal, also one that is ignored, as that of a child's end.
+    fn reads_again(&self, kind: ErrorKind) -> bool {
+        kind == ErrorKind::Interrupted || meets_nothing(kind) && !self.is_in()
+    }
+
+    /// How long the writes between two reads may take.
+    fn write_time(&self) -> Duration {
+        Duration::from_millis(if self.is_over() {
+            LAST_WRITE_MS
+        } else {
+            WRITE_MS
+        })
+    }
+}
+
+impl<S: Timed, R: Clock> WorkerStream<S, R> {
+    /// Bounds what one call waits for.
+    pub(crate) fn bound_calls(&mut self) -> io::Result<()> {
+        self.bound(WRITE_MS)
+    }
+
+    /// Bounds a write of a master that ends.
+    fn bound_at_end(&mut self) -> io::Result<()> {
+        if self.is_bound_at_end || !self.is_over() {
+            return Ok(());
+        }
+        self.is_bound_at_end = true;
+        self.bound(LAST_WRITE_MS)
+    }
+
+    fn bound(&mut self, write_ms: u64) -> io::Result<()> {
+        let write = Duration::from_millis(write_ms);
+        self.stream.bound(Duration::from_millis(READ_MS), write)
+    }
+}
+
+impl<S: Write, R: Clock> WorkerStream<S, R> {
+    /// Writes, and counts how long it took. Where the clock fails no time is left.
+    fn write_once(&mut self, buf: &[u8]) -> io::Result<usize>
+        ensures { WritesAtMost result buf.now }
+    {
+        let began = Instant::now(&self.rt);
+        let answer = self.stream.write(buf);
+        let took = match began {
+            Ok(began) => began.elapsed(&self.rt),
+            Err(error) => Err(error),
+        };
+        self.spent = match took {
+            Ok(took) => self.spent.saturating_add(took),
+            Err(_) => Duration::from_millis(WRITE_MS),
+        };
+        answer
+    }
+}
+
+impl<S: Read, R: Clock> Read for WorkerStream<S, R> {
+    fn read(&mut self, buf: &mut [u8]) -> io::Result<usize> {
+        self.spent = Duration::from_secs(0);
+        for _ in 0..MOST_READS {
+            if self.is_ended() {
+                return Err(aborted());
+            }
+            if self.is_read_over() {
+                break;
+            }
+            match self.stream.read(buf) {
+                Ok(count) => {
+                    self.heard.fetch_add(1, Ordering::SeqCst);
+                    return Ok(count);
+                }
+                Err(error) if self.reads_again(error.kind()) => {}
+                Err(error) => {
+                    self.turn_began = None;
+                    return Err(error);
+                }
+            }
+        }
+        self.turn_began = None;
+        Err(io::Error::from(ErrorKind::TimedOut))
+    }
+}
+
+impl<S: Write + Timed, R: Clock> Write for WorkerStream<S, R> {
+    fn write(&mut self, buf: &[u8]) -> io::Result<usize> {
+        self.turn_began = None;
+        self.bound_at_end()?;
+        for _ in 0..MOST_WRITES {
+            if self.is_given_up.load(Ordering::SeqCst) || self.spent >= self.write_time() {
+                break;
+            }
+            match self.write_once(buf) {
+                Err(error)
+                    if error.kind() == ErrorKind::Interrupted || meets_nothing(error.kind()) => {}
+                answer => return answer,
+            }
+        }
+        Err(aborted())
+    }
+
+    fn flush(&mut self) -> io::Result<()> {
+        self.stream.flush()
+    }
+}
