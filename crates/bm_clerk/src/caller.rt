@@ -11,8 +11,8 @@ use std::time::{Clock, Duration, Instant};
 /// How many reads in a row may meet nothing before a read fails.
 const MOST_READS: u32 = 1_000_000;
 
-/// How long a login may take, in seconds.
-const LOGIN_TIME: u64 = 10;
+/// How many seconds a login may take.
+pub const LOGIN_SECONDS: u64 = 10;
 
 /// A stream whose calls can be bounded in time.
 pub trait Timed {
@@ -66,7 +66,7 @@ impl<S, R: Clock> Caller<S, R> {
             is_in: Arc::try_clone(&is_in)?,
         };
         let until = match Instant::now(&rt) {
-            Ok(now) => now.checked_add(Duration::from_secs(LOGIN_TIME)),
+            Ok(now) => now.checked_add(Duration::from_secs(LOGIN_SECONDS)),
             Err(_) => None,
         };
         let caller = Caller {

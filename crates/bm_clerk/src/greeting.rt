@@ -5,6 +5,7 @@ ghost use Rattle.bm_clerk.specs.Greeting.{IsLoggedIn};
 
 use crate::caller::{Caller, Timed};
 use crate::door::{Door, Order};
+use bm_lines::Text;
 use bm_link::{LinkFault, MasterLink, User};
 use bumpalo::Bump;
 use std::alloc::Global;
@@ -19,6 +20,9 @@ const READ_TIME: u64 = 20;
 /// How long a write waits for a worker that doesn't read, in milliseconds.
 const WRITE_TIME: u64 = 5_000;
 
+/// How many bytes the name of a refused login may have that is told.
+const MOST_NAME: usize = 256;
+
 /// A worker that has logged in: the place of its user, and its link.
 #[derive(Drop)]
 struct Visitor<S> {
@@ -26,11 +30,22 @@ struct Visitor<S> {
     link: MasterLink<S>,
 }
 
-/// Agrees on a WebSocket over the stream, and reads the login.
+/// The name of the login that the link refused as one of no user, where it is short enough to be
+/// told.
+fn stranger<S: Read + Write + Drop>(alloc: Global, link: &MasterLink<S>) -> Option<Text> {
+    match link.refused() {
+        Some(name) if name.len() <= MOST_NAME => Text::from_str(alloc, name).ok(),
+        _ => None,
+    }
+}
+
+/// Agrees on a WebSocket over the stream, and reads the login. `refused` becomes the name of one
+/// that is refused as one of no user.
 fn admit<S: Read + Write + Drop>(
     alloc: Global,
     stream: S,
     users: &[User],
+    refused: &mut Option<Text>,
 ) -> Result<Visitor<S>, LinkFault>
     ensures { IfOk result (λ v. IsLoggedIn S.remaining S.contents users.now v.place v.link) }
 {
@@ -41,7 +56,10 @@ fn admit<S: Read + Write + Drop>(
     let mut arena = Bump::new(alloc);
     match link.login(alloc, &mut arena, users) {
         Ok(place) => Ok(Visitor { place, link }),
-        Err(fault) => Err(fault),
+        Err(fault) => {
+            *refused = stranger(alloc, &link);
+            Err(fault)
+        }
     }
 }
 
@@ -61,6 +79,7 @@ fn hand<S: Drop, R: Wait>(rt: &R, door: &Door<S>, visitor: Visitor<S>) -> bool
 
 /// Greets a worker on a new connection, within some 10 seconds, and hands its link through its
 /// lane's door. The result is the number of the lane, which is the place of the worker's user.
+/// `refused` becomes the name of a login that is refused as one of no user, where it isn't long.
 ///
 /// # Errors
 ///
@@ -72,6 +91,7 @@ pub fn greet<S, R>(
     stream: S,
     users: &[User],
     doors: &[Door<Caller<S, R>>],
+    refused: &mut Option<Text>,
 ) -> Result<usize, LinkFault>
 where
     S: Read + Write + Timed + Drop,
@@ -88,7 +108,7 @@ where
     let Ok((caller, latch)) = Caller::new(*rt, alloc, stream) else {
         return Err(LinkFault::Mem);
     };
-    let visitor = match admit(alloc, caller, users) {
+    let visitor = match admit(alloc, caller, users, refused) {
         Ok(visitor) => visitor,
         Err(fault) => return Err(fault),
     };

@@ -14,15 +14,17 @@ mod desk;
 mod door;
 mod greeting;
 mod guests;
+mod heard;
 mod notice;
 mod port;
 
 pub use bell::Bell;
-pub use caller::{Caller, Timed};
+pub use caller::{Caller, LOGIN_SECONDS, Timed};
 pub use clerk::{Tell, serve_lane};
 pub use desk::Desk;
 pub use door::{Door, Inbox, Order, Told, open_door};
 pub use greeting::greet;
 pub use guests::{Guests, MOST_GUESTS};
+pub use heard::ByteCount;
 pub use notice::Notice;
 pub use port::{LanePort, Watch};

@@ -5,6 +5,9 @@ pub mod Post
 pub mod Cancel
 pub mod Exit
 pub mod Pace
+pub mod Deadline
+pub mod RateLimit
+pub mod StepMeter
 pub mod OneLine
 pub mod Reasons
 pub mod Report
