@@ -51,6 +51,10 @@ pub struct StepPlan {
     pub flunk_on_failure: bool,
     /// The step runs although an earlier one halted the build (`alwaysRun`).
     pub always_run: bool,
+    /// The step is stopped once its updates have carried more bytes (`max_bytes`); 0 is no limit.
+    pub max_bytes: u32,
+    /// The step is stopped once so many ticks have passed (`timeout_ticks`); 0 is no limit.
+    pub timeout_ticks: u32,
 }
 
 impl Copied for StepPlan {
@@ -61,6 +65,8 @@ impl Copied for StepPlan {
             halt_on_failure: self.halt_on_failure,
             flunk_on_failure: self.flunk_on_failure,
             always_run: self.always_run,
+            max_bytes: self.max_bytes,
+            timeout_ticks: self.timeout_ticks,
         })
     }
 }

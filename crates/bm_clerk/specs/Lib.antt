@@ -4,3 +4,4 @@ pub mod Guests
 pub mod Notices
 pub mod Greeting
 pub mod Ports
+pub mod Heard

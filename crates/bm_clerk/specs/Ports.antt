@@ -1,7 +1,8 @@
 -- What a build's port to a lane is.
-use Rattle.std.specs.Prelude.{◌≡◌, ℕ, Bool, true, false, List, [], ◌∷◌, ◌++◌, if◌then◌else◌, Option, Some, None, Result, Ok, Err}
+use Rattle.std.specs.Prelude.{◌≡◌, ℕ, Bool, true, false, not, ◌&&◌, List, [], ◌∷◌, ◌++◌, if◌then◌else◌, Option, Some, None, Result, Ok, Err}
 use Rattle.bm_session.specs.declared.results.Results.{Results}
 use Rattle.bm_session.specs.declared.results.Results.TheVariants.{Retry}
+use Rattle.bm_rules.specs.declared.reasons.StartRefusal.{StartRefusal}
 use Rattle.bm_store.specs.declared.chunk.LogState.{LogState}
 use Rattle.bm_store.specs.declared.chunk.ViewRefusal.{ViewRefusal}
 use Rattle.bm_runner.specs.declared.port.Polled.{Polled}
@@ -37,12 +38,16 @@ abbrev pub is_lost : Results → Bool
 is_lost Retry = true
 is_lost outcome = false
 
+-- a step isn't started, since its build was cancelled before
+abbrev pub is_left_out : Bool → Bool → Bool
+is_left_out cancelled always_run = cancelled && not always_run
+
 -- a command was started and has its entry; or none was
-abbrev pub Begins : Ordering → Option ℕ → Ordering → Type 0
-Begins old (Some k) new =
+abbrev pub Begins : Ordering → Result ℕ StartRefusal → Ordering → Type 0
+Begins old (Ok k) new =
     (new.told ≡ old.told ++ first_entry k ∷ []) × (new.refused ≡ old.refused)
     × (new.viewer ≡ old.viewer)
-Begins old None new = new ≡ old
+Begins old (Err why) new = new ≡ old
 
 -- the viewer looks for the state of the log of command k
 abbrev pub Looks : Ordering → ℕ → Polled → Ordering → Type 0

@@ -6,6 +6,7 @@ ghost use Rattle.bm_clerk.specs.Notices.{loss_of};
 use crate::bell::Bell;
 use crate::desk::{Desk, Rest};
 use crate::door::{Inbox, Next, Order, Signal, Told};
+use crate::heard::{ByteCount, Heard};
 use crate::notice::{Notice, loss_of, notice_of};
 use crate::stream::{Timed, WorkerStream};
 use bm_board::Words;
@@ -57,6 +58,8 @@ struct Clerk<'a, Y: Yard, S, T, R: Wait + Clock + Drop> {
     tell: T,
     /// How many commands were started whose end no build has seen.
     open: u64,
+    /// What the updates of these commands carried.
+    heard: Heard,
     /// Whether the last turn heard something.
     is_lively: bool,
     /// Why a cut lane is given up.
@@ -102,6 +105,7 @@ where
         place: inbox.lane() as usize,
         tell,
         open: 0,
+        heard: Heard::new(alloc),
         is_lively: false,
         why: LossCause::Expired,
     };
@@ -185,9 +189,12 @@ where
     fn obeys(&mut self, order: Order<WorkerStream<S, R>>) {
         match order {
             Order::Attach(link) => self.attach(link),
-            Order::Start(words, answer) => self.start(&words, &answer),
+            Order::Start(words, bytes, answer) => self.start(&words, bytes, &answer),
             Order::Interrupt(command, answer) => self.interrupt(command, &answer),
-            Order::Seen => self.open = self.open.saturating_sub(1),
+            Order::Seen(command) => {
+                self.open = self.open.saturating_sub(1);
+                self.heard.end(command);
+            }
             Order::Settle(answer) => {
                 let _ = answer.send(self.rt, ());
             }
@@ -220,7 +227,7 @@ where
 
     /// What is to be done about the worker now.
     fn care(&mut self) -> Care {
-        let (heard, now) = (self.heard(), self.now());
+        let (heard, now) = (self.came(), self.now());
         match self.desk.standing() {
             Standing::Up => self.timer.look(heard, now),
             Standing::Cut | Standing::Down => Care::Nothing,
@@ -277,7 +284,7 @@ where
             Ok(attached) => {
                 self.bell.ring(self.place);
                 self.why = LossCause::Expired;
-                self.timer = PeerTimer::new(self.heard(), self.now());
+                self.timer = PeerTimer::new(self.came(), self.now());
                 if attached == Attached::Resumed {
                     self.tell.tell(Notice::Resumed);
                 } else {
@@ -296,18 +303,26 @@ where
     }
 
     /// A count of what came from the worker by the lane's link.
-    fn heard(&self) -> u64 {
+    fn came(&self) -> u64 {
         match self.desk.stream() {
             Some(stream) => stream.heard(),
             None => 0,
         }
     }
 
-    fn start(&mut self, words: &Words, answer: &Sender<Told, Global>) {
+    fn start(&mut self, words: &Words, bytes: ByteCount, answer: &Sender<Told, Global>) {
+        if self.heard.reserve().is_err() {
+            let _ = answer.send(self.rt, Told::Later);
+            return;
+        }
         let before = self.desk.standing();
         let told = self.desk.start(self.rt, self.alloc, words.as_slice());
         match told {
-            Told::Started(_) => self.open = self.open.saturating_add(1),
+            Told::Started(command) => {
+                self.open = self.open.saturating_add(1);
+                // There is room for it.
+                let _ = self.heard.begin(command, bytes);
+            }
             Told::Full => self.tell.tell(Notice::Filled),
             Told::Interrupted | Told::Later | Told::Refused => {}
         }
@@ -326,12 +341,18 @@ where
     fn turn(&mut self) {
         let before = self.desk.standing();
         let took = self.bell.took(self.place);
-        let heard = self.heard();
+        let heard = self.came();
         self.is_lively = true;
         match self.desk.turn(self.rt, self.alloc, &mut self.arena) {
-            Ok(Turn::Quiet) => self.is_lively = heard != self.heard(),
+            Ok(Turn::Quiet) => self.is_lively = heard != self.came(),
             Ok(Turn::Busy) => self.bell.wait_for_place(self.place, took),
-            Ok(Turn::Heard | Turn::Noted | Turn::Dropped) => self.bell.ring(self.place),
+            Ok(Turn::Heard) => {
+                if let Some(event) = self.desk.last_event() {
+                    self.heard.note(event);
+                }
+                self.bell.ring(self.place);
+            }
+            Ok(Turn::Noted | Turn::Dropped) => self.bell.ring(self.place),
             Err(fault) => self.note(before, loss_of(fault)),
         }
         if self.arena.allocated_bytes() > MOST_KEPT_BYTES {

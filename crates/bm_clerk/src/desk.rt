@@ -16,6 +16,7 @@ use bm_lane::{HearRefusal, ReaderEnd, Yard};
 use bm_lines::Text;
 use bm_link::{Ask, Attached, Carry, LinkFault, MasterLink, Turn};
 use bm_rules::{Standing, Tenure};
+use bm_session::Event;
 use bumpalo::Bump;
 use std::alloc::Global;
 use std::io::{Read, Write};
@@ -183,6 +184,11 @@ impl<Y: Yard, S> Desk<Y, S> {
         ensures { result ≡ standing_of self.now.lane.trace }
     {
         standing_of(&self.reader)
+    }
+
+    /// The last event of the lane, if it had one.
+    pub(crate) fn last_event(&self) -> Option<&Event> {
+        self.reader.trace().last()
     }
 
     /// What is waited for. `is_lively`: the worker has something to say.

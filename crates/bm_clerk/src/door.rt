@@ -2,6 +2,7 @@
 
 ghost use Rattle.std.specs.Prelude.{◌≡◌, IfOk, IfSome};
 
+use crate::heard::ByteCount;
 use bm_board::Words;
 use bm_link::MasterLink;
 use crossbeam_channel::{Receiver, RecvTimeoutError, SendTimeoutError, Sender, bounded};
@@ -25,12 +26,12 @@ const ATTACH_MS: u64 = 1_000;
 pub enum Order<S> {
     /// A link of the lane's worker has logged in.
     Attach(MasterLink<S>),
-    /// Start a command with these words, and answer what came of it.
-    Start(Words, Sender<Told, Global>),
+    /// Start a command with these words, count what its updates carry, and answer what came of it.
+    Start(Words, ByteCount, Sender<Told, Global>),
     /// Interrupt this command, and answer what came of it.
     Interrupt(u64, Sender<Told, Global>),
-    /// The end of a command that was started was seen by its build.
-    Seen,
+    /// The build of this command, which was started, asks for it no more.
+    Seen(u64),
     /// Answer once all that happened to the lane so far was told.
     Settle(Sender<(), Global>),
     /// Look at the signals.

@@ -5,6 +5,7 @@ ghost use Rattle.bm_clerk.specs.Greeting.{IsLoggedIn};
 
 use crate::door::{Door, Handed};
 use crate::stream::{Timed, WorkerStream};
+use bm_lines::Text;
 use bm_link::{LinkFault, MasterLink, User};
 use bumpalo::Bump;
 use std::alloc::Global;
@@ -16,6 +17,9 @@ use std::time::Clock;
 /// that all connections without a login may take it at once.
 const MOST_LOGIN_BYTES: usize = 2 * 1_048_576;
 
+/// How many bytes the name of a refused login may have that is told.
+const MOST_NAME: usize = 256;
+
 /// A worker that has logged in: the place of its user, and its link.
 #[derive(Drop)]
 struct Visitor<S> {
@@ -23,11 +27,22 @@ struct Visitor<S> {
     link: MasterLink<S>,
 }
 
-/// Agrees on a WebSocket over the stream, and reads the login.
+/// The name of the login that the link refused as one of no user, where it is short enough to be
+/// told.
+fn stranger<S: Read + Write + Drop>(alloc: Global, link: &MasterLink<S>) -> Option<Text> {
+    match link.refused() {
+        Some(name) if name.len() <= MOST_NAME => Text::from_str(alloc, name).ok(),
+        _ => None,
+    }
+}
+
+/// Agrees on a WebSocket over the stream, and reads the login. `refused` becomes the name of one
+/// that is refused as one of no user.
 fn admit<S: Read + Write + Drop>(
     alloc: Global,
     stream: S,
     users: &[User],
+    refused: &mut Option<Text>,
 ) -> Result<Visitor<S>, LinkFault>
     ensures { IfOk result (λ v. IsLoggedIn S.remaining S.contents users.now v.place v.link) }
 {
@@ -39,7 +54,10 @@ fn admit<S: Read + Write + Drop>(
     arena.set_allocation_limit(Some(MOST_LOGIN_BYTES));
     match link.login(alloc, &mut arena, users) {
         Ok(place) => Ok(Visitor { place, link }),
-        Err(fault) => Err(fault),
+        Err(fault) => {
+            *refused = stranger(alloc, &link);
+            Err(fault)
+        }
     }
 }
 
@@ -76,6 +94,7 @@ fn hand<S: Read + Write + Drop, R: Wait + Clock>(
 
 /// Greets a worker on a new connection, within some 10 seconds, and hands its link through its
 /// lane's door. The result is the number of the lane, which is the place of the worker's user.
+/// `refused` becomes the name of a login that is refused as one of no user, where it isn't long.
 ///
 /// # Errors
 ///
@@ -88,6 +107,7 @@ pub fn greet<S, R>(
     stream: WorkerStream<S, R>,
     users: &[User],
     doors: &[Door<WorkerStream<S, R>>],
+    refused: &mut Option<Text>,
 ) -> Result<usize, LinkFault>
 where
     S: Read + Write + Timed + Drop,
@@ -97,7 +117,7 @@ where
     if stream.bound_calls().is_err() {
         return Err(LinkFault::Stream);
     }
-    let visitor = match admit(alloc, stream, users) {
+    let visitor = match admit(alloc, stream, users, refused) {
         Ok(visitor) => visitor,
         Err(fault) => return Err(fault),
     };

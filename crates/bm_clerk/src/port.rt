@@ -2,20 +2,22 @@
 //! viewer of its own.
 
 ghost use Rattle.std.specs.Prelude.{◌≡◌, false};
-ghost use Rattle.bm_clerk.specs.Ports.{Begins, Looks, is_lost, polled};
+ghost use Rattle.bm_clerk.specs.Ports.{Begins, Looks, is_left_out, is_lost, polled};
 
 use crate::door::{Door, Order, Told};
+use crate::heard::ByteCount;
 use bm_board::{StepPlan, Words};
 use bm_lane::{Viewer, Yard};
 use bm_lines::STDIO;
+use bm_rules::{StartRefusal, StepLimit, StepMeter};
 use bm_runner::{Entries, Polled, Port};
 use bm_session::Results;
 use bm_store::{LogState, ViewRefusal};
 use crossbeam_channel::bounded;
 use std::alloc::Global;
 use std::marker::Model;
-use std::sync::Wait;
-use std::sync::atomic::{AtomicBool, Ordering};
+use std::sync::atomic::{AtomicBool, AtomicU64, Ordering};
+use std::sync::{Arc, Wait};
 use std::thread;
 use std::time::{Clock, Duration};
 
@@ -27,9 +29,18 @@ pub trait Watch {
     /// The step was started as this command of its lane.
     fn started(&mut self, step: &StepPlan, command: u64);
 
+    /// The command has reached a limit of its step, and is interrupted.
+    fn stopped(&mut self, command: u64, limit: StepLimit);
+
+    /// The step was not started. Where its build was cancelled before, that cancel is carried out.
+    fn refused(&mut self, step: &StepPlan, why: StartRefusal);
+
     /// The command ended so.
     fn ended(&mut self, command: u64, outcome: Results);
 }
+
+/// The number of no command: that of a step whose build was cancelled before it was started.
+const NO_COMMAND: u64 = u64::MAX;
 
 /// The port of a build. It asks how its command does once a tick, and waits with a start or an
 /// interruption until the lane is up or was given up. It says that a command ended by a loss once
@@ -42,6 +53,12 @@ pub struct LanePort<'a, Y: Yard, S, R, W> {
     viewer: Viewer<Y>,
     /// Set once the build is cancelled.
     cancelled: &'a AtomicBool,
+    /// Whether a cancel came before a step that always runs: it waits for the next one that doesn't.
+    is_held: bool,
+    /// The limits of the last step that was started.
+    meter: StepMeter,
+    /// What the updates of its command carried.
+    bytes: Option<ByteCount>,
     watch: W,
     entries: Entries,
     refused: bool,
@@ -74,6 +91,13 @@ fn polled(state: Result<LogState, ViewRefusal>, is_cancelled: bool) -> Polled
     }
 }
 
+/// Whether a step isn't started, since its build was cancelled before.
+fn is_left_out(is_cancelled: bool, always_run: bool) -> bool
+    ensures { result ≡ is_left_out is_cancelled always_run }
+{
+    is_cancelled && !always_run
+}
+
 /// Whether a command that ended so did by the loss of its lane.
 fn is_lost(outcome: Results) -> bool
     ensures { result ≡ is_lost outcome }
@@ -100,6 +124,9 @@ impl<'a, Y: Yard, S: Drop, R: Wait + Clock, W: Watch + Drop> LanePort<'a, Y, S, 
             door,
             viewer,
             cancelled,
+            is_held: false,
+            meter: StepMeter::new(0, 0),
+            bytes: None,
             watch,
             entries: Entries::new(alloc),
             refused: false,
@@ -120,21 +147,30 @@ impl<'a, Y: Yard, S: Drop, R: Wait + Clock, W: Watch + Drop> Port for LanePort<'
     ghost refused = { λ p. p.refused };
 
     fn start(&mut self, step: &StepPlan) -> Option<u64> {
-        match self.begin(step) {
-            Some(command) => Some(command),
-            None => {
-                self.refused = true;
-                None
-            }
+        let why = match self.begin(step) {
+            Ok(command) => return Some(command),
+            Err(why) => why,
+        };
+        self.watch.refused(step, why);
+        if why == StartRefusal::Cancelled && self.entries.begin(NO_COMMAND).is_ok() {
+            return Some(NO_COMMAND);
         }
+        self.refused = true;
+        None
     }
 
     fn poll(&mut self, k: u64) -> Polled {
+        if k == NO_COMMAND {
+            let said = Polled::Ended(Results::Cancelled);
+            self.entries.note(k, said);
+            return said;
+        }
         thread::sleep(self.rt, Duration::from_millis(TICK));
-        let said = self.look(k);
+        let seen = self.look(k);
+        let said = self.limited(k, seen);
         self.entries.note(k, said);
         if let Polled::Ended(outcome) = said {
-            self.door.tell(self.rt, Order::Seen);
+            self.door.tell(self.rt, Order::Seen(k));
             if is_lost(outcome) {
                 settle(self.rt, self.alloc, &self.door);
             }
@@ -148,25 +184,23 @@ impl<'a, Y: Yard, S: Drop, R: Wait + Clock, W: Watch + Drop> Port for LanePort<'
     }
 }
 
-/// What the clerk answers to a start; `Refused` where it has left, or memory is wanting.
+/// What the clerk answers to a start; `Refused` where it has left. None where memory is wanting.
 fn try_start<S: Drop, R: Wait + Clock>(
     rt: &R,
     alloc: Global,
     door: &Door<S>,
     argv: &Words,
-) -> Told {
-    let Ok((answer, told)) = bounded(alloc, 1) else {
-        return Told::Refused;
-    };
-    let Ok(words) = argv.copy() else {
-        return Told::Refused;
-    };
-    if !door.tell(rt, Order::Start(words, answer)) {
-        return Told::Refused;
+    bytes: &ByteCount,
+) -> Option<Told> {
+    let (answer, told) = bounded(alloc, 1).ok()?;
+    let words = argv.copy().ok()?;
+    let bytes = Arc::try_clone(bytes).ok()?;
+    if !door.tell(rt, Order::Start(words, bytes, answer)) {
+        return Some(Told::Refused);
     }
     match door.answer(rt, &told) {
-        Some(told) => told,
-        None => Told::Refused,
+        Some(told) => Some(told),
+        None => Some(Told::Refused),
     }
 }
 
@@ -201,18 +235,30 @@ fn settle<S: Drop, R: Wait + Clock>(rt: &R, alloc: Global, door: &Door<S>) {
     }
 }
 
-/// Starts a command once the lane is up. None where it is given up, or refuses.
+/// Starts a step's command once the lane is up.
+///
+/// # Errors
+///
+/// `Lost` where the lane is given up, or refuses; `Cancelled` where the step doesn't always run and
+/// its build is cancelled while it waits. Nothing is started then.
 fn start<S: Drop, R: Wait + Clock>(
     rt: &R,
     alloc: Global,
     door: &Door<S>,
-    argv: &Words,
-) -> Option<u64> {
+    step: &StepPlan,
+    cancelled: &AtomicBool,
+    bytes: &ByteCount,
+) -> Result<u64, StartRefusal> {
     for _ in rt.forever() {
-        match try_start(rt, alloc, door, argv) {
-            Told::Started(command) => return Some(command),
-            Told::Later => thread::sleep(rt, Duration::from_millis(TICK)),
-            Told::Interrupted | Told::Refused | Told::Full => return None,
+        if is_left_out(cancelled.load(Ordering::SeqCst), step.always_run) {
+            return Err(StartRefusal::Cancelled);
+        }
+        match try_start(rt, alloc, door, &step.argv, bytes) {
+            Some(Told::Started(command)) => return Ok(command),
+            Some(Told::Later) => thread::sleep(rt, Duration::from_millis(TICK)),
+            Some(Told::Full) => return Err(StartRefusal::Full),
+            Some(Told::Interrupted | Told::Refused) => return Err(StartRefusal::Lost),
+            None => return Err(StartRefusal::Memory),
         }
     }
     unreachable!()
@@ -229,20 +275,40 @@ fn interrupt<S: Drop, R: Wait + Clock>(rt: &R, alloc: Global, door: &Door<S>, co
 }
 
 impl<'a, Y: Yard, S: Drop, R: Wait + Clock, W: Watch + Drop> LanePort<'a, Y, S, R, W> {
-    /// Starts the step's command, with room for its entry.
-    fn begin(&mut self, step: &StepPlan) -> Option<u64>
+    /// Starts the step's command, with room for its entry. A cancel ends one step: where this one
+    /// always runs, that is the next that doesn't.
+    ///
+    /// # Errors
+    ///
+    /// Why it isn't started; nothing has changed then.
+    fn begin(&mut self, step: &StepPlan) -> Result<u64, StartRefusal>
         ensures { Begins self.old result self.new }
     {
         if self.entries.reserve().is_err() {
-            return None;
+            return Err(StartRefusal::Memory);
         }
-        let command = start(self.rt, self.alloc, &self.door, &step.argv)?;
+        if is_left_out(self.is_held, step.always_run) {
+            return Err(StartRefusal::Cancelled);
+        }
+        let Ok(bytes) = Arc::new(self.alloc, AtomicU64::new(0)) else {
+            return Err(StartRefusal::Memory);
+        };
+        let (rt, alloc) = (self.rt, self.alloc);
+        let command = match start(rt, alloc, &self.door, step, self.cancelled, &bytes) {
+            Ok(command) => command,
+            Err(why) => return Err(why),
+        };
+        self.meter = StepMeter::new(step.max_bytes, step.timeout_ticks);
+        self.bytes = Some(bytes);
+        if step.always_run && self.cancelled.swap(false, Ordering::SeqCst) {
+            self.is_held = true;
+        }
         match self.entries.begin(command) {
             Ok(()) => {}
             Err(_) => unreachable!(),
         }
         self.watch.started(step, command);
-        Some(command)
+        Ok(command)
     }
 
     /// How the command does, by what the viewer sees.
@@ -251,5 +317,28 @@ impl<'a, Y: Yard, S: Drop, R: Wait + Clock, W: Watch + Drop> LanePort<'a, Y, S, 
     {
         let is_cancelled = self.cancelled.load(Ordering::SeqCst);
         polled(self.viewer.state(k, STDIO), is_cancelled)
+    }
+
+    /// What is to be said of a command that was seen so a tick later: where it has reached a limit
+    /// of its step it is interrupted, and its end is waited for, but not without an end.
+    fn limited(&mut self, k: u64, seen: Polled) -> Polled
+        ensures { self.new ≡ self.old }
+    {
+        if let Polled::Ended(outcome) = seen {
+            return Polled::Ended(self.meter.outcome(outcome));
+        }
+        let bytes = match &self.bytes {
+            Some(bytes) => bytes.load(Ordering::SeqCst),
+            None => 0,
+        };
+        if let Some(limit) = self.meter.tick(bytes) {
+            self.watch.stopped(k, limit);
+            interrupt(self.rt, self.alloc, &self.door, k);
+        }
+        if self.meter.is_given_up() {
+            Polled::Ended(Results::Exception)
+        } else {
+            seen
+        }
     }
 }

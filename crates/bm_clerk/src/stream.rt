@@ -11,7 +11,7 @@ use std::sync::atomic::{AtomicBool, AtomicU64, Ordering};
 use std::time::{Clock, Duration, Instant};
 
 /// How long a login may take, in milliseconds.
-const LOGIN_MS: u64 = 10_000;
+pub const LOGIN_MS: u64 = 10_000;
 
 /// How long a read waits, in milliseconds: so long an order may wait too while a command is open.
 const READ_MS: u64 = 20;

@@ -128,13 +128,17 @@ step_row before d =
     and_then (flag_at false keys.HaltOnFailure m) (λ halt.
     and_then (flag_at true keys.FlunkOnFailure m) (λ flunk.
     and_then (flag_at false keys.AlwaysRun m) (λ always.
+    and_then (number_at 0 0xffff_ffff 0x4000_0000 keys.MaxBytes m) (λ bytes.
+    and_then (number_at 0 most 0 keys.TimeoutTicks m) (λ ticks.
     Ok (record {
       name = name;
       argv = argv;
       halt_on_failure = halt;
       flunk_on_failure = flunk;
       always_run = always;
-    })))))))
+      max_bytes = bytes;
+      timeout_ticks = ticks;
+    })))))))))
 
 -- the locks that a build holds, and its steps
 abbrev pub uses_of : List LockConfig → Members → Result (List LockUse) Key
@@ -163,11 +167,21 @@ abbrev pub builds_of : List WorkerConfig → List LockConfig → Members → Res
 builds_of workers locks m =
     and_then (few_tables 10000 keys.Build m) (rows (build_row workers locks))
 
+-- a text that isn't empty
+abbrev pub some_text : Data → Option (Option (List ℕ))
+some_text d =
+    option_and_then (λ text. if length text == 0 then None else Some (Some text)) (as_str d)
+
+-- the address that programs of workers are given, where the table has one
+abbrev pub told_address : Members → Result (Option (List ℕ)) Key
+told_address m = meant_or keys.Address None some_text (find keys.Address m)
+
 -- the configuration of a table, with the addresses that its texts write
 abbrev pub config_of : Option SocketAddr → Option SocketAddr → Members → Result Config Key
 config_of listen web m =
     and_then (or_fault keys.Listen listen) (λ listen.
     and_then (or_fault keys.Web web) (λ web.
+    and_then (told_address m) (λ address.
     and_then (number_at 1 65536 64 keys.Capacity m) (λ capacity.
     and_then (number_at 1 64 2 keys.Writers m) (λ writers.
     and_then (workers_of m) (λ workers.
@@ -176,12 +190,13 @@ config_of listen web m =
     Ok (record {
       listen = listen;
       web = web;
+      address = address;
       capacity = capacity;
       writers = writers;
       workers = workers;
       locks = locks;
       builds = builds;
-    }))))))))
+    })))))))))
 
 -- a text says this: it is TOML, and its table makes the configuration or has the key at fault
 pub record Says (text : List ℕ) (said : Result Config Key) : Type 0 where

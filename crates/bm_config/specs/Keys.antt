@@ -1,12 +1,13 @@
 -- The names of the keys of a configuration.
 use Rattle.std.specs.Prelude.{ℕ, List, codes}
 use Rattle.bm_config.specs.declared.keys.Key.{Key}
-use Rattle.bm_config.specs.declared.keys.Key.TheVariants.{Listen, Web, Capacity, Writers, Worker, Name, Password, Slots, Latent, IdleTicks, ResumeTicks, Lock, Max, Build, Locks, Mode, Step, Command, HaltOnFailure, FlunkOnFailure, AlwaysRun}
+use Rattle.bm_config.specs.declared.keys.Key.TheVariants.{Listen, Web, Address, Capacity, Writers, Worker, Name, Password, Slots, Latent, IdleTicks, ResumeTicks, Lock, Max, Build, Locks, Mode, Step, Command, HaltOnFailure, FlunkOnFailure, AlwaysRun, MaxBytes, TimeoutTicks}
 
 -- a key's name
 abbrev pub name_of : Key → List ℕ
 name_of Listen = codes "listen"
 name_of Web = codes "web"
+name_of Address = codes "address"
 name_of Capacity = codes "capacity"
 name_of Writers = codes "writers"
 name_of Worker = codes "worker"
@@ -26,3 +27,5 @@ name_of Command = codes "command"
 name_of HaltOnFailure = codes "haltOnFailure"
 name_of FlunkOnFailure = codes "flunkOnFailure"
 name_of AlwaysRun = codes "alwaysRun"
+name_of MaxBytes = codes "max_bytes"
+name_of TimeoutTicks = codes "timeout_ticks"

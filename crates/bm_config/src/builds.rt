@@ -9,11 +9,11 @@ ghost use Rattle.bm_config.specs.Config.{named, free_lock, mode_of, worker_named
 
 use crate::config::{LockConfig, WorkerConfig};
 use crate::fault::Fault;
-use crate::fields::{flag, text};
+use crate::fields::{Limits, flag, number, text};
 use crate::keys::Key;
 use crate::rows::{Row, all_tables, few_tables, read_rows, table_of};
 use crate::words::command;
-use crate::workers::{lock_named, worker_named};
+use crate::workers::{MOST, lock_named, worker_named};
 use bm_board::{Build, Listed, LockUse, LockUses, Mode, StepPlan, StepPlans};
 use bm_lines::Text;
 use std::alloc::Global;
@@ -21,6 +21,18 @@ use toml::{Table, Value};
 
 /// The most builds of a configuration.
 const MOST_BUILDS: usize = 10_000;
+
+const MAX_BYTES: Limits = Limits {
+    low: 0,
+    high: 0xffff_ffff,
+    missing: 1 << 30,
+};
+
+const TIMEOUT_TICKS: Limits = Limits {
+    low: 0,
+    high: MOST,
+    missing: 0,
+};
 
 /// The workers and the locks that builds name.
 #[derive(Drop)]
@@ -87,12 +99,16 @@ impl Row<()> for StepPlan {
         let halt_on_failure = flag(table, Key::HaltOnFailure, false)?;
         let flunk_on_failure = flag(table, Key::FlunkOnFailure, true)?;
         let always_run = flag(table, Key::AlwaysRun, false)?;
+        let max_bytes = number(table, Key::MaxBytes, MAX_BYTES)?;
+        let timeout_ticks = number(table, Key::TimeoutTicks, TIMEOUT_TICKS)?;
         Ok(StepPlan {
             name: Text::from_str(alloc, name)?,
             argv,
             halt_on_failure,
             flunk_on_failure,
             always_run,
+            max_bytes,
+            timeout_ticks,
         })
     }
 }

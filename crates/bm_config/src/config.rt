@@ -11,6 +11,8 @@ pub struct Config {
     pub listen: SocketAddr,
     /// Where it serves logs.
     pub web: SocketAddr,
+    /// The address that programs of workers are given, where it isn't the one it listens at.
+    pub address: Option<Text>,
     /// How many items wait at the most between a worker and its logs.
     pub capacity: u32,
     /// How many threads bring items to the logs.

@@ -8,6 +8,7 @@ ghost use Rattle.bm_config.specs.Keys.{name_of};
 pub enum Key {
     Listen,
     Web,
+    Address,
     Capacity,
     Writers,
     Worker,
@@ -27,6 +28,8 @@ pub enum Key {
     HaltOnFailure,
     FlunkOnFailure,
     AlwaysRun,
+    MaxBytes,
+    TimeoutTicks,
 }
 
 impl Key {
@@ -37,6 +40,7 @@ impl Key {
         match self {
             Key::Listen => "listen",
             Key::Web => "web",
+            Key::Address => "address",
             Key::Capacity => "capacity",
             Key::Writers => "writers",
             Key::Worker => "worker",
@@ -56,6 +60,8 @@ impl Key {
             Key::HaltOnFailure => "haltOnFailure",
             Key::FlunkOnFailure => "flunkOnFailure",
             Key::AlwaysRun => "alwaysRun",
+            Key::MaxBytes => "max_bytes",
+            Key::TimeoutTicks => "timeout_ticks",
         }
     }
 }

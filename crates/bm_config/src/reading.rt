@@ -3,14 +3,15 @@
 ghost use Rattle.std.specs.Prelude.{◌≡◌, MatchResult, Ok};
 ghost use Rattle.toml.specs.View.{table_view};
 ghost use Rattle.bm_config.specs.Rows.{Gives};
-ghost use Rattle.bm_config.specs.Config.{Says, IsFaultOf, config_of};
+ghost use Rattle.bm_config.specs.Config.{Says, IsFaultOf, config_of, told_address};
 
 use crate::builds::{Places, builds};
 use crate::config::Config;
 use crate::fault::{ConfigFault, Fault};
-use crate::fields::{Limits, address, number};
+use crate::fields::{Limits, address, find, number};
 use crate::keys::Key;
 use crate::workers::{locks, workers};
+use bm_lines::Text;
 use std::alloc::Global;
 use std::net::SocketAddr;
 use toml::Table;
@@ -49,6 +50,19 @@ pub fn read_config(alloc: Global, text: &str) -> Result<Config, ConfigFault>
     }
 }
 
+// The address that programs of workers are given, where the table has one.
+fn told_address(alloc: Global, table: &Table) -> Result<Option<Text>, Fault>
+    ensures { Gives (told_address (table_view table.now)) result }
+{
+    let Some(value) = find(table, Key::Address) else {
+        return Ok(None);
+    };
+    match value.as_str() {
+        Some(text) if text.len() > 0 => Ok(Some(Text::from_str(alloc, text)?)),
+        _ => Err(Fault::At(Key::Address)),
+    }
+}
+
 // The configuration of a table, with the addresses that its texts write.
 fn config_in(
     alloc: Global,
@@ -64,6 +78,7 @@ fn config_in(
     let Some(web) = web else {
         return Err(Fault::At(Key::Web));
     };
+    let address = told_address(alloc, table)?;
     let capacity = number(table, Key::Capacity, CAPACITY)?;
     let writers = number(table, Key::Writers, WRITERS)?;
     let workers = workers(alloc, table)?;
@@ -74,6 +89,7 @@ fn config_in(
     Ok(Config {
         listen,
         web,
+        address,
         capacity,
         writers,
         workers,

@@ -20,7 +20,7 @@ use std::alloc::Global;
 use toml::{Table, Value};
 
 /// The most that a number of ticks, and a lock's maximum, may be.
-const MOST: u32 = 0x7fff_ffff;
+pub(crate) const MOST: u32 = 0x7fff_ffff;
 
 /// The most workers of a configuration.
 const MOST_WORKERS: usize = 64;

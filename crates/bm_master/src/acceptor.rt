@@ -1,46 +1,79 @@
 //! New connections of workers.
 
 use crate::common::Common;
-use crate::news::News;
-use bm_clerk::{WorkerStream, greet};
+use crate::common::{Common, Guest};
+use crate::news::{News, Refused};
+use bm_clerk::{LOGIN_MS, WorkerStream, greet};
 use bm_lane::Yard;
-use bm_parts::refusal_of;
+use bm_parts::refusal_in;
 use bm_rules::LoginRefusal;
-use std::net::{TcpListener, TcpStream};
+use std::net::{SocketAddr, TcpListener, TcpStream};
 use std::sync::atomic::Ordering;
 use std::sync::{Arc, Wait};
 use std::thread::{Scope, Threads};
-use std::time::{Clock, Duration};
+use std::time::{Clock, Duration, Instant};
 use std::{io, thread};
 
 /// How long the acceptor waits before it looks for the next connection, in milliseconds.
 const PAUSE: u64 = 20;
 
+// Tells the foreman of a connection that is not taken up, and gave no name.
+fn refuse<Y: Yard, R: Wait + Clock + Drop>(
+    common: &Common<Y, R>,
+    from: SocketAddr,
+    why: LoginRefusal,
+) {
+    let name = None;
+    let refused = Refused { from, name, why };
+    common.mail.tell(&common.rt, News::Refused(refused));
+}
+
+// Greets a connection to its login, and tells the foreman where that is refused.
+fn welcome<Y, R>(common: &Common<Y, R>, stream: Guest<R>, from: SocketAddr)
+where
+    Y: Yard + Send + Sync,
+    R: Wait + Clock + Copy + Drop,
+{
+    let rt = &common.rt;
+    let began = Instant::now(rt).ok();
+    let (users, doors) = (common.users.as_slice(), common.doors.as_slice());
+    let mut name = None;
+    if let Err(fault) = greet(rt, common.alloc, stream, users, doors, &mut name) {
+        let took = began.and_then(|began| began.elapsed(rt).ok());
+        let is_late = took.is_some_and(|took| took >= Duration::from_millis(LOGIN_MS));
+        let why = refusal_in(fault, common.is_over.load(Ordering::SeqCst), is_late);
+        let refused = Refused { from, name, why };
+        common.mail.tell(rt, News::Refused(refused));
+    }
+}
+
 // Greets a connection in a thread of its own.
-fn receive<'s, E, Y, R>(scope: &Scope<'s, E>, common: &'s Common<Y, R>, stream: TcpStream)
+fn receive<'s, E, Y, R>(
+    scope: &Scope<'s, E>,
+    common: &'s Common<Y, R>,
+    stream: TcpStream,
+    from: SocketAddr,
+)
 where
     Y: Yard + Send + Sync + 's,
     R: Wait + Clock + Threads + Copy + Drop + Send + Sync + 's,
 {
-    let (rt, mail) = (&common.rt, &common.mail);
+    let rt = &common.rt;
     let Ok(is_over) = Arc::try_clone(&common.is_over) else {
-        return mail.tell(rt, News::Refused(LoginRefusal::Memory));
+        return refuse(common, from, LoginRefusal::Memory);
     };
     if !common.guests.enter(rt) {
-        return mail.tell(rt, News::Refused(LoginRefusal::Crowded));
+        return refuse(common, from, LoginRefusal::Crowded);
     }
     let stream = WorkerStream::new(*rt, stream, is_over);
     let thread = scope.spawn(move || {
         let stream = stream;
-        let (users, doors) = (common.users.as_slice(), common.doors.as_slice());
-        if let Err(fault) = greet(rt, common.alloc, stream, users, doors) {
-            mail.tell(rt, News::Refused(refusal_of(fault)));
-        }
+        welcome(common, stream, from);
         common.guests.leave(rt);
     });
     if thread.is_err() {
         common.guests.leave(rt);
-        mail.tell(rt, News::Refused(LoginRefusal::NoThread));
+        refuse(common, from, LoginRefusal::NoThread);
     }
 }
 
@@ -61,9 +94,9 @@ where
             break;
         }
         match listener.accept() {
-            Ok((stream, _)) => {
+            Ok((stream, from)) => {
                 is_paused = false;
-                receive(scope, common, stream);
+                receive(scope, common, stream, from);
             }
             Err(error) => {
                 if error.kind() != io::ErrorKind::WouldBlock && !is_paused {

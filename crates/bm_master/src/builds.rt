@@ -2,13 +2,14 @@
 ghost use Rattle.std.specs.Prelude.{◌≡◌};
 
 use crate::common::{Common, Guest};
-use crate::news::{Mail, News, Returned, Step};
+use crate::news::{Mail, News, Returned, Step, StepEvent};
 use bm_board::{Build, StepPlan};
 use bm_clerk::{Door, LanePort, Watch};
 use bm_lane::{Viewer, Yard};
 use bm_lines::Text;
 use bm_parts::door_of;
 use bm_roster::Commission;
+use bm_rules::{StartRefusal, StepLimit};
 use bm_runner::run_build;
 use bm_session::Results;
 use crossbeam_channel::bounded;
@@ -41,8 +42,8 @@ struct StepTeller<'s, Y: Yard, R: Wait + Clock> {
 }
 
 impl<'s, Y: Yard, R: Wait + Clock> StepTeller<'s, Y, R> {
-    // Tells that the step was started, or has ended.
-    fn tell(&self, command: u64, outcome: Option<Results>) {
+    // Tells what happened to the step.
+    fn tell(&self, event: StepEvent) {
         let name = match &self.name {
             Some(name) => name.copy().ok(),
             None => None,
@@ -51,9 +52,8 @@ impl<'s, Y: Yard, R: Wait + Clock> StepTeller<'s, Y, R> {
             self.rt,
             News::Step(Step {
                 build: self.build,
-                command,
                 name,
-                outcome,
+                event,
             }),
         );
     }
@@ -62,7 +62,19 @@ impl<'s, Y: Yard, R: Wait + Clock> StepTeller<'s, Y, R> {
 impl<'s, Y: Yard, R: Wait + Clock> Watch for StepTeller<'s, Y, R> {
     fn started(&mut self, step: &StepPlan, command: u64) {
         self.name = step.name.copy().ok();
-        self.tell(command, None);
+        self.tell(StepEvent::Started(command));
+    }
+
+    fn stopped(&mut self, command: u64, limit: StepLimit) {
+        self.tell(StepEvent::Stopped(command, limit));
+    }
+
+    fn refused(&mut self, step: &StepPlan, why: StartRefusal) {
+        if why == StartRefusal::Cancelled {
+            self.cancelled.store(false, Ordering::SeqCst);
+        }
+        self.name = step.name.copy().ok();
+        self.tell(StepEvent::Refused(why));
     }
 
     // A cancel ends one step: those that always run are run after it.
@@ -70,7 +82,7 @@ impl<'s, Y: Yard, R: Wait + Clock> Watch for StepTeller<'s, Y, R> {
         if outcome == Results::Cancelled {
             self.cancelled.store(false, Ordering::SeqCst);
         }
-        self.tell(command, Some(outcome));
+        self.tell(StepEvent::Ended(command, outcome));
     }
 }
 

@@ -2,13 +2,15 @@
 
 use crate::builds::start_build;
 use crate::common::Common;
-use crate::news::{Letters, News, Returned, Step};
+use crate::news::{Letters, News, Returned};
+use crate::remarks::Remarks;
 use crate::seat::Seat;
+use crate::ticker::{TICK, Ticker};
 use bm_clerk::{Notice, Signal};
 use bm_lane::{Viewer, Yard};
 use bm_parts::{event_of, fills, refusal_of};
 use bm_roster::{Bench, Cancelled, Roster};
-use bm_rules::{Duty, LogId, Pace, ProcessDuty, Remark, Report, WorkerEvent};
+use bm_rules::{Duty, ProcessDuty, RateLimit, Remark, Report, WorkerEvent};
 use bm_session::Results;
 use std::io::Write;
 use std::process::{Processes, SystemProcess};
@@ -16,16 +18,13 @@ use std::sync::Wait;
 use std::sync::atomic::Ordering;
 use std::thread;
 use std::thread::{Scope, Threads};
-use std::time::{Clock, Duration, Instant};
+use std::time::{Clock, Duration};
 
-/// How long a tick is, in milliseconds.
-pub const TICK: u64 = 10;
-
-/// How many ticks are told of at once at the most, where the foreman was late.
-const MOST_TICKS: u64 = 100;
+/// How many refused connections are told one by one in a second.
+pub const MOST_REFUSALS: u32 = 10;
 
 /// How many ticks the processes of workers have to end, once the master ends.
-const LAST_TICKS: u64 = 200;
+const LAST_TICKS: u64 = 1_001;
 
 /// What is left once the foreman has left.
 #[derive(Drop)]
@@ -42,12 +41,15 @@ pub struct Left<Y: Yard, O> {
 /// The foreman. It owns the roster, what is known of the workers, and the processes of those that
 /// are started on demand; it alone writes reports and remarks while builds may run.
 #[derive(Drop)]
-pub struct Foreman<'s, Y: Yard, R: Wait + Clock + Drop, O, F> {
+pub struct Foreman<'s, Y: Yard, R: Wait + Clock + Drop, O> {
     pub common: &'s Common<Y, R>,
     pub roster: Roster<Y>,
     pub seats: Vec<Seat>,
     pub output: O,
-    pub faults: F,
+    /// Where remarks are told, where there is a thread that writes them.
+    pub remarks: Option<Remarks>,
+    /// How many refused connections are told.
+    pub refusals: RateLimit,
     pub clock: Ticker,
     /// Whether builds may be wanted or started that were not before.
     pub is_stale: bool,
@@ -57,58 +59,12 @@ pub struct Foreman<'s, Y: Yard, R: Wait + Clock + Drop, O, F> {
     pub has_failed: bool,
 }
 
-/// Ticks by the clock.
-#[derive(Drop)]
-pub struct Ticker {
-    began: Option<Instant>,
-    pace: Pace,
-}
-
-impl Ticker {
-    /// Ticks from now on.
-    pub fn new<R: Clock>(rt: &R) -> Ticker {
-        Ticker {
-            began: Instant::now(rt).ok(),
-            pace: Pace::new(TICK, 0),
-        }
-    }
-
-    // How many ticks have ended since the last call, up to a most.
-    fn ticks<R: Clock>(&mut self, rt: &R) -> u64 {
-        let Some(began) = self.began else {
-            return 1;
-        };
-        let Ok(passed) = began.elapsed(rt) else {
-            return 1;
-        };
-        let now = passed
-            .as_secs()
-            .saturating_mul(1000)
-            .saturating_add(u64::from(passed.subsec_millis()));
-        self.pace.ticks(now).min(MOST_TICKS)
-    }
-}
-
-impl<'s, Y, R, O, F> Foreman<'s, Y, R, O, F>
+impl<'s, Y, R, O> Foreman<'s, Y, R, O>
 where
     Y: Yard + Send + Sync + 's,
     R: Wait + Clock + Threads + Processes<Started = SystemProcess> + Drop + Send + Sync + 's,
     O: Write + Drop,
-    F: Write + Drop,
 {
-    // Tells the operator. What can't be told is passed over.
-    fn remark(&mut self, remark: &Remark<'_>) {
-        let _ = remark.write(self.common.alloc, &mut self.faults);
-    }
-
-    // The name of a worker.
-    fn name(&self, worker: usize) -> &'s str {
-        match self.common.config.workers.as_slice().get(worker) {
-            Some(worker) => worker.name.as_str(),
-            None => "",
-        }
-    }
-
     // Whether ticks count.
     fn is_timed(&self) -> bool {
         self.roster.is_short() || self.seats.iter().any(|seat| seat.is_timed())
@@ -119,7 +75,7 @@ where
         let Some(seat) = self.seats.get_mut(worker) else {
             return;
         };
-        let duty = seat.post.hear(event);
+        let duty = seat.hear(event);
         self.obey(worker, duty);
     }
 
@@ -160,8 +116,11 @@ where
     fn dismiss(&mut self, worker: usize) {
         if let Some(door) = self.common.doors.get(worker) {
             door.signal(&self.common.rt, Signal::ShutDown);
-            let worker = self.name(worker);
-            self.remark(&Remark::Dismissed { worker });
+            let name = self.name(worker);
+            self.remark(&Remark::Dismissed { worker: name });
+        }
+        if let Some(seat) = self.seats.get_mut(worker) {
+            seat.must_end();
         }
     }
 
@@ -169,14 +128,17 @@ where
     fn start_process(&mut self, worker: usize) -> Option<Duty> {
         let name = self.name(worker);
         let seat = self.seats.get_mut(worker)?;
-        if seat.start(&self.common.rt, self.common.alloc) {
-            let duty = seat.post.hear(WorkerEvent::Started);
-            self.remark(&Remark::ProgramStarted { worker: name });
-            Some(duty)
-        } else {
-            let duty = seat.post.hear(WorkerEvent::Failed);
-            self.remark(&Remark::ProgramFailed { worker: name });
-            Some(duty)
+        match seat.start(&self.common.rt, self.common.alloc) {
+            Ok(()) => {
+                let duty = seat.hear(WorkerEvent::Started);
+                self.remark(&Remark::ProgramStarted { worker: name });
+                Some(duty)
+            }
+            Err(why) => {
+                let duty = seat.hear(WorkerEvent::Failed);
+                self.remark(&Remark::ProgramFailed { worker: name, why });
+                Some(duty)
+            }
         }
     }
 
@@ -190,14 +152,21 @@ where
         self.happens(worker, WorkerEvent::Stopped);
     }
 
+    // A tick has passed for the process of a worker. The answer is whether it has ended.
+    fn tick_process(&mut self, worker: usize) -> bool {
+        let is_wanted = self.roster.is_wanted(worker);
+        let Some(seat) = self.seats.get_mut(worker) else {
+            return false;
+        };
+        seat.is_wanted(is_wanted);
+        seat.tick(&self.common.rt, self.common.alloc);
+        seat.has_ended()
+    }
+
     // A tick has passed.
     fn tick(&mut self) {
         for worker in 0..self.seats.len() {
-            let has_ended = match self.seats.get_mut(worker) {
-                Some(seat) => seat.has_ended(),
-                None => false,
-            };
-            if has_ended {
+            if self.tick_process(worker) {
                 self.stopped(worker);
             }
             let has_build = self.roster.has_build(worker);
@@ -269,38 +238,6 @@ where
         }
     }
 
-    // A step of a build was started, or has ended.
-    fn hear_step(&mut self, step: &Step) {
-        let config = &self.common.config;
-        let lane = match config.builds.as_slice().get(step.build as usize) {
-            Some(build) => build.worker as u64,
-            None => 0,
-        };
-        let log = LogId {
-            command: step.command,
-            lane,
-            lanes: config.workers.as_slice().len() as u64,
-        };
-        let name = match &step.name {
-            Some(name) => name.as_str(),
-            None => "",
-        };
-        let build = step.build;
-        match step.outcome {
-            None => self.remark(&Remark::StepStarted {
-                build,
-                log,
-                step: name,
-            }),
-            Some(result) => self.remark(&Remark::StepEnded {
-                build,
-                log,
-                result,
-                step: name,
-            }),
-        }
-    }
-
     // A build's thread hands its build back.
     fn hear_build(&mut self, returned: Returned<Y>) {
         let Returned {
@@ -341,7 +278,7 @@ where
     fn hear(&mut self, news: News<Y>) {
         match news {
             News::Step(step) => return self.hear_step(&step),
-            News::Refused(why) => return self.remark(&Remark::ConnectionRefused { why }),
+            News::Refused(refused) => return self.hear_refused(&refused),
             News::Paused => return self.remark(&Remark::AcceptingPaused),
             News::Lane(worker, notice) => self.hear_clerk(worker, notice),
             News::Ended(returned) => self.hear_build(returned),
@@ -377,6 +314,8 @@ where
             letters.look(rt)
         } else if self.is_timed() {
             letters.wait_for(rt, Duration::from_millis(TICK))
+        } else if self.refusals.is_left_out() {
+            letters.wait_for(rt, Duration::from_secs(1))
         } else {
             letters.wait(rt)
         }
@@ -406,6 +345,9 @@ where
             if let Some(news) = news {
                 self.hear(news);
             }
+            if self.refusals.is_left_out() {
+                self.tell_left_out();
+            }
         }
         self.end_processes();
     }
@@ -428,6 +370,7 @@ where
             }
             thread::sleep(&common.rt, Duration::from_millis(TICK));
             for seat in self.seats.iter_mut() {
+                seat.tick(&common.rt, common.alloc);
                 seat.has_ended();
             }
         }
@@ -451,11 +394,16 @@ where
     pub fn leave(self) -> Left<Y, O> {
         let is_bad = self.is_bad();
         let Foreman {
+            common,
             roster,
             output,
+            remarks,
             has_failed,
             ..
         } = self;
+        if let Some(remarks) = remarks {
+            remarks.end(&common.rt);
+        }
         Left {
             benches: roster.into_benches(),
             output,

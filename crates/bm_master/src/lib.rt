@@ -1,8 +1,8 @@
 //! A build master: its threads, from the first to the last.
 //!
 //! Each lane has a clerk, which alone calls its link; a foreman alone knows all builds; each build,
-//! and each connection until its login, has a thread of its own; a pool of writers shows what was
-//! heard, and the web serves it.
+//! and each connection until its login, has a thread of its own; another one writes remarks; a pool
+//! of writers shows what was heard, and the web serves it.
 #![tactic(auto)]
 
 mod acceptor;
@@ -12,9 +12,12 @@ mod foreman;
 mod input;
 mod news;
 mod process;
+mod remarks;
 mod seat;
 mod serving;
+mod telling;
 mod threads;
+mod ticker;
 mod web;
 
 pub use serving::serve;

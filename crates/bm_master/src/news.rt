@@ -3,10 +3,11 @@
 use bm_clerk::Notice;
 use bm_lane::{Viewer, Yard};
 use bm_lines::Text;
-use bm_rules::LoginRefusal;
+use bm_rules::{LoginRefusal, StartRefusal, StepLimit};
 use bm_session::Results;
 use crossbeam_channel::{Receiver, Sender, unbounded};
 use std::alloc::{AllocError, Global};
+use std::net::SocketAddr;
 use std::sync::Wait;
 use std::thread;
 use std::time::{Clock, Duration};
@@ -21,17 +22,37 @@ pub struct Returned<Y: Yard> {
     pub viewer: Viewer<Y>,
 }
 
-/// A step of a build that was started, or has ended.
+/// What happened to a step. Commands are by their numbers on the worker's lane.
+#[derive(Clone, Copy)]
+pub enum StepEvent {
+    /// It was started as this command.
+    Started(u64),
+    /// It was not started.
+    Refused(StartRefusal),
+    /// This command has reached a limit, and is interrupted.
+    Stopped(u64, StepLimit),
+    /// This command ended so.
+    Ended(u64, Results),
+}
+
+/// A step of a build, and what happened to it.
 #[derive(Drop)]
 pub struct Step {
     /// The build's number.
     pub build: u64,
-    /// The command's number on its worker's lane.
-    pub command: u64,
     /// The step's name, where there was memory for it.
     pub name: Option<Text>,
-    /// How it ended. None at its start.
-    pub outcome: Option<Results>,
+    pub event: StepEvent,
+}
+
+/// A connection that was not taken up.
+#[derive(Drop)]
+pub struct Refused {
+    /// Where it came from.
+    pub from: SocketAddr,
+    /// The name that it logged in under, where that may be told.
+    pub name: Option<Text>,
+    pub why: LoginRefusal,
 }
 
 /// What the foreman is told.
@@ -41,10 +62,10 @@ pub enum News<Y: Yard> {
     Lane(usize, Notice),
     /// By the thread of a build that has ended.
     Ended(Returned<Y>),
-    /// A step of a build was started, or has ended.
+    /// Something happened to a step of a build.
     Step(Step),
     /// A connection was not taken up.
-    Refused(LoginRefusal),
+    Refused(Refused),
     /// No connection could be accepted just now.
     Paused,
     /// A line of standard input cancels this build.

@@ -4,14 +4,14 @@ ghost use Rattle.std.specs.Prelude.{◌≤◌};
 use crate::process::Starter;
 use bm_config::WorkerConfig;
 use bm_parts::place_master;
-use bm_rules::Post;
+use bm_rules::{Duty, Post, ProgramRefusal, WorkerEvent};
 use std::alloc::{AllocError, Global};
 use std::process::{Processes, SystemProcess};
 
 /// A worker: what is known of it, and its program, where it is started on demand.
 #[derive(Drop)]
 pub struct Seat {
-    pub post: Post,
+    post: Post,
     starter: Option<Starter>,
 }
 
@@ -36,11 +36,19 @@ impl Seat {
         self.post.is_timed() || self.is_running()
     }
 
-    /// Starts its process. The answer is whether it could be started.
-    pub fn start<R: Processes<Started = SystemProcess>>(&mut self, rt: &R, alloc: Global) -> bool {
+    /// Starts its process.
+    ///
+    /// # Errors
+    ///
+    /// Those of [`Starter::start`].
+    pub fn start<R: Processes<Started = SystemProcess>>(
+        &mut self,
+        rt: &R,
+        alloc: Global,
+    ) -> Result<(), ProgramRefusal> {
         match &mut self.starter {
             Some(starter) => starter.start(rt, alloc),
-            None => false,
+            None => Err(ProgramRefusal::NotFound),
         }
     }
 
@@ -57,6 +65,47 @@ impl Seat {
         match &mut self.starter {
             Some(starter) => starter.has_ended(),
             None => false,
+        }
+    }
+
+    /// Its process is to end: it has some time for that before it is asked to, and then killed.
+    pub fn must_end(&mut self) {
+        if let Some(starter) = &mut self.starter {
+            starter.must_end();
+        }
+    }
+
+    /// A build waits for it, or none does: a process that hasn't logged in goes on, or is to end.
+    pub fn is_wanted(&mut self, is_wanted: bool) {
+        let is_starting = self.post.is_needless(false);
+        if let Some(starter) = &mut self.starter
+            && is_starting
+        {
+            if is_wanted {
+                starter.may_go_on();
+            } else {
+                starter.must_end();
+            }
+        }
+    }
+
+    /// Something happened to it. Answers what is to be done. The builds that wait aren't given up
+    /// where the master itself had its process ended.
+    pub fn hear(&mut self, event: WorkerEvent) -> Duty {
+        let mut duty = self.post.hear(event);
+        if let Some(starter) = &self.starter
+            && event == WorkerEvent::Stopped
+            && starter.is_asked()
+        {
+            duty.gives_up = false;
+        }
+        duty
+    }
+
+    /// A tick has passed.
+    pub fn tick<R: Processes<Started = SystemProcess>>(&mut self, rt: &R, alloc: Global) {
+        if let Some(starter) = &mut self.starter {
+            starter.tick(rt, alloc);
         }
     }
 

@@ -89,10 +89,11 @@ where
         + Copy
         + Drop
         + Send
-        + Sync,
+        + Sync
+        + 'static,
     I: Read + Drop + Send,
     O: Write + Drop + Send,
-    F: Write + Drop + Send,
+    F: Write + Drop + Send + 'static,
 {
     let alloc = rt.alloc();
     let mut faults = faults;
@@ -151,10 +152,15 @@ fn sites_of<Y: Yard>(alloc: Global, viewers: Vec<Viewer<Y>>) -> Option<Sites<Y>>
     }
 }
 
-// The workers, which are told this address. None where memory is wanting.
+// The workers, which are told the configuration's address, or else this one. None where memory is
+// wanting.
 fn seats_at(alloc: Global, config: &Config, workers: SocketAddr) -> Option<Vec<Seat>> {
-    let master = format!(in alloc; "{workers}").ok()?;
-    seats_of(alloc, config.workers.as_slice(), master.as_str()).ok()
+    let bound = format!(in alloc; "{workers}").ok()?;
+    let master = match &config.address {
+        Some(address) => address.as_str(),
+        None => bound.as_str(),
+    };
+    seats_of(alloc, config.workers.as_slice(), master).ok()
 }
 
 /// What all threads share that is made from the configuration.
@@ -398,10 +404,11 @@ where
         + Copy
         + Drop
         + Send
-        + Sync,
+        + Sync
+        + 'static,
     I: Read + Drop + Send,
     O: Write + Drop + Send,
-    F: Write + Drop + Send,
+    F: Write + Drop + Send + 'static,
     requires placed { ArePlaced Y.queue Y.copy 0 blanks.items }
 {
     let at = sockets.listen();
@@ -450,10 +457,11 @@ where
         + Copy
         + Drop
         + Send
-        + Sync,
+        + Sync
+        + 'static,
     I: Read + Drop + Send,
     O: Write + Drop + Send,
-    F: Write + Drop + Send,
+    F: Write + Drop + Send + 'static,
 {
     let (start, input) = start.zip(Some(input))?;
     let Start {
@@ -493,10 +501,11 @@ where
         + Copy
         + Drop
         + Send
-        + Sync,
+        + Sync
+        + 'static,
     I: Read + Drop + Send,
     O: Write + Drop + Send,
-    F: Write + Drop + Send,
+    F: Write + Drop + Send + 'static,
 {
     let mut given = given;
     if write_report(common.alloc, listening, &mut given.output) {

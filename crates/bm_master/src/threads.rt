@@ -4,14 +4,17 @@ ghost use Rattle.std.specs.Thread.{IsSend, IsSync};
 
 use crate::acceptor::accept_all;
 use crate::common::{Common, Guest};
-use crate::foreman::{Foreman, Left, Ticker};
+use crate::foreman::{Foreman, Left, MOST_REFUSALS};
 use crate::input::read_input;
 use crate::news::{Letters, Mail, News};
+use crate::remarks::Remarks;
 use crate::seat::Seat;
+use crate::ticker::Ticker;
 use crate::web::Web;
 use bm_clerk::{Desk, Inbox, Notice, Signal, Tell, serve_lane};
 use bm_lane::{Gate, Pass, ReaderEnd, Yard, writers};
 use bm_roster::Roster;
+use bm_rules::RateLimit;
 use bm_serve::Site;
 use std::alloc::AllocGlobal;
 use std::io::{Read, Write};
@@ -244,9 +247,17 @@ impl<Y: Yard> Staff<Y> {
 fn run_foreman<Y, R, O, F>(common: &Common<Y, R>, given: Lead<Y, O, F>) -> Left<Y, O>
 where
     Y: Yard + Send + Sync,
-    R: Wait + Clock + Threads + Processes<Started = SystemProcess> + Drop + Send + Sync,
+    R: Wait
+        + Clock
+        + Threads
+        + Processes<Started = SystemProcess>
+        + Copy
+        + Drop
+        + Send
+        + Sync
+        + 'static,
     O: Write + Drop,
-    F: Write + Drop,
+    F: Write + Drop + Send + 'static,
 {
     let Lead {
         letters,
@@ -255,6 +266,8 @@ where
         output,
         faults,
     } = given;
+    let remarks = Remarks::open(&common.rt, common.alloc, faults);
+    let has_failed = remarks.is_none();
     thread::scope(
         thread::scope_env(),
         &common.rt,
@@ -266,12 +279,13 @@ where
                 roster,
                 seats,
                 output,
-                faults,
+                remarks,
+                refusals: RateLimit::new(MOST_REFUSALS),
                 clock: Ticker::new(&common.rt),
                 is_stale: true,
                 is_closed: false,
                 has_reported: false,
-                has_failed: false,
+                has_failed,
             };
             foreman.preside(scope, &letters);
             foreman.leave()
@@ -287,9 +301,17 @@ fn start_foreman<'s, E, Y, R, O, F>(
 ) -> Option<JoinHandle<Left<Y, O>>>
 where
     Y: Yard + Send + Sync + 's,
-    R: Wait + Clock + Threads + Processes<Started = SystemProcess> + Drop + Send + Sync + 's,
+    R: Wait
+        + Clock
+        + Threads
+        + Processes<Started = SystemProcess>
+        + Copy
+        + Drop
+        + Send
+        + Sync
+        + 'static,
     O: Write + Drop + Send + 's,
-    F: Write + Drop + Send + 's,
+    F: Write + Drop + Send + 'static,
 {
     scope
         .spawn(move || {
@@ -359,10 +381,10 @@ where
         + Drop
         + Send
         + Sync
-        + 's,
+        + 'static,
     I: Read + Drop + Send + 's,
     O: Write + Drop + Send + 's,
-    F: Write + Drop + Send + 's,
+    F: Write + Drop + Send + 'static,
 {
     let Some(foreman) = start_foreman(scope, common, given) else {
         return (None, false);
@@ -391,10 +413,10 @@ where
         + Drop
         + Send
         + Sync
-        + 's,
+        + 'static,
     I: Read + Drop + Send + 's,
     O: Write + Drop + Send + 's,
-    F: Write + Drop + Send + 's,
+    F: Write + Drop + Send + 'static,
 {
     let Work {
         service,
@@ -442,10 +464,11 @@ where
         + Copy
         + Drop
         + Send
-        + Sync,
+        + Sync
+        + 'static,
     I: Read + Drop + Send,
     O: Write + Drop + Send,
-    F: Write + Drop + Send,
+    F: Write + Drop + Send + 'static,
 {
     let done = thread::scope(
         thread::scope_env(),
@@ -478,10 +501,11 @@ where
         + Copy
         + Drop
         + Send
-        + Sync,
+        + Sync
+        + 'static,
     I: Read + Drop + Send,
     O: Write + Drop + Send,
-    F: Write + Drop + Send,
+    F: Write + Drop + Send + 'static,
 {
     let lanes = common.lanes.len();
     let clerks = Vec::with_capacity(common.alloc, lanes).ok();

@@ -39,3 +39,9 @@ refusal_of (link.Lane lane.Busy) = why.Busy
 refusal_of (link.Lane (lane.Session session.AlreadyUp)) = why.AlreadyUp
 refusal_of (link.Lane (lane.Session session.Full)) = why.Full
 refusal_of f = why.Memory
+
+-- the same before a login, where a failed stream may have been the master's end or came too late
+abbrev pub refusal_in : Bool → Bool → LinkFault → LoginRefusal
+refusal_in true is_late link.Stream = why.Closing
+refusal_in false true link.Stream = why.Late
+refusal_in is_over is_late f = refusal_of f

@@ -1,10 +1,16 @@
 -- The words of a program that starts a worker.
-use Rattle.std.specs.Prelude.{ℕ, List, map, bytes_eq, codes, if◌then◌else◌}
+use Rattle.std.specs.Prelude.{◌≡◌, ℕ, List, [], ◌∷◌, codes}
+use Rattle.std.specs.Str.Pattern.{FindsText}
+use Rattle.std.specs.Str.Replace.{ReplacesMatches}
 
--- a word, or the master's address in the place of `{master}`
-abbrev pub placed : List ℕ → List ℕ → List ℕ
-placed master word = if bytes_eq word (codes "{master}") then master else word
+-- a word, with the master's address in the place of each `{master}` in it
+abbrev pub IsPlaced : List ℕ → List ℕ → List ℕ → Type 0
+IsPlaced master word placed =
+    (n : ℕ) × ReplacesMatches FindsText (λ p q. q ≡ p) master n (codes "{master}") word placed
 
--- each word so
-abbrev pub placed_all : List ℕ → List (List ℕ) → List (List ℕ)
-placed_all master words = map (placed master) words
+-- each word so, in their order
+abbrev pub IsEachPlaced : List ℕ → List (List ℕ) → List (List ℕ) → Type 0
+IsEachPlaced master [] [] = Unit {0}
+IsEachPlaced master (word ∷ words) (placed ∷ all) =
+    IsPlaced master word placed × IsEachPlaced master words all
+IsEachPlaced master words all = ⊥

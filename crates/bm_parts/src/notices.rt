@@ -1,6 +1,6 @@
 //! What follows from what a clerk tells of its lane.
 ghost use Rattle.std.specs.Prelude.{◌≡◌};
-ghost use Rattle.bm_parts.specs.Notices.{event_of, fills, refusal_of};
+ghost use Rattle.bm_parts.specs.Notices.{event_of, fills, refusal_in, refusal_of};
 
 use bm_clerk::Notice;
 use bm_lane::HearRefusal;
@@ -44,5 +44,17 @@ pub fn refusal_of(fault: LinkFault) -> LoginRefusal
         LinkFault::Lane(HearRefusal::Session(Refusal::AlreadyUp)) => LoginRefusal::AlreadyUp,
         LinkFault::Lane(HearRefusal::Session(Refusal::Full)) => LoginRefusal::Full,
         _ => LoginRefusal::Memory,
+    }
+}
+
+/// The same before a login, where a failed stream may have been the master's end or a login's that
+/// came too late.
+pub fn refusal_in(fault: LinkFault, is_over: bool, is_late: bool) -> LoginRefusal
+    ensures { result ≡ refusal_in is_over is_late fault }
+{
+    match fault {
+        LinkFault::Stream if is_over => LoginRefusal::Closing,
+        LinkFault::Stream if is_late => LoginRefusal::Late,
+        _ => refusal_of(fault),
     }
 }

@@ -31,6 +31,8 @@ whole =
       halt_on_failure = false;
       flunk_on_failure = true;
       always_run = false;
+      max_bytes = 0;
+      timeout_ticks = 0;
     }
 
 -- what a build is on the board: its worker, its locks, and that step

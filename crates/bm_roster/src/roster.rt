@@ -71,6 +71,8 @@ fn as_one_step(alloc: Global, build: &Build) -> Result<Build, AllocError>
         halt_on_failure: false,
         flunk_on_failure: true,
         always_run: false,
+        max_bytes: 0,
+        timeout_ticks: 0,
     };
     let mut steps = Vec::with_capacity(alloc, 1)?;
     steps.push_reserved(step);

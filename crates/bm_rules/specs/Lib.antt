@@ -6,6 +6,9 @@ pub mod Cancel
 pub mod Exit
 pub mod Pace
 pub mod PeerTimer
+pub mod Deadline
+pub mod RateLimit
+pub mod StepMeter
 pub mod OneLine
 pub mod Reasons
 pub mod Report

@@ -27,8 +27,8 @@ abbrev pub newcomer : Option Standing → Known
 newcomer latent = record { latent = latent; attached = false; running = false; full = false }
 
 -- what the machine of a latent worker is told, in this order: no want of a lane that is full; an
--- idle tick only where the worker has no build; and a worker that no process of ours was behind has
--- stopped once it is lost
+-- idle tick only where the worker has no build; a worker that no process of ours is behind has stopped
+-- once it is lost; and the end of a process is nothing while its worker is attached
 abbrev pub told : Known → WorkerEvent → List LatentEvent
 told p Wanted = if p.full then [] else Want ∷ []
 told p Started = LatentStarted ∷ []
@@ -36,7 +36,7 @@ told p Failed = LatentFailed ∷ []
 told p Attached = LatentAttached ∷ []
 told p Cut = LatentCut ∷ []
 told p Lost = if p.running then LatentLost ∷ [] else LatentLost ∷ LatentStopped ∷ []
-told p Stopped = LatentStopped ∷ []
+told p Stopped = if p.attached then [] else LatentStopped ∷ []
 told p Filled = []
 told p (Tick has_build) = if has_build then [] else IdleTick ∷ []
 
@@ -140,3 +140,9 @@ duty_of p event =
       process = process_duty (known_after p event) event (act_of p event);
       gives_up = gives_up p event;
     }
+
+-- its process was started and no build waits for it: it is to be ended
+abbrev pub is_needless : Known → Bool → Bool
+is_needless p wanted =
+    not wanted
+    && (p.running && option_map_or (λ w. is_substantiating w.state) p.latent false)

@@ -1,12 +1,16 @@
 -- The lines of a build master's standard error.
 use Rattle.std.specs.Prelude.{ℕ, ◌+◌, ◌*◌, List, [], ◌∷◌, ◌++◌, codes, decimal}
+use Rattle.std.specs.Net.Text.{socket_text}
 use Rattle.bm_session.specs.Texts.{result_name}
 use Rattle.bm_rules.specs.declared.log_id.LogId.{LogId}
+use Rattle.std.specs.declared.net.socket_addr.SocketAddr.{SocketAddr}
+use Rattle.bm_rules.specs.declared.reasons.LoginRefusal.{LoginRefusal}
 use Rattle.bm_rules.specs.declared.reasons.LossCause.{LossCause}
+use Rattle.bm_rules.specs.declared.reasons.ProgramRefusal.{ProgramRefusal}
 use Rattle.bm_rules.specs.declared.remark.Remark.{Remark}
-use Rattle.bm_rules.specs.declared.remark.Remark.TheVariants.{LoggedIn, Resumed, Cut, Lost, Dismissed, Filled, LoginRefused, ConnectionRefused, AcceptingPaused, BuildStarted, BuildEnded, BuildCancelled, StepStarted, StepRefused, StepEnded, ProgramStarted, ProgramFailed, ProgramEnded}
+use Rattle.bm_rules.specs.declared.remark.Remark.TheVariants.{LoggedIn, Resumed, Cut, Lost, Dismissed, Filled, LoginRefused, StrangerRefused, ConnectionRefused, MoreRefused, NotTold, AcceptingPaused, BuildStarted, BuildEnded, BuildCancelled, StepStarted, StepRefused, StepStopped, StepEnded, ProgramStarted, ProgramFailed, ProgramEnded}
 use Rattle.bm_rules.specs.OneLine.{one_line}
-use Rattle.bm_rules.specs.Reasons.{loss_text, refusal_text}
+use Rattle.bm_rules.specs.Reasons.{limit_text, loss_text, program_text, refusal_text, start_text}
 
 -- a log's id on the web: its command's number times the number of lanes, plus the lane's place
 abbrev pub log_number : LogId → ℕ
@@ -22,6 +26,24 @@ abbrev pub build_line : ℕ → List ℕ → List ℕ → List ℕ
 build_line build what name =
     codes "build " ++ (decimal build ++ (what ++ (one_line name ++ 10 ∷ [])))
 
+-- a login of a stranger that was refused
+abbrev pub stranger_line : List ℕ → SocketAddr → LoginRefusal → List ℕ
+stranger_line name from why =
+    codes "login refused, " ++ (refusal_text why ++ (codes ", from " ++ (socket_text from
+    ++ (codes ": " ++ (one_line name ++ 10 ∷ [])))))
+
+-- what became of a step that has a log, and how or why
+abbrev pub log_line : ℕ → List ℕ → List ℕ → LogId → List ℕ → List ℕ
+log_line build what why log step =
+    codes "build " ++ (decimal build ++ (what ++ (why ++ (codes ", log " ++ (decimal (log_number log)
+    ++ (codes ": " ++ (one_line step ++ 10 ∷ [])))))))
+
+-- the program of a worker that was not started
+abbrev pub program_line : List ℕ → ProgramRefusal → List ℕ
+program_line worker why =
+    codes "program of "
+    ++ (one_line worker ++ (codes " not started, " ++ (program_text why ++ 10 ∷ [])))
+
 -- what the line says, with its line end
 abbrev pub remark_line : Remark → List ℕ
 remark_line (LoggedIn worker) = codes "worker " ++ (one_line worker.now ++ codes " logged in\n")
@@ -33,7 +55,12 @@ remark_line (Dismissed worker) =
 remark_line (Filled worker) = codes "worker " ++ (one_line worker.now ++ codes " full\n")
 remark_line (LoginRefused name why) =
     codes "login refused, " ++ (refusal_text why ++ (codes ": " ++ (one_line name.now ++ 10 ∷ [])))
-remark_line (ConnectionRefused why) = codes "connection refused, " ++ (refusal_text why ++ 10 ∷ [])
+remark_line (StrangerRefused name from why) = stranger_line name.now from why
+remark_line (ConnectionRefused from why) =
+    codes "connection refused, "
+    ++ (refusal_text why ++ (codes ", from " ++ (socket_text from ++ 10 ∷ [])))
+remark_line (MoreRefused count) = decimal count ++ codes " more connections refused\n"
+remark_line (NotTold count) = decimal count ++ codes " remarks not told\n"
 remark_line AcceptingPaused = codes "accepting paused\n"
 remark_line (BuildStarted build worker) = build_line build (codes " started on ") worker.now
 remark_line (BuildEnded build result) =
@@ -42,13 +69,13 @@ remark_line (BuildCancelled build) = codes "build " ++ (decimal build ++ codes "
 remark_line (StepStarted build log step) =
     build_line build (codes " step started, log " ++ (decimal (log_number log) ++ codes ": "))
     step.now
-remark_line (StepRefused build step) = build_line build (codes " step not started: ") step.now
+remark_line (StepRefused build why step) =
+    build_line build (codes " step not started, " ++ (start_text why ++ codes ": ")) step.now
+remark_line (StepStopped build log limit step) =
+    log_line build (codes " step stopped, ") (limit_text limit) log step.now
 remark_line (StepEnded build log result step) =
-    build_line build (codes " step ended "
-    ++ (result_name result ++ (codes ", log " ++ (decimal (log_number log) ++ codes ": "))))
-    step.now
+    log_line build (codes " step ended ") (result_name result) log step.now
 remark_line (ProgramStarted worker) =
     codes "program of " ++ (one_line worker.now ++ codes " started\n")
-remark_line (ProgramFailed worker) =
-    codes "program of " ++ (one_line worker.now ++ codes " not started\n")
+remark_line (ProgramFailed worker why) = program_line worker.now why
 remark_line (ProgramEnded worker) = codes "program of " ++ (one_line worker.now ++ codes " ended\n")

@@ -4,29 +4,35 @@
 #![tactic(auto)]
 
 mod cancel;
+mod deadline;
 mod exit;
 mod log_id;
 mod names;
 mod pace;
 mod peer_timer;
 mod post;
+mod rate_limit;
 mod reasons;
 mod remark;
 mod report;
 mod standing;
+mod step_meter;
 mod tenure;
 mod worker_event;
 
 pub use cancel::read_cancel;
+pub use deadline::{Deadline, EndAct};
 pub use exit::{REFUSED, status};
 pub use log_id::LogId;
 pub use names::one_line;
 pub use pace::Pace;
 pub use peer_timer::{ANSWER_WITHIN_MS, ASK_AFTER_MS, Care, DEAD_AFTER_MS, PeerTimer};
 pub use post::Post;
-pub use reasons::{LoginRefusal, LossCause};
+pub use rate_limit::RateLimit;
+pub use reasons::{LoginRefusal, LossCause, ProgramRefusal, StartRefusal, StepLimit};
 pub use remark::Remark;
 pub use report::Report;
 pub use standing::Standing;
+pub use step_meter::StepMeter;
 pub use tenure::Tenure;
 pub use worker_event::{Duty, ProcessDuty, WorkerEvent};

@@ -3,7 +3,7 @@
 ghost use Rattle.std.specs.Prelude.{◌≡◌, ◌≤◌, Some, None, false};
 ghost use Rattle.bm_latent.specs.declared.event.LatentState;
 ghost use Rattle.std.specs.Option.{option_map_or};
-ghost use Rattle.bm_rules.specs.Post.{act_of, duty_of, gives_up, is_ready, is_stopping, is_timed, known_after, latent_after, newcomer, process_duty};
+ghost use Rattle.bm_rules.specs.Post.{act_of, duty_of, gives_up, is_needless, is_ready, is_stopping, is_timed, known_after, latent_after, newcomer, process_duty};
 
 use crate::worker_event::{Duty, ProcessDuty, WorkerEvent};
 use bm_latent::{Act, Latent, LatentEvent, LatentState};
@@ -12,7 +12,7 @@ use std::marker::Model;
 /// What a build master knows of one worker. One that isn't latent takes builds while its connection
 /// is attached. One that is latent takes them while it is substantiated; its process is started
 /// once a build waits for it, and its worker is told to shut down once it has been idle for long
-/// enough.
+/// enough. A worker whose process ends while it is attached goes on until its connection ends.
 #[derive(Drop)]
 pub struct Post {
     latent: Option<Latent>,
@@ -113,6 +113,7 @@ impl Post {
                 latent.step(LatentEvent::Lost);
                 latent.step(LatentEvent::Stopped)
             }
+            WorkerEvent::Stopped if self.attached => Act::None,
             WorkerEvent::Stopped => latent.step(LatentEvent::Stopped),
             WorkerEvent::Tick { has_build: false } => latent.step(LatentEvent::IdleTick),
             WorkerEvent::Filled | WorkerEvent::Tick { has_build: true } => Act::None,
@@ -173,6 +174,18 @@ impl Post {
             && match &self.latent {
                 Some(latent) => latent.state() == LatentState::Substantiated,
                 None => self.attached,
+            }
+    }
+
+    /// Whether the worker's process is to be ended, since no build waits for its login any more.
+    pub fn is_needless(&self, is_wanted: bool) -> bool
+        ensures { result ≡ is_needless self.now is_wanted }
+    {
+        !is_wanted
+            && self.running
+            && match &self.latent {
+                Some(latent) => latent.state() == LatentState::Substantiating,
+                None => false,
             }
     }
 

@@ -1,7 +1,7 @@
-//! Why a worker is lost or a login refused.
+//! Why a worker is lost, and why a login, a step or a program is refused.
 
 ghost use Rattle.std.specs.Prelude.{◌≡◌};
-ghost use Rattle.bm_rules.specs.Reasons.{loss_text, refusal_text};
+ghost use Rattle.bm_rules.specs.Reasons.{limit_text, loss_text, program_text, refusal_text, start_text};
 
 /// Why a worker's connection was cut or its session given up.
 #[derive(Clone, Copy, PartialEq, Eq)]
@@ -24,8 +24,6 @@ pub enum LossCause {
     Ended,
     /// The worker logged in with another session.
     Replaced,
-    /// The master ends.
-    Closing,
 }
 
 impl LossCause {
@@ -43,7 +41,6 @@ impl LossCause {
             LossCause::Dismissed => "told to shut down",
             LossCause::Ended => "its process ended",
             LossCause::Replaced => "another session",
-            LossCause::Closing => "the master ends",
         }
     }
 }
@@ -95,6 +92,81 @@ impl LoginRefusal {
             LoginRefusal::NoThread => "no thread",
             LoginRefusal::Memory => "out of memory",
             LoginRefusal::Closing => "the master ends",
+        }
+    }
+}
+
+/// Why a step wasn't started.
+#[derive(Clone, Copy, PartialEq, Eq)]
+pub enum StartRefusal {
+    /// Its build was cancelled before.
+    Cancelled,
+    /// Its worker's session was given up.
+    Lost,
+    /// The lane has had as many events as it may.
+    Full,
+    /// Memory was wanting.
+    Memory,
+}
+
+impl StartRefusal {
+    /// Its text.
+    pub fn text(self) -> &'static str
+        ensures { result.now ≡ start_text self }
+    {
+        match self {
+            StartRefusal::Cancelled => "cancelled",
+            StartRefusal::Lost => "worker lost",
+            StartRefusal::Full => "full",
+            StartRefusal::Memory => "out of memory",
+        }
+    }
+}
+
+/// Which limit a step has reached.
+#[derive(Clone, Copy, PartialEq, Eq)]
+pub enum StepLimit {
+    /// Its updates carried as many bytes as they may.
+    Bytes,
+    /// It has run for as many ticks as it may.
+    Ticks,
+}
+
+impl StepLimit {
+    /// Its text.
+    pub fn text(self) -> &'static str
+        ensures { result.now ≡ limit_text self }
+    {
+        match self {
+            StepLimit::Bytes => "max_bytes",
+            StepLimit::Ticks => "timeout_ticks",
+        }
+    }
+}
+
+/// Why the program of a worker wasn't started.
+#[derive(Clone, Copy, PartialEq, Eq)]
+pub enum ProgramRefusal {
+    /// There is no such file.
+    NotFound,
+    /// It may not be run.
+    Denied,
+    /// Memory was wanting.
+    Memory,
+    /// The system refused it for another reason.
+    System,
+}
+
+impl ProgramRefusal {
+    /// Its text.
+    pub fn text(self) -> &'static str
+        ensures { result.now ≡ program_text self }
+    {
+        match self {
+            ProgramRefusal::NotFound => "no such file",
+            ProgramRefusal::Denied => "permission denied",
+            ProgramRefusal::Memory => "out of memory",
+            ProgramRefusal::System => "refused by the system",
         }
     }
 }

@@ -1,16 +1,17 @@
 //! The lines of a build master's standard error.
 
-ghost use Rattle.std.specs.Prelude.{◌≡◌, ◌++◌, IfOk, string_bytes};
+ghost use Rattle.std.specs.Prelude.{◌≡◌, ◌++◌, IfOk, decimal, string_bytes};
 ghost use Rattle.bm_rules.specs.OneLine.{one_line};
-ghost use Rattle.bm_rules.specs.Remark.{build_line, lost_line, remark_line};
+ghost use Rattle.bm_rules.specs.Remark.{build_line, log_line, lost_line, program_line, remark_line, stranger_line};
 
 use crate::log_id::LogId;
 use crate::names::one_line;
-use crate::reasons::{LoginRefusal, LossCause};
+use crate::reasons::{LoginRefusal, LossCause, ProgramRefusal, StartRefusal, StepLimit};
 use bm_session::Results;
 use std::alloc::{AllocError, Global};
 use std::io;
 use std::io::Write;
+use std::net::SocketAddr;
 
 /// A line of a build master's standard error: something that its operator asks about. Names are
 /// shown on one line (`one_line`). Nothing here has room for a password.
@@ -49,9 +50,25 @@ pub enum Remark<'a> {
         name: &'a str,
         why: LoginRefusal,
     },
-    /// A connection that gave no name was not taken up: `connection refused, WHY`.
-    ConnectionRefused {
+    /// A connection whose login names no worker, or has another password than that worker's, was
+    /// not taken up: `login refused, WHY, from ADDR: NAME`.
+    StrangerRefused {
+        name: &'a str,
+        from: SocketAddr,
         why: LoginRefusal,
+    },
+    /// A connection that gave no name was not taken up: `connection refused, WHY, from ADDR`.
+    ConnectionRefused {
+        from: SocketAddr,
+        why: LoginRefusal,
+    },
+    /// So many more were not than are told one by one: `N more connections refused`.
+    MoreRefused {
+        count: u64,
+    },
+    /// So many remarks could not be told: `N remarks not told`.
+    NotTold {
+        count: u64,
     },
     /// No connection could be accepted just now; it is tried again: `accepting paused`.
     AcceptingPaused,
@@ -75,9 +92,18 @@ pub enum Remark<'a> {
         log: LogId,
         step: &'a str,
     },
-    /// A step of a build could not be started: `build I step not started: STEP`.
+    /// A step of a build was not started: `build I step not started, WHY: STEP`.
     StepRefused {
         build: u64,
+        why: StartRefusal,
+        step: &'a str,
+    },
+    /// A step of a build has reached a limit, and is interrupted: `build I step stopped, LIMIT, log
+    /// ID: STEP`.
+    StepStopped {
+        build: u64,
+        log: LogId,
+        limit: StepLimit,
         step: &'a str,
     },
     /// A step of a build ended: `build I step ended RESULT, log ID: STEP`.
@@ -91,9 +117,10 @@ pub enum Remark<'a> {
     ProgramStarted {
         worker: &'a str,
     },
-    /// The program of a latent worker could not be started: `program of NAME not started`.
+    /// The program of a latent worker could not be started: `program of NAME not started, WHY`.
     ProgramFailed {
         worker: &'a str,
+        why: ProgramRefusal,
     },
     /// The program of a latent worker ended: `program of NAME ended`.
     ProgramEnded {
@@ -120,10 +147,13 @@ impl Remark<'_> {
                 let head = format!(in alloc; "login refused, {why}: ")?;
                 around(alloc, head.as_str(), name, "\n")
             }
-            Remark::ConnectionRefused { why } => {
+            Remark::StrangerRefused { name, from, why } => of_stranger(alloc, name, from, why),
+            Remark::ConnectionRefused { from, why } => {
                 let why = why.text();
-                format!(in alloc; "connection refused, {why}\n")
+                format!(in alloc; "connection refused, {why}, from {from}\n")
             }
+            Remark::MoreRefused { count } => of_count(alloc, count, " more connections refused\n"),
+            Remark::NotTold { count } => of_count(alloc, count, " remarks not told\n"),
             Remark::AcceptingPaused => String::from_str(alloc, "accepting paused\n"),
             Remark::BuildStarted { build, worker } => {
                 of_build(alloc, build, " started on ", worker)
@@ -140,24 +170,25 @@ impl Remark<'_> {
                 let what = format!(in alloc; " step started, log {id}: ")?;
                 of_build(alloc, build, what.as_str(), step)
             }
-            Remark::StepRefused { build, step } => {
-                of_build(alloc, build, " step not started: ", step)
+            Remark::StepRefused { build, why, step } => {
+                let why = why.text();
+                let what = format!(in alloc; " step not started, {why}: ")?;
+                of_build(alloc, build, what.as_str(), step)
             }
+            Remark::StepStopped {
+                build,
+                log,
+                limit,
+                step,
+            } => of_log(alloc, build, " step stopped, ", limit.text(), log, step),
             Remark::StepEnded {
                 build,
                 log,
                 result,
                 step,
-            } => {
-                let result = result.name();
-                let id = log.number();
-                let what = format!(in alloc; " step ended {result}, log {id}: ")?;
-                of_build(alloc, build, what.as_str(), step)
-            }
+            } => of_log(alloc, build, " step ended ", result.name(), log, step),
             Remark::ProgramStarted { worker } => around(alloc, "program of ", worker, " started\n"),
-            Remark::ProgramFailed { worker } => {
-                around(alloc, "program of ", worker, " not started\n")
-            }
+            Remark::ProgramFailed { worker, why } => of_program(alloc, worker, why),
             Remark::ProgramEnded { worker } => around(alloc, "program of ", worker, " ended\n"),
         }
     }
@@ -183,6 +214,52 @@ fn of_build(alloc: Global, build: u64, what: &str, name: &str) -> Result<String,
 {
     let name = one_line(alloc, name)?;
     format!(in alloc; "build {build}{what}{name}\n")
+}
+
+// A login of a stranger that was refused.
+fn of_stranger(
+    alloc: Global,
+    name: &str,
+    from: SocketAddr,
+    why: LoginRefusal,
+) -> Result<String, AllocError>
+    ensures { IfOk result (λ s. string_bytes s ≡ stranger_line name.now from why) }
+{
+    let name = one_line(alloc, name)?;
+    let why = why.text();
+    format!(in alloc; "login refused, {why}, from {from}: {name}\n")
+}
+
+// How many of a thing there were.
+fn of_count(alloc: Global, count: u64, what: &str) -> Result<String, AllocError>
+    ensures { IfOk result (λ s. string_bytes s ≡ decimal count ++ what.now) }
+{
+    format!(in alloc; "{count}{what}")
+}
+
+// What became of a step that has a log, and how or why.
+fn of_log(
+    alloc: Global,
+    build: u64,
+    what: &str,
+    why: &str,
+    log: LogId,
+    step: &str,
+) -> Result<String, AllocError>
+    ensures { IfOk result (λ s. string_bytes s ≡ log_line build what.now why.now log step.now) }
+{
+    let step = one_line(alloc, step)?;
+    let id = log.number();
+    format!(in alloc; "build {build}{what}{why}, log {id}: {step}\n")
+}
+
+// The program of a worker that was not started.
+fn of_program(alloc: Global, worker: &str, why: ProgramRefusal) -> Result<String, AllocError>
+    ensures { IfOk result (λ s. string_bytes s ≡ program_line worker.now why) }
+{
+    let worker = one_line(alloc, worker)?;
+    let why = why.text();
+    format!(in alloc; "program of {worker} not started, {why}\n")
 }
 
 // What became of a worker, and why.

@@ -89,6 +89,8 @@ fn try_step(alloc: Global, plan: &Plan) -> Option<StepPlan> {
             halt_on_failure,
             flunk_on_failure,
             always_run,
+            max_bytes: 0,
+            timeout_ticks: 0,
         }),
         Err(_) => None,
     }

@@ -82,10 +82,11 @@ where
         + Copy
         + Drop
         + Send
-        + Sync,
+        + Sync
+        + 'static,
     I: Read + Drop + Send,
     O: Write + Drop + Send,
-    F: Write + Drop + Send,
+    F: Write + Drop + Send + 'static,
 {
     match config_in(rt, path) {
         Ok(config) => serve(rt, config, input, output, faults),

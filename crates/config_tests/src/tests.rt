@@ -106,7 +106,7 @@ fn workers_are_told_apart(rt: HostRuntime) {
 }
 
 /// What follows the addresses and a worker `w0`, and the key that is told.
-const REST: [(&str, &str); 36] = [
+const REST: [(&str, &str); 40] = [
     ("capacity = 0", "capacity"),
     ("capacity = 1", ""),
     ("capacity = 65536", ""),
@@ -150,6 +150,7 @@ const REST: [(&str, &str); 36] = [
         "lock=[{name=\"\"}]\nbuild=[{worker=\"w0\",locks=[{name=\"\",mode=\"counting\"},{name=\"\"}]}]",
         "name",
     ),
+    ("address = \"\"", "address"),
     ("build = [{worker=\"w0\",step=[1]}]", "step"),
     ("build = [{worker=\"w0\",step=[{command=[\"a\"]}]}]", "name"),
     ("build = [{worker=\"w0\",step=[{name=\"s\"}]}]", "command"),
@@ -168,6 +169,18 @@ const REST: [(&str, &str); 36] = [
     (
         "build = [{worker=\"w0\",step=[{name=\"s\",command=[\"a\"],alwaysRun=1}]}]",
         "alwaysRun",
+    ),
+    (
+        "build = [{worker=\"w0\",step=[{name=\"s\",command=[\"a\"],max_bytes=-1}]}]",
+        "max_bytes",
+    ),
+    (
+        "build = [{worker=\"w0\",step=[{name=\"s\",command=[\"a\"],max_bytes=4294967296}]}]",
+        "max_bytes",
+    ),
+    (
+        "build = [{worker=\"w0\",step=[{name=\"s\",command=[\"a\"],timeout_ticks=2147483648}]}]",
+        "timeout_ticks",
     ),
     ("x =", "syntax"),
 ];
@@ -227,6 +240,7 @@ fn has_defaults(config: &Config) -> bool {
         && config.writers == 2
         && worker.slots == 1
         && worker.latent.is_none()
+        && config.address.is_none()
         && worker.idle_ticks == 100
         && worker.resume_ticks == 0
         && build.worker == 0
@@ -234,6 +248,8 @@ fn has_defaults(config: &Config) -> bool {
         && !step.halt_on_failure
         && step.flunk_on_failure
         && !step.always_run
+        && step.max_bytes == 1 << 30
+        && step.timeout_ticks == 0
         && step.name.as_str() == "s"
         && step.argv.as_slice().len() == 2
 }
@@ -247,6 +263,7 @@ fn missing_keys_have_their_defaults(rt: HostRuntime) -> Result<(), Fail> {
 
 const WHOLE: &str = "listen = \"127.0.0.1:1\"
 web = \"127.0.0.1:2\"
+address = \"m:3\"
 capacity = 8
 writers = 3
 lock = [{name=\"a\"}, {name=\"b\",max=7}]
@@ -269,7 +286,17 @@ command = [\"x\"]
 haltOnFailure = true
 flunkOnFailure = false
 alwaysRun = true
+max_bytes = 0
+timeout_ticks = 9
 ";
+
+/// Whether the address is this.
+fn is_at(config: &Config, wanted: &str) -> bool {
+    match &config.address {
+        Some(address) => address.as_str() == wanted,
+        None => false,
+    }
+}
 
 fn is_whole(config: &Config) -> bool {
     let (Some(worker), Some(lock), Some(build)) = (
@@ -288,6 +315,7 @@ fn is_whole(config: &Config) -> bool {
     };
     config.listen.port() == 1
         && config.web.port() == 2
+        && is_at(config, "m:3")
         && config.capacity == 8
         && config.writers == 3
         && worker.name.as_str() == "w1"
@@ -302,6 +330,8 @@ fn is_whole(config: &Config) -> bool {
         && first.mode == Mode::Counting
         && second.lock == 0
         && second.mode == Mode::Exclusive
+        && step.max_bytes == 0
+        && step.timeout_ticks == 9
         && step.halt_on_failure
         && !step.flunk_on_failure
         && step.always_run

@@ -90,7 +90,7 @@ fn is_placed(alloc: Global, program: &Words) -> bool {
         words => words,
     };
     match words {
-        Ok(words) => are_words(&words, &["sh", "m:1", "a{master}"]),
+        Ok(words) => are_words(&words, &["sh", "m:1", "am:1"]),
         Err(_) => false,
     }
 }

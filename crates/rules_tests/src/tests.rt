@@ -31,7 +31,7 @@ const BUSY: WorkerEvent = WorkerEvent::Tick { has_build: true };
 
 #[test]
 fn latent_worker_is_started_and_stopped(rt: HostRuntime) {
-    static ROWS: [Row; 17] = [
+    static ROWS: [Row; 18] = [
         (WorkerEvent::Wanted, false, ProcessDuty::Start, false),
         (WorkerEvent::Wanted, false, ProcessDuty::None, false),
         (WorkerEvent::Started, false, ProcessDuty::None, false),
@@ -39,18 +39,35 @@ fn latent_worker_is_started_and_stopped(rt: HostRuntime) {
         (WorkerEvent::Lost, false, ProcessDuty::None, false),
         (WorkerEvent::Wanted, false, ProcessDuty::None, false),
         (WorkerEvent::Attached, false, ProcessDuty::Shutdown, false),
-        (WorkerEvent::Stopped, false, ProcessDuty::Start, false),
-        (WorkerEvent::Lost, false, ProcessDuty::None, false),
+        (WorkerEvent::Stopped, false, ProcessDuty::None, false),
+        (WorkerEvent::Lost, false, ProcessDuty::Start, false),
         (WorkerEvent::Attached, true, ProcessDuty::None, false),
         (IDLE, true, ProcessDuty::None, false),
         (BUSY, true, ProcessDuty::None, false),
         (IDLE, true, ProcessDuty::None, false),
         (IDLE, false, ProcessDuty::Shutdown, false),
+        (WorkerEvent::Lost, false, ProcessDuty::None, false),
         (WorkerEvent::Stopped, false, ProcessDuty::None, false),
         (WorkerEvent::Wanted, false, ProcessDuty::Start, false),
         (WorkerEvent::Stopped, false, ProcessDuty::None, true),
     ];
     goes_through(&rt, Post::latent(3), &ROWS);
+}
+
+#[test]
+fn worker_outlives_its_process(rt: HostRuntime) {
+    static ROWS: [Row; 9] = [
+        (WorkerEvent::Wanted, false, ProcessDuty::Start, false),
+        (WorkerEvent::Attached, true, ProcessDuty::None, false),
+        (WorkerEvent::Stopped, true, ProcessDuty::None, false),
+        (WorkerEvent::Wanted, true, ProcessDuty::None, false),
+        (BUSY, true, ProcessDuty::None, false),
+        (IDLE, true, ProcessDuty::None, false),
+        (IDLE, false, ProcessDuty::Shutdown, false),
+        (WorkerEvent::Lost, false, ProcessDuty::None, false),
+        (WorkerEvent::Wanted, false, ProcessDuty::Start, false),
+    ];
+    goes_through(&rt, Post::latent(2), &ROWS);
 }
 
 #[test]
@@ -128,6 +145,26 @@ fn ticks_are_counted_once(rt: HostRuntime) {
     }
 }
 
+/// The seconds of refused connections, and whether each is told.
+const REFUSALS: [(u64, bool); 6] = [
+    (4, true),
+    (4, true),
+    (4, false),
+    (4, false),
+    (5, true),
+    (5, true),
+];
+
+#[test]
+fn few_are_told_in_a_second(rt: HostRuntime) {
+    let mut limit = RateLimit::new(2);
+    for (second, is_told) in &REFUSALS {
+        assert!(rt; limit.allows(*second) == *is_told, "in {second}");
+    }
+    assert!(rt; limit.take_left_out(5) == 0 && limit.is_left_out());
+    assert!(rt; limit.take_left_out(6) == 2 && !limit.is_left_out());
+}
+
 /// Lines of standard input, and the build that each cancels.
 const LINES: [(&[u8], Option<u64>); 10] = [
     (b"cancel 0", Some(0)),
@@ -171,7 +208,7 @@ fn says(alloc: Global, remark: Remark<'_>, line: &str) -> bool {
 }
 
 /// Remarks, and their lines.
-const REMARKS: [(Remark<'static>, &str); 2] = [
+const REMARKS: [(Remark<'static>, &str); 4] = [
     (
         Remark::StepStarted {
             build: 2,
@@ -190,6 +227,18 @@ const REMARKS: [(Remark<'static>, &str); 2] = [
             cause: LossCause::Expired,
         },
         "worker w 0 lost, not resumed in time\n",
+    ),
+    (
+        Remark::StepRefused {
+            build: 7,
+            why: StartRefusal::Cancelled,
+            step: "s",
+        },
+        "build 7 step not started, cancelled: s\n",
+    ),
+    (
+        Remark::MoreRefused { count: 90 },
+        "90 more connections refused\n",
     ),
 ];
 

@@ -115,6 +115,8 @@ fn make_step(alloc: Global, (name, halts, always): &Plan) -> Option<StepPlan> {
             halt_on_failure: *halts,
             flunk_on_failure: true,
             always_run: *always,
+            max_bytes: 0,
+            timeout_ticks: 0,
         }),
         Err(_) => None,
     }

@@ -26,7 +26,7 @@ where
             return false;
         }
     }
-    stage.awaits("connection refused, bad login")
+    stage.awaits("login refused, bad login, from 127.0.0.1:")
 }
 
 /// A second login under a name is refused, while the first one goes on.

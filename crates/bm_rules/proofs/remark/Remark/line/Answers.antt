@@ -7,8 +7,3 @@ use Rattle.bm_rules.proofs.remark.Remark.line.Goals as goal
 pub returns-in-BuildStarted : goal.returns-in-BuildStarted
 returns-in-BuildStarted c =
     subst (λ (r : Remark). IfOk c.of_build.result (λ s. string_bytes s ≡ remark_line r)) (sym c.in-BuildStarted.is) c.of_build.ensures
-
-pub returns-in-ProgramFailed : goal.returns-in-ProgramFailed
-returns-in-ProgramFailed c =
-    subst (λ (r : Remark). IfOk c.around-in-ProgramFailed.result (λ s. string_bytes s ≡ remark_line r)) (sym c.in-ProgramFailed.is)
-    c.around-in-ProgramFailed.ensures

@@ -1,0 +1,53 @@
+//! Ticks by the clock.
+
+use bm_rules::Pace;
+use std::time::{Clock, Instant};
+
+/// How long a tick is, in milliseconds.
+pub const TICK: u64 = 10;
+
+/// How many ticks are told of at once at the most, where the foreman was late.
+const MOST_TICKS: u64 = 100;
+
+/// Ticks by the clock.
+#[derive(Drop)]
+pub struct Ticker {
+    began: Option<Instant>,
+    pace: Pace,
+}
+
+impl Ticker {
+    /// Ticks from now on.
+    pub fn new<R: Clock>(rt: &R) -> Ticker {
+        Ticker {
+            began: Instant::now(rt).ok(),
+            pace: Pace::new(TICK, 0),
+        }
+    }
+
+    /// How many seconds have passed since its beginning; none where the clock fails.
+    pub fn second<R: Clock>(&self, rt: &R) -> u64 {
+        let Some(began) = self.began else {
+            return 0;
+        };
+        match began.elapsed(rt) {
+            Ok(passed) => passed.as_secs(),
+            Err(_) => 0,
+        }
+    }
+
+    /// How many ticks have ended since the last call, up to a most.
+    pub fn ticks<R: Clock>(&mut self, rt: &R) -> u64 {
+        let Some(began) = self.began else {
+            return 1;
+        };
+        let Ok(passed) = began.elapsed(rt) else {
+            return 1;
+        };
+        let now = passed
+            .as_secs()
+            .saturating_mul(1000)
+            .saturating_add(u64::from(passed.subsec_millis()));
+        self.pace.ticks(now).min(MOST_TICKS)
+    }
+}
