@@ -21,6 +21,9 @@ const CONNECTIONS: usize = 256;
 /// How long a connection of the web may be idle, in seconds.
 const IDLE: u64 = 30;
 
+/// How long a client of the web may take nothing of what is sent to it, in seconds.
+const STALLED: u64 = 30;
+
 /// How long it waits before it looks whether to serve again, in milliseconds.
 const PAUSE: u64 = 20;
 
@@ -113,6 +116,7 @@ impl<Y: Yard + Send + Sync> Web<Y> {
             workers: THREADS,
             connections: CONNECTIONS,
             idle: Duration::from_secs(IDLE),
+            stalled: Duration::from_secs(STALLED),
         };
         serve(rt, limits, listener, site, stopped).is_ok()
     }

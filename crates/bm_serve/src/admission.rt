@@ -6,6 +6,7 @@ ghost use Rattle.futures.specs.Poll.{OnPending};
 use crate::connections::Visit;
 use crate::pages::Pages;
 use crate::site::Answering;
+use crate::write_deadline::WriteDeadline;
 use futures::task::{Context, Poll};
 use futures::{Future, Stream, ready};
 use std::alloc::Global;
@@ -13,12 +14,12 @@ use std::sync::{Arc, Wait};
 use std::time::{Clock, Duration, Instant};
 use tokio::net::{Incoming, TcpStream};
 use tokio::sync::{OwnedSemaphorePermit, Semaphore};
-use tokio::time::Sleep;
+use tokio::time::{Handle, Sleep};
 
 /// How many milliseconds no connection is taken in after one that could not be.
 const PAUSE: u64 = 20;
 
-type Visitor<R, S> = Visit<TcpStream, Pages<R, S>, OwnedSemaphorePermit>;
+type Visitor<R, S> = Visit<WriteDeadline<TcpStream, R>, Pages<R, S>, OwnedSemaphorePermit>;
 
 /// The connections of a listener, of which each holds a place until it ends. Where one can't be
 /// taken in, since descriptors, memory or places are wanting, there is a pause before the next is
@@ -30,6 +31,9 @@ pub struct Admission<R, S> {
     pub incoming: Incoming,
     pub site: Arc<S>,
     pub places: Arc<Semaphore>,
+    pub timers: Handle,
+    /// How long a connection lives whose peer takes nothing of what is sent.
+    pub stalled: Duration,
     pub pause: Sleep,
     pub is_pausing: bool,
 }
@@ -52,6 +56,10 @@ impl<R: Wait + Clock + Copy, S: Answering> Admission<R, S> {
         let Some(Ok(socket)) = ready!(self.incoming.poll_next(cx)) else {
             return Poll::Ready(None);
         };
+        let Ok(timer) = self.timers.sleep(&self.rt, self.stalled) else {
+            return Poll::Ready(None);
+        };
+        let socket = WriteDeadline::new(socket, self.rt, self.stalled, timer);
         let pages = Pages {
             rt: self.rt,
             alloc: self.alloc,

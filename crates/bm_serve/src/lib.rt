@@ -4,9 +4,12 @@
 
 mod admission;
 mod connections;
+pub mod laws;
+mod page_body;
 mod pages;
 mod serving;
 mod site;
+mod write_deadline;
 
 pub use serving::{Limits, serve};
 pub use site::{Answering, Site};

@@ -7,7 +7,7 @@ use crate::site::Answering;
 use futures::StreamExt;
 use hyper::rt::TokioTimer;
 use hyper::server::conn::http1;
-use std::alloc::{AllocGlobal, Global};
+use std::alloc::AllocGlobal;
 use std::hash::RandomState;
 use std::net::Net;
 use std::random::RandomSource;
@@ -22,16 +22,8 @@ use tokio::sync::{Semaphore, oneshot};
 /// How many milliseconds connections may go on after the stop.
 const GRACE: u64 = 200;
 
-/// A block of so many bytes, once it was freed, has the C library's heap keep all smaller ones that
-/// are freed later for those who ask next. Until then it gives large ones back to the system, and
-/// each answer of some 130 KB or more would have its pages made anew (`M_MMAP_THRESHOLD` and
-/// `M_TRIM_THRESHOLD` in the manual page `mallopt(3)`).
-const KEPT: usize = 4_194_304;
-
-// Has the heap keep what answers took. Where memory is wanting, it goes on as it did.
-fn keep_freed(alloc: Global) {
-    let _ = Vec::<u8>::with_capacity(alloc, KEPT);
-}
+/// How many bytes wait to be sent on a connection, beside one piece of a body.
+const BUFFERED: usize = 65_536;
 
 /// What a server allows.
 #[derive(Clone, Copy)]
@@ -42,6 +34,8 @@ pub struct Limits {
     pub connections: usize,
     /// How long a connection may be idle, or take over the head of a request, until it is closed.
     pub idle: Duration,
+    /// How long a client may take nothing of what is sent to it, until the connection is closed.
+    pub stalled: Duration,
 }
 
 /// Serves over HTTP/1.1 until `stop` is ready or its sender is gone, and at most a moment longer,
@@ -57,19 +51,21 @@ pub fn serve<R, S>(
 where
     R: Wait + Threads + Clock + RandomSource + AllocGlobal + Net + Copy + Send + Sync,
     S: Answering + Send + Sync,
+    S::Rest: Send,
     requires { 0 < limits.workers }
 {
     let alloc = rt.alloc();
-    keep_freed(alloc);
     let mut runtime = Runtime::with_worker_threads(&rt, limits.workers)?;
     runtime.set_shutdown_timeout(Some(Duration::from_millis(GRACE)));
     let listener = TcpListener::from_std(listener, runtime.handle().reactor())?;
     let timers = runtime.handle().time().clone()?;
     let pause = timers.sleep(&rt, Duration::from_millis(GRACE))?;
     let mut http = http1::Builder::new(alloc, RandomState::new(&rt)?).timer(TokioTimer::new(
-        rt, timers,
+        rt,
+        timers.clone()?,
     ));
     http.header_read_timeout(Some(limits.idle));
+    http.max_buf_size(BUFFERED);
     let places = limits.connections.min(Semaphore::MAX_PERMITS);
     let admission = Admission {
         rt,
@@ -77,6 +73,8 @@ where
         incoming: listener.incoming(),
         site,
         places: Arc::new(alloc, Semaphore::new(alloc, places)?)?,
+        timers,
+        stalled: limits.stalled,
         pause,
         is_pausing: false,
     };

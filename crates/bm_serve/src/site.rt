@@ -1,29 +1,57 @@
 //! The routes with the viewers that they look at.
-ghost use Rattle.std.specs.Prelude.{◌≡◌, ◌⊎◌, ◌<◌, ℕ, IfOk, List, length};
+ghost use Rattle.std.specs.Prelude.{◌≡◌, ◌⊎◌, ◌<◌, ◌++◌, ℕ, [], IfOk, List, length, MatchOption};
 ghost use Rattle.bm_lane.specs.Ends.{Watched};
-ghost use Rattle.bm_http.specs.Replies.{Replies, Reply, unavailable};
-ghost use Rattle.bm_http.specs.Shown.{reply_of};
+ghost use Rattle.bm_http.specs.Requests.{Asked, Asks};
+ghost use Rattle.bm_http.specs.Replies.{Reply, unavailable};
+ghost use Rattle.bm_http.specs.FirstLooks.{Tells};
+ghost use Rattle.bm_http.specs.WholeOrLong.{reply_told};
 
-use bm_http::{Answer, Routes, Viewers};
+use bm_http::{Answer, LongAnswer, PieceError, Routes, WholeOrLong};
 use bm_lane::{Viewer, Yard};
+use bytes::Bytes;
 use std::alloc::{AllocError, Global};
 use std::sync::{Arc, Mutex, Wait};
 
 /// What is served.
 pub trait Answering: Drop {
+    /// What is left to tell of a long answer.
+    type Rest: Drop;
+
     // Which replies a request with this method and target may get.
     ghost gives: { List ℕ → List ℕ → Reply → Type 0 };
 
+    // The text that is left to tell.
+    ghost text: { Self.Rest → List ℕ };
+
     /// The answer to a request.
-    fn answer<R: Wait>(&self, rt: &R, alloc: Global, method: &str, target: &str) -> Answer
-        ensures { gives method.now target.now (reply_of result) };
+    fn answer<R: Wait>(
+        &self,
+        rt: &R,
+        alloc: Global,
+        method: &str,
+        target: &str,
+    ) -> WholeOrLong<Self::Rest>
+        ensures { gives method.now target.now (reply_told text result) };
+
+    /// The next piece of a long answer; none once all was told.
+    fn piece<R: Wait>(
+        &self,
+        rt: &R,
+        alloc: Global,
+        rest: &mut Self::Rest,
+    ) -> Option<Result<Bytes, PieceError>>
+        ensures { MatchOption result (text rest.old ≡ [])
+            (λ r. IfOk r (λ b. text rest.old ≡ b ++ text rest.new)) };
 }
 
-/// The routes, and the viewers of the lanes under a lock.
+/// The routes, and the viewer of each lane under a lock of its own.
 #[derive(Drop)]
 pub struct Site<Y: Yard> {
     routes: Routes,
-    viewers: Mutex<Viewers<Y>>,
+    lanes: Vec<Mutex<Viewer<Y>>>,
+    /// Room for all viewers, so that they can be given back without memory.
+    room: Vec<Viewer<Y>>,
+    ghost some: { 0 < length lanes.items },
 }
 
 impl<Y: Yard> Site<Y> {
@@ -31,9 +59,18 @@ impl<Y: Yard> Site<Y> {
     pub fn new(alloc: Global, viewers: Vec<Viewer<Y>>) -> Result<Site<Y>, AllocError>
         requires { 0 < length viewers.items }
     {
+        let room = Vec::with_capacity(alloc, viewers.len())?;
+        let mut lanes = Vec::with_capacity(alloc, viewers.len())?;
+        for viewer in viewers {
+            lanes.push(Mutex::new(viewer))?;
+        }
+        if lanes.is_empty() {
+            return Err(AllocError);
+        }
         Ok(Site {
             routes: Routes::new(alloc)?,
-            viewers: Mutex::new(Viewers::new(viewers)),
+            lanes,
+            room,
         })
     }
 
@@ -43,32 +80,75 @@ impl<Y: Yard> Site<Y> {
         alloc: Global,
         method: &str,
         target: &str,
-    ) -> Result<Answer, AllocError>
-        ensures { IfOk result (λ a. (old : List Watched) × (new : List Watched)
-            × Replies method.now target.now old new (reply_of a)) }
+    ) -> Result<WholeOrLong<LongAnswer<Y>>, AllocError>
+        ensures { IfOk result (λ t. (a : Asked) × (lanes : ℕ) × (w : Watched)
+            × Asks method.now target.now a
+            × Tells a lanes w (reply_told (λ text. text) t)) }
     {
         let request = self.routes.request(alloc, method, target)?;
-        let sight = self.viewers.lock(rt).look(request);
-        sight.answer(alloc)
+        let lanes = self.lanes.len() as u64;
+        let lane = request.lane(lanes).unwrap_or(0) as usize;
+        if lane >= self.lanes.len() {
+            return Err(AllocError);
+        }
+        let mut viewer = self.lanes[lane].lock(rt);
+        let look = request.first_look(alloc, lanes, &mut *viewer)?;
+        drop(viewer);
+        look.answer(alloc)
     }
 
     /// The viewers, given back, where nobody else holds the site any more.
     pub fn into_viewers(site: Arc<Site<Y>>) -> Option<Vec<Viewer<Y>>> {
         let site = Arc::into_inner(site)?;
-        Some(site.viewers.into_inner().into_vec())
+        let mut viewers = site.room;
+        for lane in site.lanes {
+            viewers.push(lane.into_inner()).ok()?;
+        }
+        Some(viewers)
     }
 }
 
 impl<Y: Yard> Answering for Site<Y> {
-    // What the viewers showed as they stood at some moment.
-    ghost gives = { λ method target reply. (reply ≡ unavailable)
-        ⊎ ((old : List Watched) × (new : List Watched) × Replies method target old new reply) };
+    type Rest = LongAnswer<Y>;
 
-    // The viewers are held for the look alone, and not while the body is written.
-    fn answer<R: Wait>(&self, rt: &R, alloc: Global, method: &str, target: &str) -> Answer {
+    // What the viewer of the lane showed as it stood at some moment.
+    ghost gives = { λ method target reply. (reply ≡ unavailable)
+        ⊎ ((a : Asked) × (lanes : ℕ) × (w : Watched) × Asks method target a
+        × Tells a lanes w reply) };
+
+    ghost text = { λ text. text };
+
+    // A viewer is held for a look alone.
+    fn answer<R: Wait>(
+        &self,
+        rt: &R,
+        alloc: Global,
+        method: &str,
+        target: &str,
+    ) -> WholeOrLong<LongAnswer<Y>> {
         match self.reply(rt, alloc, method, target) {
-            Ok(answer) => answer,
-            Err(_) => Answer::unavailable(alloc),
+            Ok(told) => told,
+            Err(_) => WholeOrLong::Whole(Answer::unavailable(alloc)),
+        }
+    }
+
+    fn piece<R: Wait>(
+        &self,
+        rt: &R,
+        alloc: Global,
+        rest: &mut LongAnswer<Y>,
+    ) -> Option<Result<Bytes, PieceError>> {
+        let lane = rest.lane() as usize;
+        if lane >= self.lanes.len() {
+            return Some(Err(PieceError::View));
+        }
+        let mut viewer = self.lanes[lane].lock(rt);
+        let next = rest.next(&mut *viewer);
+        drop(viewer);
+        match next {
+            Some(Ok(piece)) => Some(piece.told(alloc)),
+            Some(Err(error)) => Some(Err(error)),
+            None => None,
         }
     }
 }

@@ -427,6 +427,7 @@ where
             workers: 2,
             connections: PLACES,
             idle: Duration::from_millis(1500),
+            stalled: Duration::from_secs(30),
         };
         serve(rt, limits, listener, site, stopped).is_ok()
     }
