@@ -261,7 +261,8 @@ where
         + Copy
         + Drop
         + Send
-        + Sync,
+        + Sync
+        + 'static,
 {
     let Streams {
         feed,
@@ -291,7 +292,8 @@ where
         + Copy
         + Drop
         + Send
-        + Sync,
+        + Sync
+        + 'static,
 {
     let Ok(config) = read_config(rt.alloc(), text) else {
         return false;
