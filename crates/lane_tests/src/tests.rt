@@ -9,3 +9,4 @@ mod placed;
 mod pooled;
 mod says;
 mod script;
+mod texts;

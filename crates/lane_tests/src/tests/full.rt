@@ -102,7 +102,7 @@ fn hear_behind<Y: Yard, R: Wait>(
         gate.opens();
         rounds = ROUNDS;
     }
-    hear_at_last(rt, reader, event, rounds)
+    hear_at_last(rt, reader, event, &mut rounds)
 }
 
 // Hears the event, again after Busy, of which the gate is told.

@@ -3,7 +3,7 @@ ghost use Rattle.std.specs.Prelude.{◌≡◌};
 
 use super::hand::*;
 use super::says::Says::*;
-use super::script::Call::{Chunk as Lookup, Drain, Hear, Update};
+use super::script::Call::{Drain, Hear, Update};
 use super::script::{Order, Row, play};
 use bm_lane::*;
 use bm_session::Event;
@@ -16,7 +16,7 @@ use std::test::Fail;
 use std::thread;
 use std::thread::{Threads, join};
 
-/// How often a thread calls again, yielding each time.
+/// How often a thread calls in all, yielding each time.
 pub const ROUNDS: u64 = 10_000_000;
 
 /// How many updates of its command a lane hears.
@@ -55,7 +55,7 @@ fn both_have_apart<Y: Yard + Send + Sync, R: Threads + Wait + Sync>(
     lines: u64,
     text: &str,
 ) -> bool {
-    has_apart(rt, viewers, 0, lines, text) && has_apart(rt, viewers, 1, lines, text)
+    has_apart(rt, viewers, 1, lines, text) && has_apart(rt, viewers, 0, lines, text)
 }
 
 // Whether viewers in threads of their own are shown what was drained.
@@ -74,7 +74,7 @@ fn are_shown_apart<Y: Yard + Send + Sync, W: Wait + Drop, R: Threads + Wait + Ab
     ];
     static THEN: [Row; 1] = [(Drain, Took)];
     play(rt, alloc, ends, &FIRST);
-    let is_first_shown = has_apart(rt, ends.viewers.as_mut_slice(), 1, 1, "oa\n");
+    let is_first_shown = has_apart(rt, ends.viewers.as_mut_slice(), 0, 1, "oa\n");
     play(rt, alloc, ends, &THEN);
     is_first_shown && both_have_apart(rt, ends.viewers.as_mut_slice(), 2, "oa\nob\n")
 }
@@ -103,26 +103,33 @@ fn many_updates_go_through_a_short_queue(rt: HostRuntime) -> Result<(), Fail> {
     Ok(())
 }
 
-// Hears the event, or gives it back.
-fn hear_once<Y: Yard, R: Wait>(rt: &R, reader: &mut ReaderEnd<Y>, event: Event) -> Option<Event> {
+// Hears the event, or gives it back with the reason.
+fn hear_once<Y: Yard, R: Wait>(
+    rt: &R,
+    reader: &mut ReaderEnd<Y>,
+    event: Event,
+) -> Option<(Event, HearRefusal)> {
     match reader.hear(rt, event) {
         Ok(_) => None,
-        Err((back, _)) => Some(back),
+        Err(refused) => Some(refused),
     }
 }
 
-/// Hears the event, again after Busy.
+/// Hears the event, again after Busy and after nothing else. It takes each call from the rounds that
+/// are left.
 pub fn hear_at_last<Y: Yard, R: Wait>(
     rt: &R,
     reader: &mut ReaderEnd<Y>,
     event: Event,
-    rounds: u64,
+    rounds: &mut u64,
 ) -> bool {
     let mut event = event;
-    for _ in 0..rounds {
+    for _ in 0..*rounds {
+        *rounds = rounds.saturating_sub(1);
         match hear_once(rt, reader, event) {
             None => return true,
-            Some(back) => event = back,
+            Some((back, HearRefusal::Busy)) => event = back,
+            Some(_) => return false,
         }
         thread::yield_now();
     }
@@ -152,18 +159,20 @@ fn hear_update<Y: Yard, R: Wait>(
     alloc: Global,
     reader: &mut ReaderEnd<Y>,
     seq: u64,
+    rounds: &mut u64,
 ) -> bool {
     match numbered(alloc, seq) {
-        Ok(event) => hear_at_last(rt, reader, event, ROUNDS),
+        Ok(event) => hear_at_last(rt, reader, event, rounds),
         Err(_) => false,
     }
 }
 
 fn hear_updates<Y: Yard, R: Wait>(rt: &R, alloc: Global, reader: &mut ReaderEnd<Y>) -> bool {
-    let mut is_heard = hear_at_last(rt, reader, Event::Up, ROUNDS)
-        && hear_at_last(rt, reader, Event::Go, ROUNDS);
+    let mut rounds = ROUNDS;
+    let mut is_heard = hear_at_last(rt, reader, Event::Up, &mut rounds)
+        && hear_at_last(rt, reader, Event::Go, &mut rounds);
     for seq in 0..UPDATES {
-        is_heard = is_heard && hear_update(rt, alloc, reader, seq);
+        is_heard = is_heard && hear_update(rt, alloc, reader, seq, &mut rounds);
     }
     is_heard
 }
@@ -183,7 +192,14 @@ fn drain_updates<Y: Yard, W: Wait + Drop>(writer: &mut WriterEnd<Y, W>) -> bool 
     false
 }
 
-// Asks until all lines are there. The counts never fall, and the copy can always be entered.
+// Whether the viewer has these lines of the middle.
+fn has_middle<Y: Yard>(viewer: &mut Viewer<Y>) -> bool {
+    let text = "o990\no991\no992\no993\no994\n";
+    are_lines(&chunk(viewer, 990, 5), 990, 5, text)
+}
+
+// Asks until all lines are there, and then for some. The counts never fall, and the copy can always
+// be entered.
 fn watch<Y: Yard>(viewer: &mut Viewer<Y>) -> bool {
     let mut before = 0;
     for _ in 0..ROUNDS {
@@ -194,7 +210,7 @@ fn watch<Y: Yard>(viewer: &mut Viewer<Y>) -> bool {
                 }
                 before = state.lines;
                 if before == UPDATES {
-                    return true;
+                    return has_middle(viewer);
                 }
             }
             Err(ViewRefusal::NoLog) => {}
@@ -280,34 +296,17 @@ pub fn leaves_whole<Y: Yard, W: Wait + Drop, R: Wait>(
     }
 }
 
-// Whether all was heard, drained and seen, and a viewer has lines of the middle.
-fn is_all_there<
-    Y: Yard + Send + Sync,
-    W: Wait + Drop + Send + Sync,
-    R: Threads + Wait + Abort + Sync,
->(rt: &R, alloc: Global, ends: &mut Ends<Y, W>) -> bool {
-    static MIDDLE: [Row; 1] = [(
-        Lookup(0, "stdio", 990, 5),
-        Lines(990, 5, "o990\no991\no992\no993\no994\n"),
-    )];
-    if !is_done(rt, alloc, ends) {
-        return false;
-    }
-    play(rt, alloc, ends, &MIDDLE);
-    true
-}
-
-fn many_updates<
-    Y: Yard + Send + Sync,
-    W: Wait + Drop + Send + Sync,
-    R: Threads + Wait + Abort + Sync,
->(rt: &R, alloc: Global, blank: Blank<W>) -> bool
+fn many_updates<Y: Yard + Send + Sync, W: Wait + Drop + Send + Sync, R: Threads + Wait + Sync>(
+    rt: &R,
+    alloc: Global,
+    blank: Blank<W>,
+) -> bool
     requires { (blank.queue ≡ Y.queue 0) × (blank.copy ≡ Y.copy 0) }
 {
     match ends_of::<Y, W>(alloc, blank, 0) {
         Some(mut ends) => {
-            let is_all_there = is_all_there(rt, alloc, &mut ends);
-            leaves_whole(rt, alloc, ends) && is_all_there
+            let is_done = is_done(rt, alloc, &mut ends);
+            leaves_whole(rt, alloc, ends) && is_done
         }
         None => false,
     }

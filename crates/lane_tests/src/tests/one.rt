@@ -6,21 +6,48 @@ use super::says::Says::*;
 use super::script::Call::*;
 use super::script::{Order, Row, played};
 use bm_lane::*;
-use bm_session::{Refusal, Results};
+use bm_session::{Body, Event, Refusal, Results};
 use bm_store::Book;
 use std::alloc::Global;
 use std::marker::Brand;
 use std::sync::Wait;
 use std::test::Fail;
 
-// Whether a book has an open log of command 0 with so many lines, and none of command 1.
-fn has_one_open(book: &Book, lines: u64) -> bool {
-    has_log(book, "stdio", lines, None) && book.state(1, "stdio").is_none()
+// Whether a book has an open log of command 0 with these two lines, and none of command 1.
+fn has_one_open(book: &Book, text: &str) -> bool {
+    has_log(book, "stdio", 2, None) && has_lines(book, 2, text) && book.state(1, "stdio").is_none()
+}
+
+// Whether the event is an update of command 0 with this number.
+fn is_update(event: &Event, number: u64) -> bool {
+    match event {
+        Event::In(seq, Body::Update { command, rc, .. }) => {
+            *seq == number && *command == 0 && rc.is_none()
+        }
+        _ => false,
+    }
+}
+
+// Whether these events are a connection, a command and two updates of it.
+fn are_two_updates(trace: &[Event]) -> bool {
+    match trace {
+        [first, second, third, fourth] => {
+            matches!(first, Event::Up)
+                && matches!(second, Event::Go)
+                && is_update(third, 0)
+                && is_update(fourth, 1)
+        }
+        _ => false,
+    }
 }
 
 fn leaves_one_open(settled: Option<Settled>) -> bool {
     match settled {
-        Some(settled) => is_left(&settled, 4, &[3, 3]) && has_one_open(&settled.book, 2),
+        Some(settled) => {
+            is_left(&settled, 4, &[3, 3])
+                && are_two_updates(settled.trace.as_slice())
+                && has_one_open(&settled.book, "oa\nob\n")
+        }
         None => false,
     }
 }
@@ -48,13 +75,13 @@ fn viewers_see_what_was_drained(rt: HostRuntime) {
 #[test]
 fn busy_lane_takes_after_drain(rt: HostRuntime) {
     static ROWS: [Row; 11] = [
-        (Hear(Order::Up), Silent),
-        (Hear(Order::Go), Start(0, 0)),
+        (Give(Order::Up), Silent),
+        (Give(Order::Go), Start(0, 0)),
         (Update(0, &[("stdio", "n\n")]), Done(0)),
         (Update(1, &[("stdio", "n\n")]), Done(1)),
         (Update(2, &[("stdio", "n\n")]), Done(2)),
         (Update(3, &[("stdio", "n\n")]), Busy),
-        (Hear(Order::Stop(0)), Interrupt(1, 0)),
+        (Give(Order::Stop(0)), Interrupt(1, 0)),
         (Chunk(0, "stdio", 0, 9), NoLog),
         (Drain, Took),
         (Update(3, &[("stdio", "n\n")]), Done(3)),

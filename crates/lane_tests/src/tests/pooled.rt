@@ -220,10 +220,11 @@ fn taken<R: Threads + Wait + Sync>(
     alloc: Global,
     answers: [Pass; 2],
     threads: usize,
+    turns: u64,
 ) -> Option<(u128, Told)> {
     for _ in 0..TRIES {
         let gate = Always::new(answers);
-        let report = pool_on_two(rt, alloc, &["n\n"], &gate, threads, 1_000);
+        let report = pool_on_two(rt, alloc, &["n\n"], &gate, threads, turns);
         if let Some(PoolReport { took, refused: 0 }) = report {
             return Some((took, gate.told()));
         }
@@ -231,13 +232,14 @@ fn taken<R: Threads + Wait + Sync>(
     None
 }
 
-/// The answers for both lanes and the threads, and what was taken, asked and drained.
-type Row = (Pass, Pass, usize, u128, u64, u64);
+/// The answers for both lanes, the threads and the turns of each, and what was taken, asked and
+/// drained.
+type Row = (Pass, Pass, usize, u64, u128, u64, u64);
 
 // Whether a pool takes, asks and drains as the row says.
 fn is_drained_as<R: Threads + Wait + Sync>(rt: &R, alloc: Global, row: &Row) -> bool {
-    let (first, second, threads, took, asked, drains) = row;
-    match taken(rt, alloc, [*first, *second], *threads) {
+    let (first, second, threads, turns, took, asked, drains) = row;
+    match taken(rt, alloc, [*first, *second], *threads, *turns) {
         Some((items, told)) => items == *took && told.asked == *asked && told.drains == *drains,
         None => false,
     }
@@ -246,13 +248,13 @@ fn is_drained_as<R: Threads + Wait + Sync>(rt: &R, alloc: Global, row: &Row) -> 
 #[test]
 fn pool_drains_the_lanes_that_its_gate_lets_it(rt: HostRuntime) {
     static ROWS: [Row; 7] = [
-        (Pass::Go, Pass::Go, 2, 4, 2_000, 2_000),
-        (Pass::Go, Pass::Go, 1, 4, 1_000, 1_000),
-        (Pass::Go, Pass::Skip, 2, 2, 2_000, 1_000),
-        (Pass::Skip, Pass::Go, 1, 2, 1_000, 500),
-        (Pass::Skip, Pass::Skip, 2, 0, 2_000, 0),
-        (Pass::Go, Pass::Stop, 1, 1, 2, 1),
-        (Pass::Stop, Pass::Stop, 2, 0, 2, 0),
+        (Pass::Go, Pass::Go, 2, 1_000, 4, 2_000, 2_000),
+        (Pass::Go, Pass::Go, 1, 1_000, 4, 1_000, 1_000),
+        (Pass::Go, Pass::Skip, 2, 1_000, 2, 2_000, 1_000),
+        (Pass::Skip, Pass::Go, 1, 1_000, 2, 1_000, 500),
+        (Pass::Skip, Pass::Skip, 2, 5, 0, 10, 0),
+        (Pass::Go, Pass::Stop, 1, 1_000, 1, 2, 1),
+        (Pass::Stop, Pass::Stop, 2, 5, 0, 2, 0),
     ];
     for (n, row) in ROWS.iter().enumerate() {
         assert!(rt; is_drained_as(&rt, rt.alloc(), row), "row {n}");

@@ -2,10 +2,9 @@
 
 use super::script::Ask::*;
 use super::script::Gives::{End, Gone, Lines, Nothing, Open};
-use super::script::Script;
 use super::script::Script::*;
 use super::{
-    Log, Row, assert_logs, heard, made, new_session, play, played, plays, ran, then_drop, up,
+    Log, Row, assert_logs, is_played, new_session, play, played, plays, ran, then_drop, up,
 };
 use bm_session::Reply::{Answer, Interrupt, Silent, Start};
 use bm_session::Verdict::{AuthAgain, BadArgs as WrongKeys, Done, NoCommand, NoSuchOp};
@@ -163,18 +162,12 @@ fn is_in(session: &Session, state: &State) -> bool {
         && session.next_command() == command
 }
 
-/// An event, and the state of the session after it.
-type Step = (Script, State);
+/// An event with its answer, and the state of the session after it.
+type Step = (Row, State);
 
-/// Whether the session is in the state once it heard the event, whatever it said to that.
-fn comes_to(alloc: Global, session: &mut Session, (script, state): &Step) -> bool {
-    match made(alloc, *script) {
-        Ok(event) => {
-            let _ = heard(session, event);
-            is_in(session, state)
-        }
-        Err(_) => false,
-    }
+/// Whether the session has the row's answer, and is then in the state.
+fn comes_to(alloc: Global, session: &mut Session, (row, state): &Step) -> bool {
+    is_played(alloc, session, row) && is_in(session, state)
 }
 
 /// The session goes through the steps, which count from 0.
@@ -188,15 +181,15 @@ fn go_through(rt: &(impl AllocGlobal + Abort), session: &mut Session, steps: &[S
 fn orders_and_commands_are_counted(rt: HostRuntime) -> Result<(), AllocError> {
     static STEPS: [Step; 9] = [
         // It is refused, and the session is as it began.
-        (Go, (false, false, 0, 0)),
-        (Up, (true, false, 0, 0)),
-        (Go, (true, false, 1, 1)),
-        (Stop(0), (true, false, 2, 1)),
-        (Go, (true, false, 3, 2)),
-        (Cut, (false, true, 3, 2)),
-        (Up, (true, false, 3, 2)),
-        (Down, (false, false, 3, 2)),
-        (Up, (true, false, 0, 2)),
+        ((Go, Err(Refusal::NotUp), Nothing), (false, false, 0, 0)),
+        ((Up, Ok(Silent), Nothing), (true, false, 0, 0)),
+        ((Go, Ok(Start(0, 0)), Open(0)), (true, false, 1, 1)),
+        ((Stop(0), Ok(Interrupt(1, 0)), Nothing), (true, false, 2, 1)),
+        ((Go, Ok(Start(2, 1)), Open(1)), (true, false, 3, 2)),
+        ((Cut, Ok(Silent), Nothing), (false, true, 3, 2)),
+        ((Up, Ok(Silent), Nothing), (true, false, 3, 2)),
+        ((Down, Ok(Silent), Gone), (false, false, 3, 2)),
+        ((Up, Ok(Silent), Nothing), (true, false, 0, 2)),
     ];
     let mut session = new_session(rt.alloc())?;
     go_through(&rt, &mut session, &STEPS);
