@@ -84,13 +84,13 @@ pub struct Web<Y: Yard> {
 impl<Y: Yard + Send + Sync> Web<Y> {
     /// Serves the logs until the foreman ends it. Where memory or descriptors are wanting, so that it
     /// can't begin or go on, it begins anew after a while: who connects meanwhile waits. The answer
-    /// is whether it was served at the end.
+    /// is whether it was served at the end, or ended before it began.
     pub fn serve<R>(self, common: &Common<Y, R>) -> bool
     where
         R: Wait + Threads + Clock + RandomSource + AllocGlobal + Net + Copy + Drop + Send + Sync,
     {
         let rt = &common.rt;
-        let mut is_served = false;
+        let mut is_served = true;
         for _ in rt.forever() {
             match common.web.wait_for(rt, common.alloc) {
                 Ok(Some(stopped)) => is_served = self.serve_once(*rt, stopped),
