@@ -326,9 +326,10 @@ impl<Y: Yard, S: Read + Write + Drop> Desk<Y, S> {
     pub fn ping(&mut self)
         ensures { Pings S.contents self.old.link self.old self.new }
     {
-        if let Some(link) = &mut self.link {
-            let _ = link.ping(&self.carry);
-        }
+        let Some(link) = &mut self.link else {
+            return;
+        };
+        let _ = link.ping(&self.carry);
     }
 
     /// Tells the worker by a close frame that its connection ends, where the lane has a link.
@@ -336,9 +337,10 @@ impl<Y: Yard, S: Read + Write + Drop> Desk<Y, S> {
     pub fn close(&mut self)
         ensures { Closes S.contents self.old.link self.old self.new }
     {
-        if let Some(link) = &mut self.link {
-            let _ = link.close();
-        }
+        let Some(link) = &mut self.link else {
+            return;
+        };
+        let _ = link.close();
     }
 
     /// The worker's process has ended: from now on a cut lane is given up at once.
