@@ -1,6 +1,5 @@
 //! New connections of workers.
 
-use crate::common::Common;
 use crate::common::{Common, Guest};
 use crate::news::{News, Refused};
 use bm_clerk::{LOGIN_MS, WorkerStream, greet};
