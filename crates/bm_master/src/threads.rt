@@ -309,9 +309,10 @@ where
         + Drop
         + Send
         + Sync
+        + 's
         + 'static,
     O: Write + Drop + Send + 's,
-    F: Write + Drop + Send + 'static,
+    F: Write + Drop + Send + 's + 'static,
 {
     scope
         .spawn(move || {
@@ -381,10 +382,11 @@ where
         + Drop
         + Send
         + Sync
+        + 's
         + 'static,
     I: Read + Drop + Send + 's,
     O: Write + Drop + Send + 's,
-    F: Write + Drop + Send + 'static,
+    F: Write + Drop + Send + 's + 'static,
 {
     let Some(foreman) = start_foreman(scope, common, given) else {
         return (None, false);
@@ -413,10 +415,11 @@ where
         + Drop
         + Send
         + Sync
+        + 's
         + 'static,
     I: Read + Drop + Send + 's,
     O: Write + Drop + Send + 's,
-    F: Write + Drop + Send + 'static,
+    F: Write + Drop + Send + 's + 'static,
 {
     let Work {
         service,

@@ -50,7 +50,7 @@ pub struct Site<Y: Yard> {
     routes: Routes,
     lanes: Vec<Mutex<Viewer<Y>>>,
     /// Room for all viewers, so that they can be given back without memory.
-    room: Vec<Viewer<Y>>,
+    room: Mutex<Vec<Viewer<Y>>>,
     ghost some: { 0 < length lanes.items },
 }
 
@@ -59,7 +59,7 @@ impl<Y: Yard> Site<Y> {
     pub fn new(alloc: Global, viewers: Vec<Viewer<Y>>) -> Result<Site<Y>, AllocError>
         requires { 0 < length viewers.items }
     {
-        let room = Vec::with_capacity(alloc, viewers.len())?;
+        let room = Mutex::new(Vec::with_capacity(alloc, viewers.len())?);
         let mut lanes = Vec::with_capacity(alloc, viewers.len())?;
         for viewer in viewers {
             lanes.push(Mutex::new(viewer))?;
@@ -100,7 +100,7 @@ impl<Y: Yard> Site<Y> {
     /// The viewers, given back, where nobody else holds the site any more.
     pub fn into_viewers(site: Arc<Site<Y>>) -> Option<Vec<Viewer<Y>>> {
         let site = Arc::into_inner(site)?;
-        let mut viewers = site.room;
+        let mut viewers = site.room.into_inner();
         for lane in site.lanes {
             viewers.push(lane.into_inner()).ok()?;
         }
