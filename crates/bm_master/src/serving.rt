@@ -5,6 +5,7 @@ ghost use Rattle.bm_lane.specs.Placed.{ArePlaced};
 use crate::common::{Common, Guest, flags_of};
 use crate::foreman::Left;
 use crate::news::{Letters, Mail, open_mail};
+use crate::remarks::Remarks;
 use crate::seat::{Seat, seats_of};
 use crate::threads::{Came, Lead, Service, run_threads};
 use crate::web::WebStop;
@@ -55,10 +56,10 @@ impl Sockets {
 
 /// The streams of a master.
 #[derive(Drop)]
-struct Streams<I, O, F> {
+struct Streams<I, O> {
     input: I,
     output: O,
-    faults: F,
+    remarks: Option<Remarks>,
 }
 
 // Tells of a key at fault.
@@ -107,12 +108,13 @@ where
         return BAD;
     };
     let sockets = Sockets { workers, web };
+    let remarks = Remarks::open(rt, alloc, faults);
     let streams = Streams {
         input,
         output,
-        faults,
+        remarks,
     };
-    match run::<Brand, R, I, O, F>(rt, alloc, blanks, config, sockets, streams) {
+    match run::<Brand, R, I, O>(rt, alloc, blanks, config, sockets, streams) {
         Some(true) => GOOD,
         Some(false) | None => BAD,
     }
@@ -264,37 +266,37 @@ fn gear_of<Y: Yard, R: Wait + Clock + Copy + Drop>(
 
 /// What a master is given.
 #[derive(Drop)]
-struct Given<O, F> {
+struct Given<O> {
     config: Config,
     sockets: Sockets,
     output: O,
-    faults: F,
+    remarks: Option<Remarks>,
 }
 
 /// All that the threads begin with.
 #[derive(Drop)]
-struct Start<Y: Yard, R: Wait + Clock + Drop, O, F> {
+struct Start<Y: Yard, R: Wait + Clock + Drop, O> {
     common: Common<Y, R>,
     service: Service<Y, R>,
-    given: Lead<Y, O, F>,
+    given: Lead<Y, O>,
     /// What the web looks through, which comes back from here.
     site: Arc<Site<Y>>,
 }
 
 // All that the threads begin with.
-fn start_of<Y: Yard, R: Wait + Clock + Copy + Drop, O: Drop, F: Drop>(
+fn start_of<Y: Yard, R: Wait + Clock + Copy + Drop, O: Drop>(
     rt: &R,
     alloc: Global,
-    given: Given<O, F>,
+    given: Given<O>,
     gear: Gear<Y, R>,
     desks: Vec<Desk<Y, Guest<R>>>,
     lanes: Vec<Mutex<WriterEnd<Y, R>>>,
-) -> Start<Y, R, O, F> {
+) -> Start<Y, R, O> {
     let Given {
         config,
         sockets,
         output,
-        faults,
+        remarks,
     } = given;
     let Gear {
         ways,
@@ -335,20 +337,20 @@ fn start_of<Y: Yard, R: Wait + Clock + Copy + Drop, O: Drop, F: Drop>(
             roster: crew.roster,
             seats: crew.seats,
             output,
-            faults,
+            remarks,
         },
         site: sites.at_the_end,
     }
 }
 
 // Makes all that the threads begin with. None where memory or a door is wanting.
-fn prepare<Y: Yard, R: Wait + Clock + Copy + Drop, O: Drop, F: Drop>(
+fn prepare<Y: Yard, R: Wait + Clock + Copy + Drop, O: Drop>(
     rt: &R,
     alloc: Global,
     parts: Parts<Y, R, Guest<R>>,
-    given: Given<O, F>,
+    given: Given<O>,
     workers: SocketAddr,
-) -> Option<Start<Y, R, O, F>> {
+) -> Option<Start<Y, R, O>> {
     let Parts {
         desks,
         writers,
@@ -384,13 +386,13 @@ fn parts_of<Y: Yard, R: Wait + Clock + Drop>(
 
 // Runs a master over these blanks, and answers whether all went well. None where it could not
 // begin.
-fn run<Y, R, I, O, F>(
+fn run<Y, R, I, O>(
     rt: &R,
     alloc: Global,
     blanks: Vec<Blank<R>>,
     config: Config,
     sockets: Sockets,
-    streams: Streams<I, O, F>,
+    streams: Streams<I, O>,
 ) -> Option<bool>
 where
     Y: Yard + Send + Sync,
@@ -404,11 +406,9 @@ where
         + Copy
         + Drop
         + Send
-        + Sync
-        + 'static,
+        + Sync,
     I: Read + Drop + Send,
     O: Write + Drop + Send,
-    F: Write + Drop + Send + 'static,
     requires placed { ArePlaced Y.queue Y.copy 0 blanks.items }
 {
     let at = sockets.listen();
@@ -416,13 +416,13 @@ where
     let Streams {
         input,
         output,
-        faults,
+        remarks,
     } = streams;
     let given = Given {
         config,
         sockets,
         output,
-        faults,
+        remarks,
     };
     match at.zip(parts) {
         Some((at, parts)) => {
@@ -440,11 +440,7 @@ where
 
 // Runs the threads to their end. The answer is whether all went well, or None where they could not
 // begin.
-fn work<Y, R, I, O, F>(
-    start: Option<Start<Y, R, O, F>>,
-    listening: Report<'_>,
-    input: I,
-) -> Option<bool>
+fn work<Y, R, I, O>(start: Option<Start<Y, R, O>>, listening: Report<'_>, input: I) -> Option<bool>
 where
     Y: Yard + Send + Sync,
     R: Wait
@@ -457,11 +453,9 @@ where
         + Copy
         + Drop
         + Send
-        + Sync
-        + 'static,
+        + Sync,
     I: Read + Drop + Send,
     O: Write + Drop + Send,
-    F: Write + Drop + Send + 'static,
 {
     let (start, input) = start.zip(Some(input))?;
     let Start {
@@ -482,10 +476,10 @@ where
 }
 
 // Runs the threads, once it is told that they listen: where that can't be told nobody could connect.
-fn work_on<Y, R, I, O, F>(
+fn work_on<Y, R, I, O>(
     common: &Common<Y, R>,
     service: Service<Y, R>,
-    given: Lead<Y, O, F>,
+    given: Lead<Y, O>,
     input: I,
     listening: Report<'_>,
 ) -> Option<Came<Y, O>>
@@ -501,11 +495,9 @@ where
         + Copy
         + Drop
         + Send
-        + Sync
-        + 'static,
+        + Sync,
     I: Read + Drop + Send,
     O: Write + Drop + Send,
-    F: Write + Drop + Send + 'static,
 {
     let mut given = given;
     if write_report(common.alloc, listening, &mut given.output) {

@@ -41,12 +41,13 @@ pub struct Service<Y: Yard, R: Wait + Clock + Drop> {
 
 /// What the foreman is given.
 #[derive(Drop)]
-pub struct Lead<Y: Yard, O, F> {
+pub struct Lead<Y: Yard, O> {
     pub letters: Letters<Y>,
     pub roster: Roster<Y>,
     pub seats: Vec<Seat>,
     pub output: O,
-    pub faults: F,
+    /// Where remarks are told, where there is a thread that writes them.
+    pub remarks: Option<Remarks>,
 }
 
 /// What the threads leave.
@@ -244,29 +245,19 @@ impl<Y: Yard> Staff<Y> {
 }
 
 // Does the foreman's work, with the threads of builds below it.
-fn run_foreman<Y, R, O, F>(common: &Common<Y, R>, given: Lead<Y, O, F>) -> Left<Y, O>
+fn run_foreman<Y, R, O>(common: &Common<Y, R>, given: Lead<Y, O>) -> Left<Y, O>
 where
     Y: Yard + Send + Sync,
-    R: Wait
-        + Clock
-        + Threads
-        + Processes<Started = SystemProcess>
-        + Copy
-        + Drop
-        + Send
-        + Sync
-        + 'static,
+    R: Wait + Clock + Threads + Processes<Started = SystemProcess> + Drop + Send + Sync,
     O: Write + Drop,
-    F: Write + Drop + Send + 'static,
 {
     let Lead {
         letters,
         roster,
         seats,
         output,
-        faults,
+        remarks,
     } = given;
-    let remarks = Remarks::open(&common.rt, common.alloc, faults);
     let has_failed = remarks.is_none();
     thread::scope(
         thread::scope_env(),
@@ -294,25 +285,15 @@ where
 }
 
 // Starts the foreman, who ends the web at the end.
-fn start_foreman<'s, E, Y, R, O, F>(
+fn start_foreman<'s, E, Y, R, O>(
     scope: &Scope<'s, E>,
     common: &'s Common<Y, R>,
-    given: Lead<Y, O, F>,
+    given: Lead<Y, O>,
 ) -> Option<JoinHandle<Left<Y, O>>>
 where
     Y: Yard + Send + Sync + 's,
-    R: Wait
-        + Clock
-        + Threads
-        + Processes<Started = SystemProcess>
-        + Copy
-        + Drop
-        + Send
-        + Sync
-        + 's
-        + 'static,
+    R: Wait + Clock + Threads + Processes<Started = SystemProcess> + Drop + Send + Sync + 's,
     O: Write + Drop + Send + 's,
-    F: Write + Drop + Send + 's + 'static,
 {
     scope
         .spawn(move || {
@@ -343,9 +324,9 @@ where
 
 /// What the threads do their work with.
 #[derive(Drop)]
-struct Work<Y: Yard, R: Wait + Clock + Drop, I, O, F> {
+struct Work<Y: Yard, R: Wait + Clock + Drop, I, O> {
     service: Service<Y, R>,
-    given: Lead<Y, O, F>,
+    given: Lead<Y, O>,
     input: I,
     /// Room for the clerks.
     clerks: Vec<JoinHandle<ReaderEnd<Y>>>,
@@ -362,10 +343,10 @@ struct Done<Y: Yard, O> {
 }
 
 // Serves the web while the foreman works. The answer is also whether all of it was done.
-fn work_and_serve<'s, E, Y, R, I, O, F>(
+fn work_and_serve<'s, E, Y, R, I, O>(
     scope: &Scope<'s, E>,
     common: &'s Common<Y, R>,
-    given: Lead<Y, O, F>,
+    given: Lead<Y, O>,
     input: I,
     web: Web<Y>,
 ) -> (Option<Left<Y, O>>, bool)
@@ -382,11 +363,9 @@ where
         + Drop
         + Send
         + Sync
-        + 's
-        + 'static,
+        + 's,
     I: Read + Drop + Send + 's,
     O: Write + Drop + Send + 's,
-    F: Write + Drop + Send + 's + 'static,
 {
     let Some(foreman) = start_foreman(scope, common, given) else {
         return (None, false);
@@ -397,10 +376,10 @@ where
 }
 
 // Has the staff and the foreman work until the end.
-fn work_through<'s, E, Y, R, I, O, F>(
+fn work_through<'s, E, Y, R, I, O>(
     scope: &Scope<'s, E>,
     common: &'s Common<Y, R>,
-    work: Work<Y, R, I, O, F>,
+    work: Work<Y, R, I, O>,
 ) -> Done<Y, O>
 where
     Y: Yard + Send + Sync + 's,
@@ -415,11 +394,9 @@ where
         + Drop
         + Send
         + Sync
-        + 's
-        + 'static,
+        + 's,
     I: Read + Drop + Send + 's,
     O: Write + Drop + Send + 's,
-    F: Write + Drop + Send + 's + 'static,
 {
     let Work {
         service,
@@ -454,7 +431,7 @@ where
 }
 
 // The same, once all threads have ended.
-fn work_to_end<Y, R, I, O, F>(common: &Common<Y, R>, work: Work<Y, R, I, O, F>) -> Done<Y, O>
+fn work_to_end<Y, R, I, O>(common: &Common<Y, R>, work: Work<Y, R, I, O>) -> Done<Y, O>
 where
     Y: Yard + Send + Sync,
     R: Wait
@@ -467,18 +444,16 @@ where
         + Copy
         + Drop
         + Send
-        + Sync
-        + 'static,
+        + Sync,
     I: Read + Drop + Send,
     O: Write + Drop + Send,
-    F: Write + Drop + Send + 'static,
 {
     let done = thread::scope(
         thread::scope_env(),
         &common.rt,
         |scope| -> Done<Y, O>
             requires { IsSend Y.row × IsSync Y.row × IsSend R.row × IsSync R.row × IsSend I.row
-                × IsSend O.row × IsSend F.row }
+                × IsSend O.row }
         { work_through(scope, common, work) },
     );
     done
@@ -486,10 +461,10 @@ where
 
 /// Runs all threads, and joins them. None where one of them could not be started, or memory is
 /// wanting.
-pub fn run_threads<Y, R, I, O, F>(
+pub fn run_threads<Y, R, I, O>(
     common: &Common<Y, R>,
     service: Service<Y, R>,
-    given: Lead<Y, O, F>,
+    given: Lead<Y, O>,
     input: I,
 ) -> Option<Came<Y, O>>
 where
@@ -504,11 +479,9 @@ where
         + Copy
         + Drop
         + Send
-        + Sync
-        + 'static,
+        + Sync,
     I: Read + Drop + Send,
     O: Write + Drop + Send,
-    F: Write + Drop + Send + 'static,
 {
     let lanes = common.lanes.len();
     let clerks = Vec::with_capacity(common.alloc, lanes).ok();

@@ -10,10 +10,7 @@ scope-requires g c = let b = c.requires.1.1.1.1.1.1 in (
       search (sendable, b.2),
       (
         search (sendable, b.3),
-        (
-          search (sendable, b.4),
-          search (sendable, b.5, b.6),
-        ),
+        search (sendable, b.4, b.5),
       ),
     ),
   ),
