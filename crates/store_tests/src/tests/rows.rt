@@ -34,7 +34,10 @@ fn no_line_follows_what_is_enough(rt: HostRuntime) {
         (PieceOf("stdio", 1, 9, 4), Slice(1, 2, "ob\nocccc\n")),
         (PieceOf("stdio", 0, 9, 6), Slice(0, 2, "oa\nob\n")),
         (PieceOf("stdio", 2, 1, 99), Slice(2, 1, "occcc\n")),
-        (PieceOf("stdio", 0, 9, 99), Slice(0, 5, "oa\nob\nocccc\nod\noe\n")),
+        (
+            PieceOf("stdio", 0, 9, 99),
+            Slice(0, 5, "oa\nob\nocccc\nod\noe\n"),
+        ),
         (PieceOf("stdio", 3, 9, 0), Slice(3, 0, "")),
         (PieceOf("stdio", 7, 9, 9), Slice(7, 0, "")),
         (PieceOf("l", 0, 9, 9), NoLog),
