@@ -1,14 +1,13 @@
 -- The texts of a pipe are short enough to be said.
-use Rattle.std.proofs.Common.{◌≡◌, refl, subst, ℕ, zero, suc, ◌+◌, ◌*◌, ◌-◌, ◌<◌, ◌≤◌, ◌==◌, ◌||◌, Bool, true, false, List, [], ◌∷◌, ◌++◌, length, take, drop, All, Option, Some, None, nat_lt, if◌then◌else◌, arith}
+use Rattle.std.proofs.Common.{◌≡◌, refl, subst, ℕ, zero, suc, ◌+◌, ◌*◌, ◌-◌, ◌<◌, ◌≤◌, ◌==◌, ◌||◌, Bool, true, false, List, [], ◌∷◌, ◌++◌, length, take, drop, Option, Some, None, nat_lt, if◌then◌else◌, arith}
 use Rattle.std.specs.Option.{unwrap_or}
 use Rattle.std.specs.Str.Lossy.{utf8_lossy, utf8_lossy_within, utf8_valid_len, utf8_invalid_len, utf8_error_len, error_len_after_two, error_len_after_one, error_len_of_some, after_first_chunk, replacement_bytes, second_byte_min, second_byte_max}
 use Rattle.std.specs.Int.{is_in_range}
 use Rattle.std.specs.List.{slice_index}
 use Rattle.std.proofs.lemmas.Bool.Decides.{nat_tests}
 use Rattle.std.proofs.lemmas.List.{length-append, length-take-le, length-drop}
-use Rattle.std.proofs.lemmas.List.Elements.{All-nil, All-cons}
 use Rattle.std.proofs.lemmas.Str.{utf8_valid_len_le}
-use Rattle.bm_work.specs.Cuts.{texts_after, texts_of, left_after, left_of, last_text, ends_text, shown}
+use Rattle.bm_work.specs.Cuts.{left_after, left_of, last_text, ends_text}
 
 some-if : (b : Bool) (p q : Option ℕ) (n : ℕ) → 0 < unwrap_or p n → 0 < unwrap_or q n → 0 < unwrap_or (if b then p else q) n
 some-if true p q n hp hq = hp
@@ -84,25 +83,6 @@ goes-on line b plain h = go (b == 10) (length line + 1 == 16384) refl plain
     go true second is e = cc
     go false true is e = cc
     go false false is e = let one : length (line ++ b ∷ []) ≡ length line + 1 = length-one line b in grind (arith, nat_tests)
-
-abbrev AreShort : List (List ℕ) → Type 0
-AreShort texts = All (λ t. length t ≤ 65536) (shown texts)
-
-short-first : (line : List ℕ) (b : ℕ) (bs : List ℕ) (t : Bool) → length line < 16384 → ends_text line b ≡ t → AreShort (texts_after [] bs)
-    → (length (line ++ b ∷ []) < 16384 → AreShort (texts_after (line ++ b ∷ []) bs))
-    → AreShort (if t then (line ++ b ∷ []) ∷ texts_after [] bs else texts_after (line ++ b ∷ []) bs)
-short-first line b bs true h e new more =
-    let grown : length (line ++ b ∷ []) ≡ length line + 1 = length-one line b in
-    All-cons (λ t. length t ≤ 65536) (utf8_lossy (line ++ b ∷ [])) (shown (texts_after [] bs)) (lossy_short (line ++ b ∷ []) (omega arith)) new
-short-first line b bs false h e new more = more (goes-on line b e h)
-
-short-after : (line bytes : List ℕ) → length line < 16384 → AreShort (texts_after line bytes)
-short-after line [] h = All-nil (λ t. length t ≤ 65536)
-short-after line (b ∷ bs) h =
-    short-first line b bs (ends_text line b) h refl (short-after [] bs (omega arith)) (λ less. short-after (line ++ b ∷ []) bs less)
-
-pub texts_short : (bytes : List ℕ) → All (λ t. length t ≤ 65536) (shown (texts_of bytes))
-texts_short bytes = short-after [] bytes (omega arith)
 
 left-first : (line : List ℕ) (b : ℕ) (bs : List ℕ) (t : Bool) → ends_text line b ≡ t → length (left_after [] bs) < 16384
     → (length (line ++ b ∷ []) < 16384 → length (left_after (line ++ b ∷ []) bs) < 16384) → length line < 16384

@@ -1,3 +1,5 @@
 mod Joins
 mod Lengths
+mod Lossy
+mod Stretches
 mod Queue

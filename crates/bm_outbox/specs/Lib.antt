@@ -1,6 +1,7 @@
 pub mod Items
 pub mod Telling
 pub mod Joining
+pub mod Stretches
 pub mod Headers
 pub mod Pipes
 pub mod Pieces

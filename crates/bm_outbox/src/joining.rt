@@ -1,9 +1,12 @@
 //! Texts of one pipe are joined.
 
 ghost use Rattle.std.specs.Prelude.{◌≡◌, ◌≤◌, [], All, length, IfOk, OnOk, IsFalse, IsTrue, string_bytes, map};
-ghost use Rattle.bm_outbox.specs.Joining.{Fit, Adds, AreApart, IsJoined, texts_of, all_of, whole_of, lines_in};
+ghost use Rattle.bm_outbox.specs.Joining.{Fit, Adds, IsJoined, texts_of, all_of};
+ghost use Rattle.bm_outbox.specs.Stretches.{AddsAll, IsStretch};
+ghost use Rattle.bm_work.specs.Cuts.{texts_of as cut_texts, left_of, shown};
 
 use crate::said::{MOST_BYTES, Said};
+use crate::stretch::stretch_end;
 use bm_lines::{Letter, Text};
 use std::alloc::{AllocError, Global};
 use std::marker::Model;
@@ -33,33 +36,49 @@ impl Model for Joiner {
 }
 
 impl Joiner {
-    fn new(alloc: Global, letter: Letter) -> Joiner
-        ensures { result ≡ record { letter = letter; done = []; current = [] } }
+    /// One text, which may grow.
+    fn new(alloc: Global, letter: Letter, first: String) -> Joiner
+        requires { length (string_bytes first) ≤ 65536 }
+        ensures { result ≡ record { letter = letter; done = []; current = string_bytes first } }
     {
         Joiner {
             letter,
             done: Vec::new(alloc),
-            current: String::new(alloc),
+            current: first,
         }
     }
 
     /// Adds a text to the one that may grow, where both fit into one; or else begins another one
     /// with it.
-    fn add(&mut self, text: &str) -> Result<(), AllocError>
-        requires { length text.now ≤ 65536 }
-        ensures { OnOk result (Adds self.old text.now self.new) }
+    fn add(&mut self, text: String) -> Result<(), AllocError>
+        requires { length (string_bytes text) ≤ 65536 }
+        ensures { OnOk result (Adds self.old (string_bytes text) self.new) }
     {
-        if fit(self.current.as_str(), text) {
-            self.current.push_str(text)?;
+        if fit(self.current.as_str(), text.as_str()) {
+            self.current.push_str(text.as_str())?;
             return Ok(());
         }
-        let next = String::from_str(*self.done.allocator(), text)?;
-        let before = mem::replace(&mut self.current, next);
+        let before = mem::replace(&mut self.current, text);
         self.done.push(Said {
             letter: self.letter,
             text: Text::from_string(before),
         })?;
         Ok(())
+    }
+
+    /// Adds what is shown of bytes, stretch by stretch, and gives the bytes behind the last text.
+    fn add_all<'a>(&mut self, bytes: &'a [u8]) -> Result<&'a [u8], AllocError>
+        ensures added { OnOk result (AddsAll self.old bytes.now self.new) }
+        ensures left { IfOk result (λ left. left.now ≡ left_of bytes.now) }
+    {
+        let alloc = *self.done.allocator();
+        let mut rest = bytes;
+        while let Some(end) = stretch_end(rest) {
+            let (front, back) = rest.split_at(end);
+            self.add(String::from_utf8_lossy(alloc, front)?)?;
+            rest = back;
+        }
+        Ok(rest)
     }
 
     /// All texts, in order.
@@ -99,40 +118,24 @@ fn fit(first: &str, second: &str) -> bool
     first.as_bytes()[first.len() - 1] == b'\n'
 }
 
-/// The texts, joined.
-fn join_all(alloc: Global, letter: Letter, texts: &[Text]) -> Result<Joiner, AllocError>
-    requires { All (λ t. length t ≤ 65536) texts.now }
-    ensures letter { IfOk result (λ j. j.letter ≡ letter) }
-    ensures text { IfOk result (λ j. whole_of (all_of j) ≡ whole_of texts.now) }
-    ensures lines { IfOk result (λ j. lines_in letter (all_of j) ≡ lines_in letter texts.now) }
-    ensures apart { IfOk result (λ j. AreApart (all_of j)) }
-{
-    let mut joiner = Joiner::new(alloc, letter);
-    for text in texts {
-        joiner.add(text.as_str())?;
-    }
-    Ok(joiner)
-}
-
-/// The texts of a pipe that lie ready, joined to fewer: what is said is their text in order, each
-/// of at most 65,536 bytes, and its lines are their lines. All that fits is joined.
-pub(crate) fn joined(
+/// What is said of bytes of a pipe whose first stretch ends there: their texts in order, each of at
+/// most 65,536 bytes, with their lines. All that fits is joined. The bytes behind the last text
+/// follow.
+pub(crate) fn joined<'a>(
     alloc: Global,
     letter: Letter,
-    texts: Vec<Text>,
-) -> Result<Vec<Said>, AllocError>
-    requires { All (λ t. length t ≤ 65536) texts.items }
-    ensures { IfOk result (λ v. IsJoined letter texts.items v.items) }
+    bytes: &'a [u8],
+    end: usize,
+) -> Result<(Vec<Said>, &'a [u8]), AllocError>
+    requires { IsStretch bytes.now end }
+    ensures said { IfOk result (λ r. IsJoined letter (shown (cut_texts bytes.now)) r.0.items) }
+    ensures left { IfOk result (λ r. r.1.now ≡ left_of bytes.now) }
 {
-    if texts.is_empty() {
-        return Ok(Vec::new(alloc));
-    }
-    let joiner = match join_all(alloc, letter, texts.as_slice()) {
-        Ok(joiner) => joiner,
-        Err(error) => return Err(error),
-    };
+    let (front, back) = bytes.split_at(end);
+    let mut joiner = Joiner::new(alloc, letter, String::from_utf8_lossy(alloc, front)?);
+    let left = joiner.add_all(back)?;
     match joiner.finish() {
-        Ok(said) => Ok(said),
+        Ok(said) => Ok((said, left)),
         Err(error) => Err(error),
     }
 }

@@ -11,6 +11,7 @@ mod pipe_texts;
 mod pipes;
 mod said;
 mod session;
+mod stretch;
 mod tries;
 mod turn;
 mod words;

@@ -7,15 +7,17 @@ ghost use Rattle.bm_outbox.specs.Pieces.{IsLast};
 
 use crate::joining::joined;
 use crate::said::Said;
-use bm_lines::Letter;
-use bm_work::Assembler;
+use crate::stretch::stretch_end;
+use bm_lines::{Letter, Text};
 use std::alloc::{AllocError, Global};
 use std::marker::Model;
+use std::mem;
 
 /// What a pipe gives, as texts that can be said.
 #[derive(Drop)]
 pub struct PipeTexts {
-    assembler: Assembler,
+    letter: Letter,
+    kept: Vec<u8>,
 }
 
 impl Model for PipeTexts {
@@ -24,9 +26,9 @@ impl Model for PipeTexts {
 
     ghost Value = { Assembling };
 
-    ghost view = { λ p. p.assembler };
+    ghost view = { λ p. record { letter = p.letter; kept = p.kept.items } };
 
-    ghost invariant = { λ p. length p.assembler.kept < 16384 };
+    ghost invariant = { λ p. length p.kept.items < 16384 };
 }
 
 impl PipeTexts {
@@ -35,7 +37,8 @@ impl PipeTexts {
         ensures { result ≡ record { letter = letter; kept = [] } }
     {
         PipeTexts {
-            assembler: Assembler::new(alloc, letter),
+            letter,
+            kept: Vec::new(alloc),
         }
     }
 
@@ -45,16 +48,24 @@ impl PipeTexts {
     /// # Errors
     ///
     /// Want of memory. Bytes of the pipe may be lost then.
-    #[tactic(auto, using(crate::proofs::Lengths::texts_short, crate::proofs::Lengths::left_short))]
+    #[tactic(auto, using(crate::proofs::Lengths::left_short))]
     pub fn take(&mut self, alloc: Global, bytes: &[u8]) -> Result<Vec<Said>, AllocError>
         ensures said { IfOk result (λ v. IsJoined self.old.letter
             (shown (cut_texts (self.old.kept ++ bytes.now))) v.items) }
         ensures kept { OnOk result (self.new
             ≡ record self.old { kept = left_of (self.old.kept ++ bytes.now) }) }
     {
-        let letter = self.assembler.letter();
-        match self.assembler.feed(bytes) {
-            Ok(texts) => joined(alloc, letter, texts),
+        let mut all = mem::replace(&mut self.kept, Vec::new(alloc));
+        all.extend_from_slice(bytes)?;
+        let Some(end) = stretch_end(all.as_slice()) else {
+            self.kept = all;
+            return Ok(Vec::new(alloc));
+        };
+        match joined(alloc, self.letter, all.as_slice(), end) {
+            Ok((said, left)) => {
+                self.kept = Vec::from_slice(alloc, left)?;
+                Ok(said)
+            }
             Err(error) => Err(error),
         }
     }
@@ -70,11 +81,14 @@ impl PipeTexts {
         ensures said { IfOk result (IsLast self.old) }
         ensures kept { OnOk result (self.new ≡ record self.old { kept = [] }) }
     {
-        let letter = self.assembler.letter();
-        match self.assembler.rest() {
-            Ok(Some(text)) => Ok(Some(Said { letter, text })),
-            Ok(None) => Ok(None),
-            Err(error) => Err(error),
+        if self.kept.is_empty() {
+            return Ok(None);
         }
+        let text = String::from_utf8_lossy(*self.kept.allocator(), self.kept.as_slice())?;
+        self.kept.clear();
+        Ok(Some(Said {
+            letter: self.letter,
+            text: Text::from_string(text),
+        }))
     }
 }

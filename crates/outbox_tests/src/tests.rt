@@ -196,6 +196,7 @@ fn whole_lines_are_joined(rt: HostRuntime) {
         says_of_many(alloc, b'x', 16_384, 1)
             && says_of_many(alloc, b'x', 40_000, 2)
             && says_of_many(alloc, b'\n', 70_000, 2)
+            && says_of_many(alloc, 0xFF, 40_000, 2)
     );
     assert!(rt; keeps_a_rest(alloc));
 }
