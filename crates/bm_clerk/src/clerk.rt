@@ -279,6 +279,7 @@ where
     /// A link takes the lane up, or is told why not.
     fn admit(&mut self, link: MasterLink<WorkerStream<S, R>>) {
         let before = self.desk.standing();
+        let from = link.get_ref().from();
         let answer = self.desk.attach(self.rt, self.alloc, link);
         match answer {
             Ok(attached) => {
@@ -296,7 +297,7 @@ where
             }
             Err(fault) => {
                 self.note(before, LossCause::Replaced);
-                self.tell.tell(Notice::Declined(fault));
+                self.tell.tell(Notice::Declined(fault, from));
             }
         }
         self.is_lively = true;

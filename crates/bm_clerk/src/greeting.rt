@@ -1,6 +1,6 @@
 //! The greeting of a new connection: its handshake and its login.
 
-ghost use Rattle.std.specs.Prelude.{◌≡◌, IfOk, IfSome};
+ghost use Rattle.std.specs.Prelude.{◌≡◌, IfOk, IfSome, slice_get};
 ghost use Rattle.bm_clerk.specs.Greeting.{IsLoggedIn};
 
 use crate::door::{Door, Handed};
@@ -61,6 +61,13 @@ fn admit<S: Read + Write + Drop>(
     }
 }
 
+/// The name of the user at this place, where there is memory for it.
+fn name_of(users: &[User], place: usize) -> Option<Text>
+    ensures { IfSome result (λ name. IfSome (slice_get users.now place) (λ u. name ≡ u.name)) }
+{
+    users.get(place)?.name.copy().ok()
+}
+
 /// The door of the lane with this number.
 fn door_of<S: Drop>(doors: &[Door<S>], lane: usize) -> Option<&Door<S>>
     ensures { IfSome result (λ door. door.now ≡ lane) }
@@ -94,7 +101,8 @@ fn hand<S: Read + Write + Drop, R: Wait + Clock>(
 
 /// Greets a worker on a new connection, within some 10 seconds, and hands its link through its
 /// lane's door. The result is the number of the lane, which is the place of the worker's user.
-/// `refused` becomes the name of a login that is refused as one of no user, where it isn't long.
+/// `refused` becomes the name of a login that is refused: as one of no user, where that isn't long,
+/// or at its lane's door.
 ///
 /// # Errors
 ///
@@ -128,6 +136,9 @@ where
     };
     match hand(rt, alloc, door, visitor) {
         Ok(()) => Ok(place),
-        Err(fault) => Err(fault),
+        Err(fault) => {
+            *refused = name_of(users, place);
+            Err(fault)
+        }
     }
 }

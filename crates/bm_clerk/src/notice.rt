@@ -7,6 +7,7 @@ use bm_lane::{HearRefusal, ReaderEnd, Yard};
 use bm_link::LinkFault;
 use bm_rules::{LossCause, Standing};
 use bm_session::Refusal;
+use std::net::SocketAddr;
 
 /// What a clerk tells the foreman.
 #[derive(Clone, Copy, PartialEq, Eq)]
@@ -19,9 +20,9 @@ pub enum Notice {
     Cut(LossCause),
     /// The session was given up for this cause: each of its open commands has ended.
     Lost(LossCause),
-    /// A login of the worker was declined for this cause, which it was told as `already up`, `busy`
-    /// or `full`; or the answer to it could not be sent.
-    Declined(LinkFault),
+    /// A login of the worker, from this address, was declined for this cause, which it was told as
+    /// `already up`, `busy` or `full`; or the answer to it could not be sent.
+    Declined(LinkFault, SocketAddr),
     /// A command was refused, since the lane has had as many events as it may. A loss and a
     /// declined login tell that by their cause.
     Filled,

@@ -1,14 +1,14 @@
 //! A build's port to its worker's lane: it orders through the lane's door, and looks through a
 //! viewer of its own.
 
-ghost use Rattle.std.specs.Prelude.{◌≡◌, false};
+ghost use Rattle.std.specs.Prelude.{◌≡◌, ◌≤◌, ◌++◌, false, codes, length, IfSome};
 ghost use Rattle.bm_clerk.specs.Ports.{Begins, Looks, is_left_out, is_lost, polled};
 
 use crate::door::{Door, Order, Told};
 use crate::heard::ByteCount;
 use bm_board::{StepPlan, Words};
 use bm_lane::{Viewer, Yard};
-use bm_lines::STDIO;
+use bm_lines::{STDIO, Text};
 use bm_rules::{StartRefusal, StepLimit, StepMeter};
 use bm_runner::{Entries, Polled, Port};
 use bm_session::Results;
@@ -24,6 +24,9 @@ use std::time::{Clock, Duration};
 /// How long a tick is, in milliseconds.
 const TICK: u64 = 10;
 
+/// How many bytes a line of headers may have that is told of.
+const MOST_SAID: usize = 256;
+
 /// Who is told of a build's steps as they run.
 pub trait Watch {
     /// The step was started as this command of its lane.
@@ -35,8 +38,9 @@ pub trait Watch {
     /// The step was not started. Where its build was cancelled before, that cancel is carried out.
     fn refused(&mut self, step: &StepPlan, why: StartRefusal);
 
-    /// The command ended so.
-    fn ended(&mut self, command: u64, outcome: Results);
+    /// The command ended so. `said` is what its worker said last of one that ended EXCEPTION, where
+    /// that is a line of headers behind the first, and no long one.
+    fn ended(&mut self, command: u64, outcome: Results, said: Option<Text>);
 }
 
 /// The number of no command: that of a step whose build was cancelled before it was started.
@@ -96,6 +100,19 @@ fn is_left_out(is_cancelled: bool, always_run: bool) -> bool
     ensures { result ≡ is_left_out is_cancelled always_run }
 {
     is_cancelled && !always_run
+}
+
+/// What a line of a log says, where it is one of headers, and no longer than is told of it.
+fn header_in(alloc: Global, line: &str) -> Option<Text>
+    ensures { IfSome result (λ said. (line.now ≡ codes "h" ++ (said ++ codes "\n"))
+        × (length said ≤ 256)) }
+{
+    let said = line.strip_prefix("h")?.strip_suffix("\n")?;
+    if said.len() <= MOST_SAID {
+        Text::from_str(alloc, said).ok()
+    } else {
+        None
+    }
 }
 
 /// Whether a command that ended so did by the loss of its lane.
@@ -174,7 +191,8 @@ impl<'a, Y: Yard, S: Drop, R: Wait + Clock, W: Watch + Drop> Port for LanePort<'
             if is_lost(outcome) {
                 settle(self.rt, self.alloc, &self.door);
             }
-            self.watch.ended(k, outcome);
+            let said = self.said(k, outcome);
+            self.watch.ended(k, outcome, said);
         }
         said
     }
@@ -317,6 +335,24 @@ impl<'a, Y: Yard, S: Drop, R: Wait + Clock, W: Watch + Drop> LanePort<'a, Y, S, 
     {
         let is_cancelled = self.cancelled.load(Ordering::SeqCst);
         polled(self.viewer.state(k, STDIO), is_cancelled)
+    }
+
+    /// What its worker said last of a command that ended so, where that is to be told.
+    fn said(&mut self, k: u64, outcome: Results) -> Option<Text>
+        ensures told { self.new.told ≡ self.old.told }
+        ensures refused { self.new.refused ≡ self.old.refused }
+    {
+        if outcome != Results::Exception {
+            return None;
+        }
+        let lines = match self.viewer.state(k, STDIO) {
+            Ok(state) if state.lines > 1 => state.lines,
+            _ => return None,
+        };
+        match self.viewer.chunk(k, STDIO, lines - 1, 1) {
+            Ok(chunk) => header_in(self.alloc, chunk.content.as_str()),
+            Err(_) => None,
+        }
     }
 
     /// What is to be said of a command that was seen so a tick later: where it has reached a limit

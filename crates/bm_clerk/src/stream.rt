@@ -5,7 +5,7 @@ ghost use Rattle.std.specs.Io.{WritesAtMost};
 use std::alloc::Global;
 use std::io;
 use std::io::{ErrorKind, Read, Write};
-use std::net::TcpStream;
+use std::net::{SocketAddr, TcpStream};
 use std::sync::Arc;
 use std::sync::atomic::{AtomicBool, AtomicU64, Ordering};
 use std::time::{Clock, Duration, Instant};
@@ -61,6 +61,8 @@ impl Timed for TcpStream {
 pub struct WorkerStream<S, R> {
     stream: S,
     rt: R,
+    /// Where it came from.
+    from: SocketAddr,
     /// When the time for its login is over. Where the clock failed it is over at once.
     login_ends: Option<Instant>,
     is_in: AtomicBool,
@@ -88,8 +90,14 @@ fn meets_nothing(kind: ErrorKind) -> bool {
 }
 
 impl<S, R: Clock> WorkerStream<S, R> {
-    /// A connection whose time for the login begins. It ends with what sets the flag.
-    pub fn new(rt: R, stream: S, is_over: Arc<AtomicBool, Global>) -> WorkerStream<S, R> {
+    /// A connection from this address, whose time for the login begins. It ends with what sets the
+    /// flag.
+    pub fn new(
+        rt: R,
+        stream: S,
+        from: SocketAddr,
+        is_over: Arc<AtomicBool, Global>,
+    ) -> WorkerStream<S, R> {
         let login_ends = match Instant::now(&rt) {
             Ok(now) => now.checked_add(Duration::from_millis(LOGIN_MS)),
             Err(_) => None,
@@ -97,6 +105,7 @@ impl<S, R: Clock> WorkerStream<S, R> {
         WorkerStream {
             stream,
             rt,
+            from,
             login_ends,
             is_in: AtomicBool::new(false),
             heard: AtomicU64::new(0),
@@ -106,6 +115,11 @@ impl<S, R: Clock> WorkerStream<S, R> {
             turn_began: None,
             spent: Duration::from_secs(0),
         }
+    }
+
+    /// Where it came from.
+    pub(crate) fn from(&self) -> SocketAddr {
+        self.from
     }
 
     /// The worker has logged in: the time for that no longer counts.

@@ -64,7 +64,7 @@ where
     if !common.guests.enter(rt) {
         return refuse(common, from, LoginRefusal::Crowded);
     }
-    let stream = WorkerStream::new(*rt, stream, is_over);
+    let stream = WorkerStream::new(*rt, stream, from, is_over);
     let thread = scope.spawn(move || {
         let stream = stream;
         welcome(common, stream, from);

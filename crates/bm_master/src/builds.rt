@@ -2,14 +2,14 @@
 ghost use Rattle.std.specs.Prelude.{◌≡◌};
 
 use crate::common::{Common, Guest};
-use crate::news::{Mail, News, Returned, Step, StepEvent};
+use crate::news::{Mail, News, Returned, Step};
 use bm_board::{Build, StepPlan};
 use bm_clerk::{Door, LanePort, Watch};
 use bm_lane::{Viewer, Yard};
 use bm_lines::Text;
 use bm_parts::door_of;
 use bm_roster::Commission;
-use bm_rules::{StartRefusal, StepLimit};
+use bm_rules::{StartRefusal, StepEvent, StepLimit};
 use bm_runner::run_build;
 use bm_session::Results;
 use crossbeam_channel::bounded;
@@ -38,12 +38,14 @@ struct StepTeller<'s, Y: Yard, R: Wait + Clock> {
     mail: Mail<Y>,
     build: u64,
     name: Option<Text>,
+    /// Whether its command has reached a limit.
+    is_stopped: bool,
     cancelled: &'s AtomicBool,
 }
 
 impl<'s, Y: Yard, R: Wait + Clock> StepTeller<'s, Y, R> {
     // Tells what happened to the step.
-    fn tell(&self, event: StepEvent) {
+    fn tell(&self, event: StepEvent, said: Option<Text>) {
         let name = match &self.name {
             Some(name) => name.copy().ok(),
             None => None,
@@ -53,6 +55,7 @@ impl<'s, Y: Yard, R: Wait + Clock> StepTeller<'s, Y, R> {
             News::Step(Step {
                 build: self.build,
                 name,
+                said,
                 event,
             }),
         );
@@ -62,11 +65,13 @@ impl<'s, Y: Yard, R: Wait + Clock> StepTeller<'s, Y, R> {
 impl<'s, Y: Yard, R: Wait + Clock> Watch for StepTeller<'s, Y, R> {
     fn started(&mut self, step: &StepPlan, command: u64) {
         self.name = step.name.copy().ok();
-        self.tell(StepEvent::Started(command));
+        self.is_stopped = false;
+        self.tell(StepEvent::Started(command), None);
     }
 
     fn stopped(&mut self, command: u64, limit: StepLimit) {
-        self.tell(StepEvent::Stopped(command, limit));
+        self.is_stopped = true;
+        self.tell(StepEvent::Stopped(command, limit), None);
     }
 
     fn refused(&mut self, step: &StepPlan, why: StartRefusal) {
@@ -74,15 +79,18 @@ impl<'s, Y: Yard, R: Wait + Clock> Watch for StepTeller<'s, Y, R> {
             self.cancelled.store(false, Ordering::SeqCst);
         }
         self.name = step.name.copy().ok();
-        self.tell(StepEvent::Refused(why));
+        self.tell(StepEvent::Refused(why), None);
     }
 
     // A cancel ends one step: those that always run are run after it.
-    fn ended(&mut self, command: u64, outcome: Results) {
+    fn ended(&mut self, command: u64, outcome: Results, said: Option<Text>) {
         if outcome == Results::Cancelled {
             self.cancelled.store(false, Ordering::SeqCst);
         }
-        self.tell(StepEvent::Ended(command, outcome));
+        if outcome == Results::Exception && !self.is_stopped {
+            self.tell(StepEvent::Failed(command), said);
+        }
+        self.tell(StepEvent::Ended(command, outcome), None);
     }
 }
 
@@ -110,6 +118,7 @@ where
         mail: told,
         build: number,
         name: None,
+        is_stopped: false,
         cancelled,
     };
     let mut port = LanePort::over(rt, alloc, viewer, door, cancelled, teller);

@@ -1,4 +1,6 @@
 //! The foreman: it alone knows all builds and workers, and does what follows from the news.
+ghost use Rattle.std.specs.Prelude.{◌≡◌, IfSome};
+ghost use Rattle.bm_roster.specs.Roster.{AreResults};
 
 use crate::builds::start_build;
 use crate::common::Common;
@@ -8,7 +10,7 @@ use crate::seat::Seat;
 use crate::ticker::{TICK, Ticker};
 use bm_clerk::{Notice, Signal};
 use bm_lane::{Viewer, Yard};
-use bm_parts::{event_of, fills, refusal_of};
+use bm_parts::{event_of, fills, remark_of};
 use bm_roster::{Bench, Cancelled, Roster};
 use bm_rules::{Duty, ProcessDuty, RateLimit, Remark, Report, WorkerEvent};
 use bm_session::Results;
@@ -32,8 +34,8 @@ pub struct Left<Y: Yard, O> {
     /// The viewers of the builds, by their lanes.
     pub benches: Vec<Bench<Y>>,
     pub output: O,
-    /// Whether a result is neither SUCCESS nor WARNINGS.
-    pub is_bad: bool,
+    /// How the builds ended. None where one has not, or memory was wanting.
+    pub results: Option<Vec<Results>>,
     /// Whether a report could not be written, or a build could not be run.
     pub has_failed: bool,
 }
@@ -254,17 +256,7 @@ where
     // The clerk of a worker's lane has news.
     fn hear_clerk(&mut self, at: usize, notice: Notice) {
         let worker = self.name(at);
-        match notice {
-            Notice::Attached => self.remark(&Remark::LoggedIn { worker }),
-            Notice::Resumed => self.remark(&Remark::Resumed { worker }),
-            Notice::Cut(cause) => self.remark(&Remark::Cut { worker, cause }),
-            Notice::Lost(cause) => self.remark(&Remark::Lost { worker, cause }),
-            Notice::Declined(fault) => self.remark(&Remark::LoginRefused {
-                name: worker,
-                why: refusal_of(fault),
-            }),
-            Notice::Filled => self.remark(&Remark::Filled { worker }),
-        }
+        self.remark(&remark_of(notice, worker));
         if let Some(event) = event_of(notice) {
             self.happens(at, event);
         }
@@ -379,20 +371,11 @@ where
         }
     }
 
-    // Whether a result is neither SUCCESS nor WARNINGS.
-    fn is_bad(&self) -> bool {
-        for number in 0..self.roster.builds() {
-            match self.roster.result(number) {
-                Some(Results::Success | Results::Warnings) => {}
-                _ => return true,
-            }
-        }
-        false
-    }
-
     /// What is left.
-    pub fn leave(self) -> Left<Y, O> {
-        let is_bad = self.is_bad();
+    pub fn leave(self) -> Left<Y, O>
+        ensures results { IfSome result.results (λ all. AreResults self.roster.board all.items) }
+        ensures failed { result.has_failed ≡ self.has_failed }
+    {
         let Foreman {
             common,
             roster,
@@ -404,10 +387,11 @@ where
         if let Some(remarks) = remarks {
             remarks.end(&common.rt);
         }
+        let results = roster.results(common.alloc);
         Left {
             benches: roster.into_benches(),
             output,
-            is_bad,
+            results,
             has_failed,
         }
     }

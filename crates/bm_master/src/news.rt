@@ -3,7 +3,7 @@
 use bm_clerk::Notice;
 use bm_lane::{Viewer, Yard};
 use bm_lines::Text;
-use bm_rules::{LoginRefusal, StartRefusal, StepLimit};
+use bm_rules::{LoginRefusal, StepEvent};
 use bm_session::Results;
 use crossbeam_channel::{Receiver, Sender, unbounded};
 use std::alloc::{AllocError, Global};
@@ -22,19 +22,6 @@ pub struct Returned<Y: Yard> {
     pub viewer: Viewer<Y>,
 }
 
-/// What happened to a step. Commands are by their numbers on the worker's lane.
-#[derive(Clone, Copy)]
-pub enum StepEvent {
-    /// It was started as this command.
-    Started(u64),
-    /// It was not started.
-    Refused(StartRefusal),
-    /// This command has reached a limit, and is interrupted.
-    Stopped(u64, StepLimit),
-    /// This command ended so.
-    Ended(u64, Results),
-}
-
 /// A step of a build, and what happened to it.
 #[derive(Drop)]
 pub struct Step {
@@ -42,6 +29,8 @@ pub struct Step {
     pub build: u64,
     /// The step's name, where there was memory for it.
     pub name: Option<Text>,
+    /// What its worker said last, where that is told.
+    pub said: Option<Text>,
     pub event: StepEvent,
 }
 

@@ -1,6 +1,7 @@
 //! A build master, from its sockets to its last report.
-ghost use Rattle.std.specs.Prelude.{◌≡◌, ◌<◌, length, vec_len, IfSome};
+ghost use Rattle.std.specs.Prelude.{◌≡◌, ◌<◌, [], ◌||◌, not, true, false, length, vec_len, IfNone, IfSome};
 ghost use Rattle.bm_lane.specs.Placed.{ArePlaced};
+ghost use Rattle.bm_rules.specs.Exit.{exit_status};
 
 use crate::common::{Common, Guest, flags_of};
 use crate::foreman::Left;
@@ -17,8 +18,9 @@ use bm_parts::{
     AllEnds, Doors, Parts, deal, maxima_of, open_all, open_doors, settle_all, slots_of, users_of,
 };
 use bm_roster::{Bench, Roster};
-use bm_rules::{REFUSED, Report};
+use bm_rules::{REFUSED, Report, status};
 use bm_serve::Site;
+use bm_session::Results;
 use std::alloc::{AllocGlobal, Global};
 use std::io::{Read, Write};
 use std::marker::Brand;
@@ -29,12 +31,6 @@ use std::sync::atomic::AtomicBool;
 use std::sync::{Arc, Mutex, Wait};
 use std::thread::Threads;
 use std::time::Clock;
-
-/// The exit status of a master whose builds ended well.
-const GOOD: u8 = 0;
-
-/// The exit status of another one.
-const BAD: u8 = 1;
 
 /// The sockets, bound.
 #[derive(Drop)]
@@ -67,6 +63,25 @@ fn refuse<F: Write>(faults: &mut F, key: &str) -> u8 {
     // Where it can't be told, the status still says that the configuration is refused.
     let _ = writeln!(faults, "bad configuration: {key}");
     REFUSED
+}
+
+// The exit status of a master that could not begin.
+fn failed() -> u8
+    ensures { result ≡ exit_status [] true }
+{
+    status(&[], true)
+}
+
+// The exit status of a master whose builds ended so, where each result is known. `failed` says that
+// the master itself failed.
+fn status_of(results: Option<Vec<Results>>, failed: bool) -> u8
+    ensures some { IfSome results (λ all. result ≡ exit_status all.items failed) }
+    ensures none { IfNone results (result ≡ exit_status [] true) }
+{
+    match &results {
+        Some(all) => status(all.as_slice(), failed),
+        None => status(&[], true),
+    }
 }
 
 /// Runs a build master: its workers connect, its builds run once each, and their logs are served on
@@ -105,7 +120,7 @@ where
         return refuse(&mut faults, "web");
     };
     let Some(blanks) = open_all(*rt, alloc, config.capacity, config.workers.as_slice()) else {
-        return BAD;
+        return failed();
     };
     let sockets = Sockets { workers, web };
     let remarks = Remarks::open(rt, alloc, faults);
@@ -115,8 +130,8 @@ where
         remarks,
     };
     match run::<Brand, R, I, O>(rt, alloc, blanks, config, sockets, streams) {
-        Some(true) => GOOD,
-        Some(false) | None => BAD,
+        Some(status) => status,
+        None => failed(),
     }
 }
 
@@ -384,8 +399,7 @@ fn parts_of<Y: Yard, R: Wait + Clock + Drop>(
     }
 }
 
-// Runs a master over these blanks, and answers whether all went well. None where it could not
-// begin.
+// Runs a master over these blanks, and answers its exit status. None where it could not begin.
 fn run<Y, R, I, O>(
     rt: &R,
     alloc: Global,
@@ -393,7 +407,7 @@ fn run<Y, R, I, O>(
     config: Config,
     sockets: Sockets,
     streams: Streams<I, O>,
-) -> Option<bool>
+) -> Option<u8>
 where
     Y: Yard + Send + Sync,
     R: Wait
@@ -438,9 +452,8 @@ where
     }
 }
 
-// Runs the threads to their end. The answer is whether all went well, or None where they could not
-// begin.
-fn work<Y, R, I, O>(start: Option<Start<Y, R, O>>, listening: Report<'_>, input: I) -> Option<bool>
+// Runs the threads to their end. The answer is the exit status, or None where they could not begin.
+fn work<Y, R, I, O>(start: Option<Start<Y, R, O>>, listening: Report<'_>, input: I) -> Option<u8>
 where
     Y: Yard + Send + Sync,
     R: Wait
@@ -515,12 +528,18 @@ fn write_report<O: Write>(alloc: Global, report: Report<'_>, output: &mut O) -> 
     report.write(alloc, output).is_ok() && output.flush().is_ok()
 }
 
-// Settles the lanes once all threads have ended. The answer is whether all went well.
-fn end<Y, R, O>(common: Common<Y, R>, site: Vec<Viewer<Y>>, came: Came<Y, O>) -> bool
+// Settles the lanes once all threads have ended. The answer is the exit status: 0 only where all
+// that was to be done was done, and each build ended well.
+fn end<Y, R, O>(common: Common<Y, R>, site: Vec<Viewer<Y>>, came: Came<Y, O>) -> u8
 where
     Y: Yard,
     R: Wait + Clock + Drop,
     O: Write + Drop,
+    ensures failed { came.left.has_failed || not came.is_whole ≡ true
+        → result ≡ exit_status [] true }
+    ensures unknown { IfNone came.left.results (result ≡ exit_status [] true) }
+    ensures good { IfSome came.left.results
+        (λ all. result ≡ 0 → exit_status all.items false ≡ 0) }
 {
     let Came {
         readers,
@@ -530,7 +549,7 @@ where
     let Left {
         benches,
         output,
-        is_bad,
+        results,
         has_failed,
     } = left;
     let Common {
@@ -547,7 +566,7 @@ where
         site,
     };
     let is_settled = close(&rt, alloc, config.workers.as_slice(), ends, output);
-    is_settled && is_whole && !is_bad && !has_failed
+    status_of(results, has_failed || !is_whole || !is_settled)
 }
 
 // Settles the lanes, and reports what each had. The answer is whether all could be settled and

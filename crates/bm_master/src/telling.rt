@@ -1,14 +1,18 @@
 //! What the foreman tells the operator.
 
 use crate::foreman::Foreman;
-use crate::news::{Refused, Step, StepEvent};
+use crate::news::{Refused, Step};
 use bm_lane::Yard;
-use bm_rules::{LogId, Remark};
+use bm_parts::refusal_remark;
+use bm_rules::Remark;
 use std::io::Write;
 use std::process::{Processes, SystemProcess};
 use std::sync::Wait;
 use std::thread::Threads;
 use std::time::Clock;
+
+/// What is told of a command without an exit code whose worker doesn't say why.
+const NOTHING_SAID: &str = "no exit code";
 
 impl<'s, Y, R, O> Foreman<'s, Y, R, O>
 where
@@ -31,17 +35,11 @@ where
         }
     }
 
-    // The log of a command of this build.
-    fn log_of(&self, build: u64, command: u64) -> LogId {
-        let config = &self.common.config;
-        let lane = match config.builds.as_slice().get(build as usize) {
+    // The place of a build's worker.
+    fn worker_of(&self, build: u64) -> u64 {
+        match self.common.config.builds.as_slice().get(build as usize) {
             Some(build) => build.worker as u64,
             None => 0,
-        };
-        LogId {
-            command,
-            lane,
-            lanes: config.workers.as_slice().len() as u64,
         }
     }
 
@@ -51,32 +49,15 @@ where
             Some(name) => name.as_str(),
             None => "",
         };
-        let build = heard.build;
-        match heard.event {
-            StepEvent::Started(command) => {
-                let log = self.log_of(build, command);
-                self.remark(&Remark::StepStarted { build, log, step });
-            }
-            StepEvent::Refused(why) => self.remark(&Remark::StepRefused { build, why, step }),
-            StepEvent::Stopped(command, limit) => {
-                let log = self.log_of(build, command);
-                self.remark(&Remark::StepStopped {
-                    build,
-                    log,
-                    limit,
-                    step,
-                });
-            }
-            StepEvent::Ended(command, result) => {
-                let log = self.log_of(build, command);
-                self.remark(&Remark::StepEnded {
-                    build,
-                    log,
-                    result,
-                    step,
-                });
-            }
-        }
+        let said = match &heard.said {
+            Some(said) => said.as_str(),
+            None => NOTHING_SAID,
+        };
+        let (build, lane) = (heard.build, self.worker_of(heard.build));
+        let lanes = self.common.config.workers.as_slice().len() as u64;
+        let worker = self.name(lane as usize);
+        let remark = heard.event.remark(build, lane, lanes, worker, step, said);
+        self.remark(&remark);
     }
 
     /// Tells how many refused connections were not told one by one in seconds that are over.
@@ -95,13 +76,6 @@ where
         if !self.refusals.allows(second) {
             return;
         }
-        let (from, why) = (refused.from, refused.why);
-        match &refused.name {
-            Some(name) => {
-                let name = name.as_str();
-                self.remark(&Remark::StrangerRefused { name, from, why });
-            }
-            None => self.remark(&Remark::ConnectionRefused { from, why }),
-        }
+        self.remark(&refusal_remark(&refused.name, refused.from, refused.why));
     }
 }

@@ -1,13 +1,10 @@
 //! Ticks by the clock.
 
-use bm_rules::Pace;
+use bm_rules::{Pace, millis};
 use std::time::{Clock, Instant};
 
 /// How long a tick is, in milliseconds.
 pub const TICK: u64 = 10;
-
-/// How many ticks are told of at once at the most, where the foreman was late.
-const MOST_TICKS: u64 = 100;
 
 /// Ticks by the clock.
 #[derive(Drop)]
@@ -38,16 +35,10 @@ impl Ticker {
 
     /// How many ticks have ended since the last call, up to a most.
     pub fn ticks<R: Clock>(&mut self, rt: &R) -> u64 {
-        let Some(began) = self.began else {
-            return 1;
+        let now = match self.began {
+            Some(began) => began.elapsed(rt).ok(),
+            None => None,
         };
-        let Ok(passed) = began.elapsed(rt) else {
-            return 1;
-        };
-        let now = passed
-            .as_secs()
-            .saturating_mul(1000)
-            .saturating_add(u64::from(passed.subsec_millis()));
-        self.pace.ticks(now).min(MOST_TICKS)
+        self.pace.told(now.map(millis))
     }
 }

@@ -11,6 +11,6 @@ mod words;
 
 pub use closing::{AllEnds, Loose, Tally, settle_all, settle_lane};
 pub use doors::{Doors, door_of, open_doors};
-pub use notices::{event_of, fills, refusal_in, refusal_of};
+pub use notices::{event_of, fills, refusal_in, refusal_of, refusal_remark, remark_of};
 pub use parts::{Parts, deal, maxima_of, open_all, slots_of, users_of};
 pub use words::place_master;

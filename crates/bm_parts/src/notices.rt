@@ -1,12 +1,15 @@
 //! What follows from what a clerk tells of its lane.
 ghost use Rattle.std.specs.Prelude.{◌≡◌};
-ghost use Rattle.bm_parts.specs.Notices.{event_of, fills, refusal_in, refusal_of};
+ghost use Rattle.bm_rules.specs.Remark.{remark_line};
+ghost use Rattle.bm_parts.specs.Notices.{event_of, fills, notice_line, refusal_in, refusal_line, refusal_of};
 
 use bm_clerk::Notice;
 use bm_lane::HearRefusal;
+use bm_lines::Text;
 use bm_link::LinkFault;
-use bm_rules::{LoginRefusal, LossCause, WorkerEvent};
+use bm_rules::{LoginRefusal, LossCause, Remark, WorkerEvent};
 use bm_session::Refusal;
+use std::net::SocketAddr;
 
 /// What has happened to the lane's worker, if anything has.
 pub fn event_of(notice: Notice) -> Option<WorkerEvent>
@@ -16,7 +19,7 @@ pub fn event_of(notice: Notice) -> Option<WorkerEvent>
         Notice::Attached | Notice::Resumed => Some(WorkerEvent::Attached),
         Notice::Cut(_) => Some(WorkerEvent::Cut),
         Notice::Lost(_) => Some(WorkerEvent::Lost),
-        Notice::Declined(_) | Notice::Filled => None,
+        Notice::Declined(..) | Notice::Filled => None,
     }
 }
 
@@ -25,7 +28,8 @@ pub fn fills(notice: Notice) -> bool
     ensures { result ≡ fills notice }
 {
     match notice {
-        Notice::Lost(LossCause::Full) | Notice::Declined(LinkFault::Full) | Notice::Filled => true,
+        Notice::Lost(LossCause::Full) | Notice::Declined(LinkFault::Full, _) | Notice::Filled =>
+            true,
         _ => false,
     }
 }
@@ -56,5 +60,38 @@ pub fn refusal_in(fault: LinkFault, is_over: bool, is_late: bool) -> LoginRefusa
         LinkFault::Stream if is_over => LoginRefusal::Closing,
         LinkFault::Stream if is_late => LoginRefusal::Late,
         _ => refusal_of(fault),
+    }
+}
+
+/// What an operator is told of it, where the lane's worker has this name.
+pub fn remark_of(notice: Notice, worker: &str) -> Remark<'_>
+    ensures { remark_line result ≡ notice_line worker.now notice }
+{
+    match notice {
+        Notice::Attached => Remark::LoggedIn { worker },
+        Notice::Resumed => Remark::Resumed { worker },
+        Notice::Cut(cause) => Remark::Cut { worker, cause },
+        Notice::Lost(cause) => Remark::Lost { worker, cause },
+        Notice::Declined(fault, from) => Remark::LoginRefused {
+            name: worker,
+            from,
+            why: refusal_of(fault),
+        },
+        Notice::Filled => Remark::Filled { worker },
+    }
+}
+
+/// What an operator is told of a connection from this address that was not taken up. Its login had
+/// this name, where it had one that is told.
+pub fn refusal_remark(name: &Option<Text>, from: SocketAddr, why: LoginRefusal) -> Remark<'_>
+    ensures { remark_line result ≡ refusal_line name.now from why }
+{
+    match name {
+        Some(name) => Remark::LoginRefused {
+            name: name.as_str(),
+            from,
+            why,
+        },
+        None => Remark::ConnectionRefused { from, why },
     }
 }

@@ -2,4 +2,5 @@ mod Below
 pub mod Benching
 pub mod Calls
 pub mod Counting
+mod Starts
 mod Staying

@@ -5,5 +5,5 @@ pub mod Benches
 pub mod Cancels
 -- What holds of every board of a roster, to be believed.
 pub mod Laws
--- What is counted beside a board. It helps the proofs alone.
+-- What is counted beside a board, which helps the proofs alone, and the worker of a build.
 pub mod Counted

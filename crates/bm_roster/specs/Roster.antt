@@ -1,14 +1,16 @@
 -- A roster, and what it does to its board. On the board a build is one step, whose outcome is what
 -- the build's runner reports.
-use Rattle.std.specs.Prelude.{◌≡◌, ◌⊎◌, ◌<◌, ℕ, Bool, true, false, [], ◌∷◌, List, IsOk, Option, Some, None, Result, Ok, Err}
+use Rattle.std.specs.Prelude.{◌≡◌, ◌⊎◌, ◌<◌, ℕ, ◌==◌, nat_lt, Bool, true, false, ◌&&◌, [], ◌∷◌, List, length, slice_get, IsOk, Option, Some, None, Result, Ok, Err}
 use Rattle.std.specs.List.{list_any}
+use Rattle.std.specs.Option.{option_map_or}
+use Rattle.std.specs.Result.{is_ok}
 use Rattle.bm_session.specs.declared.results.Results.{Results}
-use Rattle.bm_session.specs.declared.results.Results.TheVariants.{Retry}
 use Rattle.bm_board.specs.declared.plan.StepPlan.{StepPlan}
 use Rattle.bm_board.specs.declared.plan.Build.{Build}
 use Rattle.bm_board.specs.declared.job.Started.{Started}
 use Rattle.bm_board.specs.declared.refusal.BoardRefusal.{BoardRefusal}
 use Rattle.bm_roster.specs.Benches.{Benched}
+use Rattle.bm_roster.specs.Counted.{worker_of}
 use Rattle.bm_board.specs.Job.{answer_of, cancel, finish, give_up, release, waits_for}
 use Rattle.bm_board.specs.Board.{Standing, board_after, occupies, on_build, start, result_on}
 
@@ -54,6 +56,19 @@ pub record IsStarted (old new : Standing) (number worker : ℕ) : Type 0 where
 abbrev pub CanStart : Standing → Type 0
 CanStart b = (number : ℕ) × IsOk (on_build (start b) b number)
 
+-- a viewer of the worker's lane is left for a build
+abbrev pub has_viewer : List Benched → ℕ → Bool
+has_viewer benches worker =
+    option_map_or (λ bench. bench.lane == worker && nat_lt 0 (length bench.viewers))
+    (slice_get benches worker) false
+
+-- the build of this number can be started now: it waits, its worker is ready and has a free slot
+-- and a viewer left, and each of its locks may be had
+abbrev pub can_start : Rostered → ℕ → Bool
+can_start r number =
+    is_ok (on_build (start r.board) r.board number)
+    && has_viewer r.benches (worker_of r.board number)
+
 -- the board once a build's step ended so
 abbrev pub after_step : Standing → ℕ → Results → Standing
 after_step b number result = board_after b number (on_build (finish result) b number)
@@ -65,10 +80,6 @@ after_release b number = board_after b number (on_build release b number)
 -- the board once a build's runner has reported
 abbrev pub after_end : Standing → ℕ → Results → Standing
 after_end b number result = after_release (after_step b number result) number
-
--- the board once a build was started that has no viewer
-abbrev pub after_failure : Standing → ℕ → Standing
-after_failure b number = after_end (board_after b number (on_build (start b) b number)) number Retry
 
 -- the board once a build was cancelled
 abbrev pub after_cancel : Standing → ℕ → Standing
@@ -94,6 +105,11 @@ HasResult b number = (r : Results) × (result_on b number ≡ Ok (Some r))
 abbrev pub LacksResult : Standing → ℕ → Type 0
 LacksResult b number =
     (result_on b number ≡ Ok None) ⊎ ((why : BoardRefusal) × (result_on b number ≡ Err why))
+
+-- how each build ended, by its number
+pub record AreResults (b : Standing) (results : List Results) : Type 0 where
+  pub count : length results ≡ length b.jobs
+  pub each : (n : ℕ) (r : Results) → slice_get results n ≡ Some r → result_on b n ≡ Ok (Some r)
 
 -- every build has its result: no build has this number, and each before it has its result
 pub record IsOver (b : Standing) : Type 0 where

@@ -1,6 +1,6 @@
 //! The roster itself.
-ghost use Rattle.std.specs.Prelude.{◌≡◌, ◌⊎◌, ◌<◌, ◌≤◌, ℕ, All, IfOk, OnOk, OnErr, IfErr, IfSome, IfNone, length, true, false, Ok, Some, None, position};
-ghost use Rattle.bm_roster.specs.Roster.{CanStart, IsOver, IsStarted, LacksResult, after_end, after_cancel, after_failure, after_giving_up, has_build, is_wanted, on_board, with_board};
+ghost use Rattle.std.specs.Prelude.{◌≡◌, ◌⊎◌, ◌<◌, ◌≤◌, ℕ, All, IfOk, OnOk, OnErr, IfErr, IfSome, IfNone, IsSome, length, true, false, Ok, Some, None, position};
+ghost use Rattle.bm_roster.specs.Roster.{AreResults, CanStart, IsOver, IsStarted, LacksResult, after_end, after_cancel, after_giving_up, can_start, has_build, has_viewer, is_wanted, on_board, with_board};
 ghost use Rattle.bm_roster.specs.Benches.{IsGiven, IsTaken};
 ghost use Rattle.bm_roster.specs.Cancels.{met_by};
 ghost use Rattle.bm_board.specs.Job.{answer_of, cancel, waits_for};
@@ -16,14 +16,7 @@ use bm_session::Results;
 use std::alloc::{AllocError, Global};
 use std::marker::Model;
 
-/// A build that waits.
-#[derive(Clone, Copy)]
-struct Waiting {
-    number: u64,
-    worker: usize,
-}
-
-//// What a cancel met.
+/// What a cancel met.
 #[derive(Clone, Copy, PartialEq, Eq)]
 pub enum Cancelled {
     /// The build waited, and has ended CANCELLED.
@@ -42,10 +35,6 @@ pub enum Cancelled {
 pub struct Roster<Y: Yard> {
     board: CountedBoard,
     benches: Vec<Bench<Y>>,
-    // The builds that wait, in the order of their numbers.
-    waiting: Vec<Waiting>,
-    // Of each worker, whether it takes builds.
-    ready: Vec<bool>,
     is_short: bool,
 }
 
@@ -102,8 +91,6 @@ impl<Y: Yard> Roster<Y> {
         Ok(Roster {
             board: CountedBoard::new(alloc, slots, lock_max)?,
             benches,
-            waiting: Vec::new(alloc),
-            ready: vec![in alloc; false; slots.len()]?,
             is_short: false,
         })
     }
@@ -119,18 +106,10 @@ impl<Y: Yard> Roster<Y> {
             ⊎ (r ≡ BoardRefusal.Mem)) }
         ensures unchanged { OnErr result (self.new ≡ self.old) }
     {
-        if self.waiting.reserve(1).is_err() {
-            return Err(BoardRefusal::Mem);
+        match as_one_step(alloc, build) {
+            Ok(one) => self.board.add(one),
+            Err(_) => Err(BoardRefusal::Mem),
         }
-        let Ok(one) = as_one_step(alloc, build) else {
-            return Err(BoardRefusal::Mem);
-        };
-        let number = self.board.add(one)?;
-        self.waiting.push_reserved(Waiting {
-            number,
-            worker: build.worker,
-        });
-        Ok(number)
     }
 
     /// How many builds there are.
@@ -156,9 +135,6 @@ impl<Y: Yard> Roster<Y> {
         if worker < self.board.workers() {
             self.board.set_ready(worker, ready);
         }
-        if let Some(is_ready) = self.ready.get_mut(worker) {
-            *is_ready = ready;
-        }
     }
 
     /// Whether a build waits for the worker.
@@ -175,36 +151,20 @@ impl<Y: Yard> Roster<Y> {
         self.board.has_build(worker)
     }
 
-    // Whether the worker takes one more build.
-    fn is_open(&self, worker: usize) -> bool {
-        match (self.ready.get(worker), self.benches.get(worker)) {
-            (Some(is_ready), Some(bench)) => *is_ready && bench.has_viewer(),
-            _ => false,
-        }
-    }
-
-    // Whether a build waits for a worker that takes one more.
-    fn has_opening(&self) -> bool {
-        for worker in 0..self.ready.len() {
-            if self.is_wanted(worker) && self.is_open(worker) {
-                return true;
-            }
-        }
-        false
-    }
-
-    // Takes a build out of those that wait.
-    fn take_out(&mut self, place: usize)
-        ensures { self.new ≡ self.old }
+    // Whether a viewer of the worker's lane is left.
+    fn has_viewer(&self, worker: usize) -> bool
+        ensures { result ≡ has_viewer self.now.benches worker }
     {
-        if place < self.waiting.len() {
-            self.waiting.remove(place);
+        match self.benches.get(worker) {
+            Some(bench) => bench.lane() == worker as u64 && bench.has_viewer(),
+            None => false,
         }
     }
 
     // A viewer of the worker's lane.
     fn take_viewer(&mut self, worker: usize) -> Option<Viewer<Y>>
         ensures own { IfSome result (λ v. v.lane ≡ worker) }
+        ensures found { has_viewer self.old.benches worker ≡ true → IsSome result }
         ensures taken { IfSome result (λ v. IsTaken self.old.benches self.new.benches worker v) }
         ensures board { self.new.board ≡ self.old.board }
         ensures short { self.new.is_short ≡ self.old.is_short }
@@ -217,63 +177,60 @@ impl<Y: Yard> Roster<Y> {
         bench.take()
     }
 
-    // Starts a build that waits, where its worker is ready and has a free slot and its locks may be
-    // had. None where no viewer of its worker's lane is left, which never comes: the build has then
-    // ended RETRY.
-    // Errors: those of the board. Nothing has changed then.
-    fn start(&mut self, number: u64) -> Result<Option<Commission<Y>>, BoardRefusal>
-        ensures started { IfOk result (λ o. IfSome o
-            (λ c. (c.number ≡ number) × IsStarted self.old.board self.new.board number c.worker)) }
-        ensures viewer { IfOk result (λ o. IfSome o
-            (λ c. IsTaken self.old.benches self.new.benches c.worker c.viewer)) }
-        ensures failed { IfOk result (λ o. IfNone o
-            (self.new ≡ with_board self.old (after_failure self.old.board number))) }
-        ensures memory { self.new.is_short ≡ self.old.is_short }
-        ensures short { IfErr result (λ why. why ≡ BoardRefusal.Mem → CanStart self.old.board) }
-        ensures unchanged { OnErr result (self.new ≡ self.old) }
+    // Starts a build that can be started. None where it can't be, or memory is wanting, which is
+    // kept: nothing has changed then but for that.
+    fn start(&mut self, number: u64) -> Option<Commission<Y>>
+        ensures started { IfSome result (λ c. (c.number ≡ number)
+            × IsStarted self.old.board self.new.board number c.worker) }
+        ensures viewer { IfSome result
+            (λ c. IsTaken self.old.benches self.new.benches c.worker c.viewer) }
+        ensures unchanged { IfNone result ((self.new.board ≡ self.old.board)
+            × (self.new.benches ≡ self.old.benches)) }
+        ensures left { IfNone result (can_start self.old number ≡ true → self.new.is_short ≡ true) }
+        ensures still { self.old.is_short ≡ true → self.new.is_short ≡ true }
+        ensures short { self.new.is_short ≡ true
+            → (self.old.is_short ≡ true) ⊎ CanStart self.old.board }
     {
-        let worker = self.board.start(number)?;
+        if !self.has_viewer(self.board.worker_of(number)) {
+            return None;
+        }
+        let worker = match self.board.start(number) {
+            Ok(worker) => worker,
+            Err(why) => {
+                self.is_short = self.is_short || why == BoardRefusal::Mem;
+                return None;
+            }
+        };
         match self.take_viewer(worker) {
-            Some(viewer) => Ok(Some(Commission {
+            Some(viewer) => Some(Commission {
                 number,
                 worker,
                 viewer,
-            })),
-            None => {
-                self.board.finish(number, Results::Retry);
-                Ok(None)
-            }
+            }),
+            None => unreachable!(),
         }
     }
 
-    /// Starts the first of the waiting builds that can be started now. It is to run, and to come
-    /// back by `end`. Builds whose worker takes none are passed over.
+    /// Starts the first of the builds that can be started now: one that waits, whose worker is
+    /// ready and has a free slot and a viewer left, and whose locks may be had. It is to run, and
+    /// to come back by `end`. None where there is none, or memory is wanting for each of them.
     pub fn next(&mut self) -> Option<Commission<Y>>
         ensures started { IfSome result
             (λ c. IsStarted self.old.board self.new.board c.number c.worker) }
         ensures viewer { IfSome result
             (λ c. IsTaken self.old.benches self.new.benches c.worker c.viewer) }
-        ensures nothing { IfNone result ((self.new.board ≡ self.old.board)
-            ⊎ ((number : ℕ) × (self.new.board ≡ after_failure self.old.board number))) }
+        ensures first { IfSome result (λ c. (k : ℕ) → k < c.number → can_start self.old k ≡ true
+            → self.new.is_short ≡ true) }
+        ensures none { IfNone result ((k : ℕ) → can_start self.old k ≡ true
+            → self.new.is_short ≡ true) }
+        ensures board { IfNone result (self.new.board ≡ self.old.board) }
         ensures benches { IfNone result (self.new.benches ≡ self.old.benches) }
         ensures short { self.new.is_short ≡ true → CanStart self.old.board }
     {
         self.is_short = false;
-        if !self.has_opening() {
-            return None;
-        }
-        for place in 0..self.waiting.len() {
-            let one = *self.waiting.get(place)?;
-            if !self.is_open(one.worker) {
-                continue;
-            }
-            match self.start(one.number) {
-                Ok(commission) => {
-                    self.take_out(place);
-                    return commission;
-                }
-                Err(BoardRefusal::Mem) => self.is_short = true,
-                Err(_) => {}
+        for number in 0..self.board.builds() {
+            if let Some(commission) = self.start(number) {
+                return Some(commission);
             }
         }
         None
@@ -311,12 +268,7 @@ impl<Y: Yard> Roster<Y> {
     {
         match self.board.cancel(number) {
             Ok(true) => Cancelled::Running,
-            Ok(false) => {
-                if let Some(place) = self.waiting.iter().position(|one| one.number == number) {
-                    self.take_out(place);
-                }
-                Cancelled::Waiting
-            }
+            Ok(false) => Cancelled::Waiting,
             Err(_) => Cancelled::Nothing,
         }
     }
@@ -330,9 +282,6 @@ impl<Y: Yard> Roster<Y> {
         ensures unchanged { IfNone result (self.new ≡ self.old) }
     {
         let number = self.board.first_waiting(worker)? as u64;
-        if let Some(place) = self.waiting.iter().position(|one| one.number == number) {
-            self.take_out(place);
-        }
         let _ = self.board.give_up(number);
         Some(number)
     }
@@ -346,6 +295,20 @@ impl<Y: Yard> Roster<Y> {
             Ok(result) => result,
             Err(_) => None,
         }
+    }
+
+    /// How each build ended, by its number. None where one has not, or memory is wanting.
+    pub fn results(&self, alloc: Global) -> Option<Vec<Results>>
+        ensures { IfSome result (λ all. AreResults self.now.board all.items) }
+    {
+        let mut all = Vec::new(alloc);
+        for number in 0..self.board.builds() {
+            let result = self.result(number)?;
+            if all.push(result).is_err() {
+                return None;
+            }
+        }
+        Some(all)
     }
 
     /// Whether every build has its result.

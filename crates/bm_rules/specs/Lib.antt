@@ -13,3 +13,4 @@ pub mod OneLine
 pub mod Reasons
 pub mod Report
 pub mod Remark
+pub mod StepEvents

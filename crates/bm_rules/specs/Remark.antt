@@ -8,7 +8,7 @@ use Rattle.bm_rules.specs.declared.reasons.LoginRefusal.{LoginRefusal}
 use Rattle.bm_rules.specs.declared.reasons.LossCause.{LossCause}
 use Rattle.bm_rules.specs.declared.reasons.ProgramRefusal.{ProgramRefusal}
 use Rattle.bm_rules.specs.declared.remark.Remark.{Remark}
-use Rattle.bm_rules.specs.declared.remark.Remark.TheVariants.{LoggedIn, Resumed, Cut, Lost, Dismissed, Filled, LoginRefused, StrangerRefused, ConnectionRefused, MoreRefused, NotTold, AcceptingPaused, BuildStarted, BuildEnded, BuildCancelled, StepStarted, StepRefused, StepStopped, StepEnded, ProgramStarted, ProgramFailed, ProgramEnded}
+use Rattle.bm_rules.specs.declared.remark.Remark.TheVariants.{LoggedIn, Resumed, Cut, Lost, Dismissed, Filled, LoginRefused, ConnectionRefused, MoreRefused, NotTold, AcceptingPaused, BuildStarted, BuildEnded, BuildCancelled, StepStarted, StepRefused, StepStopped, StepFailed, StepEnded, ProgramStarted, ProgramFailed, ProgramEnded}
 use Rattle.bm_rules.specs.OneLine.{one_line}
 use Rattle.bm_rules.specs.Reasons.{limit_text, loss_text, program_text, refusal_text, start_text}
 
@@ -26,9 +26,9 @@ abbrev pub build_line : ℕ → List ℕ → List ℕ → List ℕ
 build_line build what name =
     codes "build " ++ (decimal build ++ (what ++ (one_line name ++ 10 ∷ [])))
 
--- a login of a stranger that was refused
-abbrev pub stranger_line : List ℕ → SocketAddr → LoginRefusal → List ℕ
-stranger_line name from why =
+-- a login that was refused
+abbrev pub login_line : List ℕ → SocketAddr → LoginRefusal → List ℕ
+login_line name from why =
     codes "login refused, " ++ (refusal_text why ++ (codes ", from " ++ (socket_text from
     ++ (codes ": " ++ (one_line name ++ 10 ∷ [])))))
 
@@ -37,6 +37,13 @@ abbrev pub log_line : ℕ → List ℕ → List ℕ → LogId → List ℕ → L
 log_line build what why log step =
     codes "build " ++ (decimal build ++ (what ++ (why ++ (codes ", log " ++ (decimal (log_number log)
     ++ (codes ": " ++ (one_line step ++ 10 ∷ [])))))))
+
+-- a step whose command has no exit code, and what its worker said last
+abbrev pub failed_line : ℕ → List ℕ → List ℕ → LogId → List ℕ → List ℕ
+failed_line build worker said log step =
+    codes "build " ++ (decimal build ++ (codes " step failed on " ++ (one_line worker
+    ++ (codes ", " ++ (one_line said ++ (codes ", log " ++ (decimal (log_number log)
+    ++ (codes ": " ++ (one_line step ++ 10 ∷ [])))))))))
 
 -- the program of a worker that was not started
 abbrev pub program_line : List ℕ → ProgramRefusal → List ℕ
@@ -53,9 +60,7 @@ remark_line (Lost worker cause) = lost_line worker.now (codes " lost, ") cause
 remark_line (Dismissed worker) =
     codes "worker " ++ (one_line worker.now ++ codes " told to shut down\n")
 remark_line (Filled worker) = codes "worker " ++ (one_line worker.now ++ codes " full\n")
-remark_line (LoginRefused name why) =
-    codes "login refused, " ++ (refusal_text why ++ (codes ": " ++ (one_line name.now ++ 10 ∷ [])))
-remark_line (StrangerRefused name from why) = stranger_line name.now from why
+remark_line (LoginRefused name from why) = login_line name.now from why
 remark_line (ConnectionRefused from why) =
     codes "connection refused, "
     ++ (refusal_text why ++ (codes ", from " ++ (socket_text from ++ 10 ∷ [])))
@@ -73,6 +78,8 @@ remark_line (StepRefused build why step) =
     build_line build (codes " step not started, " ++ (start_text why ++ codes ": ")) step.now
 remark_line (StepStopped build log limit step) =
     log_line build (codes " step stopped, ") (limit_text limit) log step.now
+remark_line (StepFailed build log worker said step) =
+    failed_line build worker.now said.now log step.now
 remark_line (StepEnded build log result step) =
     log_line build (codes " step ended ") (result_name result) log step.now
 remark_line (ProgramStarted worker) =

@@ -1,8 +1,24 @@
 //! Ticks as a clock shows them.
 
-ghost use Rattle.std.specs.Prelude.{◌≡◌, ◌≤◌, ◌+◌, ◌-◌, ◌*◌, ◌/◌};
+ghost use Rattle.std.specs.Prelude.{◌≡◌, ◌≤◌, ◌-◌, ◌/◌, ◌^◌, min};
+ghost use Rattle.std.specs.Duration.{as_nanos};
+ghost use Rattle.bm_rules.specs.Pace.{after_count, after_telling, ended, told_at};
 
 use std::marker::Model;
+use std::time::Duration;
+
+/// How many ticks are told of at once at the most, where who tells was late.
+const MOST_TICKS: u64 = 100;
+
+/// How many whole milliseconds these are, as far as a number has room for them.
+pub fn millis(passed: Duration) -> u64
+    ensures { result ≡ min (as_nanos passed / 1_000_000) (2 ^ 64 - 1) }
+{
+    match u64::try_from(passed.as_millis()) {
+        Ok(count) => count,
+        Err(_) => u64::MAX,
+    }
+}
 
 /// Counts whole ticks by a clock, for a thread that doesn't wake at each of them: none is lost and
 /// none counted twice. Times are in milliseconds since some moment.
@@ -37,12 +53,23 @@ impl Pace {
     /// How many ticks have ended since the last call. What has passed of the next one counts later.
     /// A clock that stands before the last tick's end gives none.
     pub fn ticks(&mut self, now: u64) -> u64
-        ensures ticks { result ≡ (now - self.old.last) / self.old.tick }
-        ensures left { self.new
-            ≡ record { tick = self.old.tick; last = self.old.last + result * self.old.tick } }
+        ensures ticks { result ≡ ended self.old now }
+        ensures left { self.new ≡ after_count self.old now }
     {
         let ticks = now.saturating_sub(self.last) / self.tick;
         self.last += ticks * self.tick;
         ticks
+    }
+
+    /// How many ticks are told of now: those that have ended since the last call, but never more
+    /// than a hundred, whose rest is left out. One where the clock failed, which counts none.
+    pub fn told(&mut self, now: Option<u64>) -> u64
+        ensures ticks { result ≡ told_at self.old now }
+        ensures left { self.new ≡ after_telling self.old now }
+    {
+        match now {
+            Some(now) => self.ticks(now).min(MOST_TICKS),
+            None => 1,
+        }
     }
 }

@@ -2,7 +2,7 @@
 
 ghost use Rattle.std.specs.Prelude.{◌≡◌, ◌++◌, IfOk, decimal, string_bytes};
 ghost use Rattle.bm_rules.specs.OneLine.{one_line};
-ghost use Rattle.bm_rules.specs.Remark.{build_line, log_line, lost_line, program_line, remark_line, stranger_line};
+ghost use Rattle.bm_rules.specs.Remark.{build_line, failed_line, log_line, login_line, lost_line, program_line, remark_line};
 
 use crate::log_id::LogId;
 use crate::names::one_line;
@@ -44,15 +44,9 @@ pub enum Remark<'a> {
     Filled {
         worker: &'a str,
     },
-    /// A connection that gave a worker's name was not taken up: `login refused, WHY: NAME`. The
-    /// name may be no worker's.
+    /// A connection that logged in was not taken up: `login refused, WHY, from ADDR: NAME`. The name
+    /// may be no worker's.
     LoginRefused {
-        name: &'a str,
-        why: LoginRefusal,
-    },
-    /// A connection whose login names no worker, or has another password than that worker's, was
-    /// not taken up: `login refused, WHY, from ADDR: NAME`.
-    StrangerRefused {
         name: &'a str,
         from: SocketAddr,
         why: LoginRefusal,
@@ -106,6 +100,15 @@ pub enum Remark<'a> {
         limit: StepLimit,
         step: &'a str,
     },
+    /// The command of a step has no exit code, though nobody interrupted it. Its worker said this
+    /// last: `build I step failed on NAME, SAID, log ID: STEP`.
+    StepFailed {
+        build: u64,
+        log: LogId,
+        worker: &'a str,
+        said: &'a str,
+        step: &'a str,
+    },
     /// A step of a build ended: `build I step ended RESULT, log ID: STEP`.
     StepEnded {
         build: u64,
@@ -142,12 +145,7 @@ impl Remark<'_> {
                 around(alloc, "worker ", worker, " told to shut down\n")
             }
             Remark::Filled { worker } => around(alloc, "worker ", worker, " full\n"),
-            Remark::LoginRefused { name, why } => {
-                let why = why.text();
-                let head = format!(in alloc; "login refused, {why}: ")?;
-                around(alloc, head.as_str(), name, "\n")
-            }
-            Remark::StrangerRefused { name, from, why } => of_stranger(alloc, name, from, why),
+            Remark::LoginRefused { name, from, why } => of_login(alloc, name, from, why),
             Remark::ConnectionRefused { from, why } => {
                 let why = why.text();
                 format!(in alloc; "connection refused, {why}, from {from}\n")
@@ -181,6 +179,13 @@ impl Remark<'_> {
                 limit,
                 step,
             } => of_log(alloc, build, " step stopped, ", limit.text(), log, step),
+            Remark::StepFailed {
+                build,
+                log,
+                worker,
+                said,
+                step,
+            } => of_failure(alloc, build, worker, said, log, step),
             Remark::StepEnded {
                 build,
                 log,
@@ -216,14 +221,14 @@ fn of_build(alloc: Global, build: u64, what: &str, name: &str) -> Result<String,
     format!(in alloc; "build {build}{what}{name}\n")
 }
 
-// A login of a stranger that was refused.
-fn of_stranger(
+// A login that was refused.
+fn of_login(
     alloc: Global,
     name: &str,
     from: SocketAddr,
     why: LoginRefusal,
 ) -> Result<String, AllocError>
-    ensures { IfOk result (λ s. string_bytes s ≡ stranger_line name.now from why) }
+    ensures { IfOk result (λ s. string_bytes s ≡ login_line name.now from why) }
 {
     let name = one_line(alloc, name)?;
     let why = why.text();
@@ -251,6 +256,25 @@ fn of_log(
     let step = one_line(alloc, step)?;
     let id = log.number();
     format!(in alloc; "build {build}{what}{why}, log {id}: {step}\n")
+}
+
+// A step whose command has no exit code.
+fn of_failure(
+    alloc: Global,
+    build: u64,
+    worker: &str,
+    said: &str,
+    log: LogId,
+    step: &str,
+) -> Result<String, AllocError>
+    ensures { IfOk result
+        (λ s. string_bytes s ≡ failed_line build worker.now said.now log step.now) }
+{
+    let worker = one_line(alloc, worker)?;
+    let said = one_line(alloc, said)?;
+    let step = one_line(alloc, step)?;
+    let id = log.number();
+    format!(in alloc; "build {build} step failed on {worker}, {said}, log {id}: {step}\n")
 }
 
 // The program of a worker that was not started.

@@ -3,7 +3,7 @@
 use bm_config::{Config, ConfigFault, read_config};
 use bm_master::serve;
 use bm_replay::read_up_to;
-use bm_rules::REFUSED;
+use bm_rules::{REFUSED, status};
 use std::alloc::AllocGlobal;
 use std::fs::Files;
 use std::io::{ErrorKind, Read, Write};
@@ -17,9 +17,6 @@ use std::{fs, str};
 
 /// A configuration may have so many bytes.
 const MOST_BYTES: usize = 67_108_864;
-
-/// The exit status at want of memory.
-const NO_MEMORY: u8 = 1;
 
 /// Why there is no configuration.
 enum Refusal {
@@ -60,7 +57,7 @@ fn refuse<F: Write + Drop>(refusal: Refusal, faults: F) -> u8 {
     let _ = match refusal {
         Refusal::File => writeln!(faults, "bad configuration: file"),
         Refusal::Syntax => writeln!(faults, "bad configuration: syntax"),
-        Refusal::Fault(ConfigFault::Mem) => return NO_MEMORY,
+        Refusal::Fault(ConfigFault::Mem) => return status(&[], true),
         Refusal::Fault(fault) => writeln!(faults, "bad configuration: {fault}"),
     };
     REFUSED

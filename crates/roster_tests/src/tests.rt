@@ -76,8 +76,11 @@ fn viewer_for<Y: Yard>(roster: &mut Roster<Y>, number: u64) -> Option<Viewer<Y>>
 }
 
 /// Whether the builds wait for their worker.
-fn are_waiting<Y: Yard>(roster: &mut Roster<Y>) -> bool {
-    starts_none(roster) && roster.is_wanted(0) && !roster.has_build(0)
+fn are_waiting<Y: Yard>(alloc: Global, roster: &mut Roster<Y>) -> bool {
+    starts_none(roster)
+        && roster.is_wanted(0)
+        && !roster.has_build(0)
+        && roster.results(alloc).is_none()
 }
 
 /// Whether the first build, which holds the lock alone, runs without another one. It is cancelled
@@ -116,6 +119,14 @@ fn second_is_run<Y: Yard>(roster: &mut Roster<Y>) -> bool {
     }
 }
 
+/// How the builds end.
+const ENDS: [Results; 4] = [
+    Results::Cancelled,
+    Results::Failure,
+    Results::Retry,
+    Results::Cancelled,
+];
+
 /// Whether each build has its result.
 fn are_over<Y: Yard>(roster: &Roster<Y>) -> bool {
     roster.is_over()
@@ -125,6 +136,14 @@ fn are_over<Y: Yard>(roster: &Roster<Y>) -> bool {
         && roster.result(1) == Some(Results::Failure)
         && roster.result(2) == Some(Results::Retry)
         && roster.result(3) == Some(Results::Cancelled)
+}
+
+/// Whether each build's result is listed, by its number.
+fn are_listed<Y: Yard>(alloc: Global, roster: &Roster<Y>) -> bool {
+    match roster.results(alloc) {
+        Some(results) => results.as_slice() == ENDS.as_slice(),
+        None => false,
+    }
 }
 
 /// Whether both viewers are on their bench.
@@ -140,10 +159,11 @@ fn is_kept<Y: Yard>(alloc: Global, viewers: Vec<Viewer<Y>>) -> bool {
     match roster_of(alloc, viewers) {
         Some(mut roster) => {
             let is_right = are_added(alloc, &mut roster)
-                && are_waiting(&mut roster)
+                && are_waiting(alloc, &mut roster)
                 && first_is_run(&mut roster)
                 && second_is_run(&mut roster)
-                && are_over(&roster);
+                && are_over(&roster)
+                && are_listed(alloc, &roster);
             are_back(roster) && is_right
         }
         None => false,

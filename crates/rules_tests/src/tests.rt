@@ -208,7 +208,7 @@ fn says(alloc: Global, remark: Remark<'_>, line: &str) -> bool {
 }
 
 /// Remarks, and their lines.
-const REMARKS: [(Remark<'static>, &str); 4] = [
+const REMARKS: [(Remark<'static>, &str); 5] = [
     (
         Remark::StepStarted {
             build: 2,
@@ -235,6 +235,20 @@ const REMARKS: [(Remark<'static>, &str); 4] = [
             step: "s",
         },
         "build 7 step not started, cancelled: s\n",
+    ),
+    (
+        Remark::StepFailed {
+            build: 7,
+            log: LogId {
+                command: 2,
+                lane: 0,
+                lanes: 1,
+            },
+            worker: "w 0",
+            said: "cannot start: no such file\r",
+            step: "s",
+        },
+        "build 7 step failed on w 0, cannot start: no such file\\x0d, log 2: s\n",
     ),
     (
         Remark::MoreRefused { count: 90 },

@@ -33,7 +33,7 @@ where
 static GUARDED: [Act; 5] = [
     Act::Runs(0, "a"),
     Act::IsAlone,
-    Act::Awaits("login refused, already up: w0"),
+    Act::Awaits("login refused, already up, from 127.0.0.1:"),
     Act::Exits(0, 0),
     Act::Reports("build 0 SUCCESS"),
 ];

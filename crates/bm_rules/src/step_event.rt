@@ -1,0 +1,86 @@
+//! What happens to a step, and what an operator is told of it.
+
+ghost use Rattle.std.specs.Prelude.{◌≡◌};
+ghost use Rattle.bm_rules.specs.Remark.{remark_line};
+ghost use Rattle.bm_rules.specs.StepEvents.{event_line};
+
+use crate::log_id::LogId;
+use crate::reasons::{StartRefusal, StepLimit};
+use crate::remark::Remark;
+use bm_session::Results;
+
+/// What happened to a step. Commands are by their numbers on the worker's lane.
+#[derive(Clone, Copy, PartialEq, Eq)]
+pub enum StepEvent {
+    /// It was started as this command.
+    Started(u64),
+    /// It was not started.
+    Refused(StartRefusal),
+    /// This command has reached a limit, and is interrupted.
+    Stopped(u64, StepLimit),
+    /// This command has no exit code, though nobody interrupted it.
+    Failed(u64),
+    /// This command ended so.
+    Ended(u64, Results),
+}
+
+impl StepEvent {
+    /// What is told of it, where it happened to this step of this build, on the lane of this worker,
+    /// at this place among so many. `said` is what the worker said last.
+    pub fn remark<'a>(
+        self,
+        build: u64,
+        lane: u64,
+        lanes: u64,
+        worker: &'a str,
+        step: &'a str,
+        said: &'a str,
+    ) -> Remark<'a>
+        ensures { remark_line result
+            ≡ event_line build lane lanes worker.now step.now said.now self }
+    {
+        match self {
+            StepEvent::Started(command) => Remark::StepStarted {
+                build,
+                log: LogId {
+                    command,
+                    lane,
+                    lanes,
+                },
+                step,
+            },
+            StepEvent::Refused(why) => Remark::StepRefused { build, why, step },
+            StepEvent::Stopped(command, limit) => Remark::StepStopped {
+                build,
+                log: LogId {
+                    command,
+                    lane,
+                    lanes,
+                },
+                limit,
+                step,
+            },
+            StepEvent::Failed(command) => Remark::StepFailed {
+                build,
+                log: LogId {
+                    command,
+                    lane,
+                    lanes,
+                },
+                worker,
+                said,
+                step,
+            },
+            StepEvent::Ended(command, result) => Remark::StepEnded {
+                build,
+                log: LogId {
+                    command,
+                    lane,
+                    lanes,
+                },
+                result,
+                step,
+            },
+        }
+    }
+}

@@ -1,0 +1,43 @@
+// Refuses one start of a thread: the one with the number REFUSE_THREAD, counted from 1 among those of one thread. That is the main
+// thread where REFUSE_OF is 0, and else the one that the main thread started as its first, second and so on. What was refused is
+// told by the file REFUSE_TOLD, which it makes.
+#define _GNU_SOURCE
+#include <dlfcn.h>
+#include <errno.h>
+#include <fcntl.h>
+#include <pthread.h>
+#include <stdlib.h>
+#include <unistd.h>
+#define MOST 1000
+static struct start { void *(*work)(void *); void *with; unsigned long place; } starts[MOST];
+static unsigned long asked, refused, of, begun;
+// Which of the main thread's this one is: 0 for all that other threads started.
+static __thread unsigned long place;
+// Programs that this one starts are refused nothing.
+__attribute__((constructor)) static void begin(void) {
+    const char *at = getenv("REFUSE_THREAD"), *by = getenv("REFUSE_OF");
+    refused = at ? strtoul(at, 0, 10) : 0;
+    of = by ? strtoul(by, 0, 10) : 0;
+    unsetenv("LD_PRELOAD");
+}
+static void *placed(void *with) {
+    struct start *start = with;
+    place = start->place;
+    return start->work(start->with);
+}
+int pthread_create(pthread_t *thread, const pthread_attr_t *attr, void *(*work)(void *), void *with) {
+    static int (*real)(pthread_t *, const pthread_attr_t *, void *(*)(void *), void *);
+    if (!real) real = dlsym(RTLD_NEXT, "pthread_create");
+    int is_main = gettid() == getpid();
+    if ((of ? place == of : is_main) && __atomic_add_fetch(&asked, 1, __ATOMIC_SEQ_CST) == refused) {
+        const char *path = getenv("REFUSE_TOLD");
+        int fd = path ? open(path, O_CREAT | O_WRONLY, 0600) : -1;
+        if (fd >= 0) close(fd);
+        return EAGAIN;
+    }
+    // The main thread alone counts here.
+    if (!is_main || begun == MOST) return real(thread, attr, work, with);
+    struct start *start = &starts[begun];
+    *start = (struct start){work, with, ++begun};
+    return real(thread, attr, placed, start);
+}
