@@ -66,11 +66,11 @@ class Trouble(Strangers):
             (self.outage, 2, 8),
             (self.dark, 1, 3),
             (self.fill, 4, 12),
-            (self.block_errors, 4, 10),
-            (self.cancel, 4, 12),
+            (self.block_errors, 3, 8),
+            (self.cancel, 2, 8),
             (self.cancel_silent, 0.5, 1.5),
         ]
-        for act, least, most in acts + ([(self.dark_for_good, 20, 60)] if IS_LONG else []):
+        for act, least, most in acts + ([(self.dark_for_good, 5, 15)] if IS_LONG else []):
             self.later(self.again_and_again(act, least, most))
         self.later(self.crowd())
 
@@ -85,12 +85,14 @@ class Trouble(Strangers):
                     fault(f"{act.__name__}: {error!r}")
 
     async def end(self):
+        """Ends all. A wait with a limit that just met its end passes over a cancel, so it is tried again."""
+        while going := [task for task in self.tasks if not task.done()]:
+            for task in going:
+                task.cancel()
+            await asyncio.wait(going, timeout=1)
         for task in self.tasks:
-            task.cancel()
-        ends = await asyncio.gather(*self.tasks, return_exceptions=True)
-        for end in ends:
-            if isinstance(end, Exception):
-                fault(f"a trouble ended: {end!r}")
+            if not task.cancelled() and task.exception() is not None:
+                fault(f"a trouble ended: {task.exception()!r}")
         self.tasks.clear()
 
     @staticmethod
@@ -110,7 +112,8 @@ class Trouble(Strangers):
 
     async def outage(self):
         """A worker's way to its master is away for some seconds."""
-        way = self.chosen(LINKED).way
+        printing = {step.worker for step in self.builds.of_kind("prints") if step.log is not None and step.result is None}
+        way = self.chosen([worker for worker in LINKED if worker in printing] or LINKED).way
         async with way.calm:
             FIGURES["outages"] += 1
             await way.be_away(CHANCE.uniform(0, MOST_SECONDS_AWAY))
@@ -128,7 +131,7 @@ class Trouble(Strangers):
             FIGURES["dark connections"] += 1
             try:
                 await asyncio.sleep(CHANCE.uniform(0, 3))
-                if worker.is_faithful or worker.is_latent or CHANCE.random() < 0.5:
+                if worker.is_faithful or worker.is_latent or FIGURES["dark connections"] % 2:
                     await self.come_back(worker, ride)
                 else:
                     await self.take_over(worker)
@@ -147,7 +150,10 @@ class Trouble(Strangers):
                 return fault(f"{worker.name} isn't back from a dark connection")
             await asyncio.sleep(0.05)
         FIGURES["workers back from a dark connection"] += 1
-        await asyncio.wait_for(ride.is_left_by_master.wait(), 5)
+        try:
+            await asyncio.wait_for(ride.is_left_by_master.wait(), 5)
+        except asyncio.TimeoutError:
+            fault(f"the master keeps the dark connection of {worker.name}")
 
     async def take_over(self, worker):
         answer, seconds = await self.log_in(worker.name, worker.password)
@@ -159,6 +165,8 @@ class Trouble(Strangers):
 
     async def dark_for_good(self):
         """A connection goes dark, and nobody ends it: master and worker notice by themselves, and the session goes on."""
+        if not FIGURES["crowds"]:
+            return
         worker = self.chosen([worker for worker in LINKED if worker.is_faithful])
         async with worker.way.calm:
             await asyncio.sleep(0.3)
@@ -166,6 +174,7 @@ class Trouble(Strangers):
             if ride is None or not worker.is_up:
                 return
             ride.is_dark, begun = True, time.monotonic()
+            FIGURES["dark connections"] += 1
             try:
                 while worker.told["resumed"] == resumed:
                     if time.monotonic() - begun > SECONDS_TO_NOTICE:
@@ -237,11 +246,11 @@ class Trouble(Strangers):
             await asyncio.sleep(0.05)
 
     async def cancel(self):
-        build = CHANCE.randrange(len(self.builds.builds))
-        kinds = {step.kind for step in self.builds.builds[build]}
-        if kinds == {"prints"} and FIGURES["cancels"] < 12 and build not in self.builds.results:
+        """A build that prints is cancelled, before its start or while it runs."""
+        printing = {step.build for step in self.builds.of_kind("prints") if step.build not in self.builds.results}
+        if printing and FIGURES["cancels"] < 12:
             FIGURES["cancels"] += 1
-            self.builds.cancel(build)
+            self.builds.cancel(CHANCE.choice(sorted(printing)))
 
     async def cancel_silent(self):
         """Silent commands end by their cancel alone."""

@@ -20,7 +20,7 @@ class Ride:
         self.seconds = MOST_SECONDS if self.is_long else CHANCE.uniform(0.2, 3)
         if is_whole:
             self.left, self.piece, self.seconds = math.inf, 4_096, MOST_SECONDS
-        # Once it is to be halved the next bytes are the first half of what came, and the last.
+        # Once it is to be halved its last bytes to the master are half of what comes next.
         self.is_halved = False
         # Once it is dark nothing is carried any more, and both ends stay open until it is over.
         self.is_dark, self.over, self.is_left_by_master = False, asyncio.Event(), asyncio.Event()
@@ -49,10 +49,10 @@ class Way:
         self.port = self.server.sockets[0].getsockname()[1]
 
     async def be_away(self, seconds):
-        """For so long all connections are gone, each in the midst of what it carries, and connects are refused."""
+        """For so long all connections are gone, in the midst of what a worker says, and connects are refused."""
         for ride in self.rides:
             ride.is_halved = True
-        for _ in range(20):
+        for _ in range(50):
             if all(ride.is_cut for ride in self.rides):
                 break
             await asyncio.sleep(0.02)
@@ -95,7 +95,7 @@ class Way:
             while not ride.is_dark and (data := await reader.read(ride.piece)):
                 if ride.is_dark:
                     break
-                if ride.is_halved and len(data) > 1:
+                if ride.is_halved and writer is ride.far and len(data) > 200:
                     return self.halve(ride, writer, data)
                 if ride.counts(writer):
                     if len(data) >= ride.left and not self.calm.locked():
@@ -123,8 +123,7 @@ class Way:
     @staticmethod
     def halve(ride, writer, data):
         writer.write(data[: len(data) // 2])
-        if writer is ride.far and not ride.is_cut:
-            FIGURES["outages in mid-line"] += 1
+        FIGURES["outages in mid-line"] += not ride.is_cut
         ride.is_cut = True
         ride.reset()
 
