@@ -8,9 +8,9 @@ import re
 import signal
 import time
 
-import numbered_lines
 from chaos_parts import CHANCE, FIGURES, HERE, IS_LONG, LINES, fault, program
 from chaos_way import Way
+from processes import environment
 
 PRINTER = os.path.join(HERE, "numbered_lines.py")
 # What the link of the narrow worker carries, and what is printed on it beside short commands.
@@ -18,8 +18,6 @@ BYTES_A_SECOND = 250_000
 NOISY_LINES = min(max(LINES // 2, 30_000), 200_000)
 SHORT = 80 if IS_LONG else 16
 SILENT = 24 if IS_LONG else 6
-# Each process that is started here has this in its environment.
-MARK = ("CHAOS_OF", f"{os.getpid()}-{time.time()}")
 
 
 class Worker:
@@ -47,8 +45,8 @@ class Worker:
 
     async def start(self, errors):
         null = asyncio.subprocess.DEVNULL
-        environment = {**os.environ, MARK[0]: MARK[1]}
-        self.process = await asyncio.create_subprocess_exec(*self.words(), stdin=null, stdout=errors, stderr=errors, env=environment)
+        where = {"stdin": null, "stdout": errors, "stderr": errors, "env": environment()}
+        self.process = await asyncio.create_subprocess_exec(*self.words(), **where)
 
     async def live(self, errors):
         """Runs the worker's process, again and again. It prints nothing, and ends when it is killed, or gives up."""

@@ -106,7 +106,7 @@ def compare_build(builds, number, steps):
         fault(f"build {number} ended SUCCESS after {results}")
     if result == "CANCELLED" and not is_cancelled or result not in ("SUCCESS", "CANCELLED", "RETRY"):
         fault(f"build {number} ended {result}")
-    if number not in builds.halved or not is_cancelled or results[0] != "SUCCESS":
+    if number not in builds.halved or not is_cancelled or results[:1] != ["SUCCESS"]:
         return
     # It was cancelled as its first step ended: the next one wasn't started, or was interrupted.
     FIGURES["steps that a cancel between steps " + ("interrupted" if len(results) > 1 else "kept from a start")] += 1

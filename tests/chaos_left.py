@@ -4,48 +4,12 @@ import asyncio
 import os
 import time
 
-from chaos_builds import MARK, STRANGER, WORKERS
+from chaos_builds import STRANGER, WORKERS
 from chaos_parts import fault
+from processes import held, marked, name_of
 
 # Strangers have so many seconds to log in, and a command that outlived its worker ends at its next line.
 MOST_SECONDS = 30
-
-
-def children_of(parent):
-    """The processes that this one started."""
-    for entry in filter(str.isdigit, os.listdir("/proc")):
-        try:
-            with open(f"/proc/{entry}/stat", encoding="ascii", errors="replace") as stat:
-                if int(stat.read().rpartition(")")[2].split()[1]) == parent:
-                    yield int(entry)
-        except OSError:
-            pass
-
-
-def marked():
-    """All processes that were started here, directly or not, and run."""
-    mark, found = "=".join(MARK).encode(), []
-    for entry in filter(str.isdigit, os.listdir("/proc")):
-        try:
-            with open(f"/proc/{entry}/environ", "rb") as file:
-                if mark in file.read().split(b"\0"):
-                    found.append(int(entry))
-        except OSError:
-            pass
-    return found
-
-
-def name_of(pid):
-    try:
-        with open(f"/proc/{pid}/cmdline", "rb") as file:
-            return file.read().replace(b"\0", b" ").decode(errors="replace")[:100]
-    except OSError:
-        return "gone"
-
-
-def held(pid):
-    """How many threads and descriptors a process has."""
-    return len(os.listdir(f"/proc/{pid}/task")), len(os.listdir(f"/proc/{pid}/fd"))
 
 
 class Left:

@@ -10,10 +10,10 @@ import time
 
 import wire
 from chaos_builds import LINKED
-from chaos_left import children_of
 from chaos_parts import CHANCE, FIGURES, IS_LONG, fault
 from chaos_readers import BadReaders
 from chaos_strangers import SECONDS_TO_ANSWER, Strangers
+from processes import children_of
 
 MOST_SECONDS_AWAY = 5
 # After a minute of silence a worker and a master take each other for dead.
