@@ -182,12 +182,15 @@ class Strangers:
             await calm.enter_async_context(self.descriptors)
             await asyncio.sleep(0.5)
             with contextlib.suppress(OSError):
-                async with self.opened([self.workers_address] * (MOST_GUESTS * 5 // 4)):
-                    FIGURES["crowds"] += 1
-                    for _ in range(80):
-                        await asyncio.sleep(0.1)
-                        if FIGURES["connection refused, too many connections"]:
-                            break
+                await self.be_crowded()
+
+    async def be_crowded(self):
+        async with self.opened([self.workers_address] * (MOST_GUESTS * 5 // 4)):
+            FIGURES["crowds"] += 1
+            for _ in range(80):
+                await asyncio.sleep(0.1)
+                if FIGURES["connection refused, too many connections"]:
+                    return
 
     @contextlib.asynccontextmanager
     async def opened(self, addresses):

@@ -173,17 +173,21 @@ class Trouble(Strangers):
             ride, resumed = worker.way.ride(), worker.told["resumed"]
             if ride is None or not worker.is_up:
                 return
-            ride.is_dark, begun = True, time.monotonic()
+            ride.is_dark = True
             FIGURES["dark connections"] += 1
             try:
-                while worker.told["resumed"] == resumed:
-                    if time.monotonic() - begun > SECONDS_TO_NOTICE:
-                        return fault(f"a dark connection of {worker.name} wasn't noticed within {SECONDS_TO_NOTICE} s")
-                    await asyncio.sleep(0.1)
+                await asyncio.wait_for(self.resumes(worker, resumed), SECONDS_TO_NOTICE)
                 FIGURES["dark connections that were noticed"] += 1
+            except asyncio.TimeoutError:
+                fault(f"a dark connection of {worker.name} wasn't noticed within {SECONDS_TO_NOTICE} s")
             finally:
                 ride.over.set()
                 ride.reset()
+
+    @staticmethod
+    async def resumes(worker, resumed):
+        while worker.told["resumed"] == resumed:
+            await asyncio.sleep(0.1)
 
     async def kill(self):
         """A worker that is logged in is killed, mostly in mid-line."""
@@ -223,18 +227,21 @@ class Trouble(Strangers):
         async with self.descriptors, self.builds.heard:
             self.errors.transport.pause_reading()
             try:
-                for _ in range(60):
-                    await self.log_in("n" * 250, "secret")
-                    if self.errors.is_full():
-                        break
-                    await asyncio.sleep(0.05)
+                await self.fill_errors()
                 await asyncio.sleep(CHANCE.uniform(0.3, 1))
-                if self.errors.is_full():
-                    FIGURES["times that standard error was blocked"] += 1
-                    await self.awaits_look()
+                FIGURES["times that standard error was blocked"] += self.errors.is_full()
+                await self.awaits_look()
             finally:
                 self.errors.transport.resume_reading()
             await asyncio.sleep(0.2)
+
+    async def fill_errors(self):
+        """At most ten of these are told in a second."""
+        for _ in range(60):
+            await self.log_in("n" * 250, "secret")
+            if self.errors.is_full():
+                return
+            await asyncio.sleep(0.05)
 
     @staticmethod
     async def awaits_look():

@@ -97,18 +97,28 @@ class Way:
                     break
                 if ride.is_halved and writer is ride.far and len(data) > 200:
                     return self.halve(ride, writer, data)
-                if ride.counts(writer):
-                    if len(data) >= ride.left and not self.calm.locked():
-                        return await self.cut(ride, writer, data)
-                    ride.left = max(0, ride.left - len(data))
-                writer.write(data)
-                await writer.drain()
-                if self.bytes_a_second:
-                    await asyncio.sleep(len(data) / self.bytes_a_second)
+                if self.is_last(ride, writer, data):
+                    return await self.cut(ride, writer, data)
+                await self.carry_on(writer, data)
         if ride.is_dark:
             await self.be_dark(ride, reader, writer)
         for end in ride.ends:
             end.close()
+
+    def is_last(self, ride, writer, data):
+        """Whether it is cut within these bytes. They count."""
+        if not ride.counts(writer):
+            return False
+        if len(data) >= ride.left and not self.calm.locked():
+            return True
+        ride.left = max(0, ride.left - len(data))
+        return False
+
+    async def carry_on(self, writer, data):
+        writer.write(data)
+        await writer.drain()
+        if self.bytes_a_second:
+            await asyncio.sleep(len(data) / self.bytes_a_second)
 
     @staticmethod
     async def be_dark(ride, reader, writer):

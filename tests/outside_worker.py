@@ -217,12 +217,15 @@ class Worker:
         for place in range(80):
             await self.say(command, f"over a cut {place} of {command}\n")
             if place % 20 == 10:
-                async with self.gate:
-                    if self.socket is not None:
-                        self.cuts += 1
-                        self.socket.abort()
+                await self.abort()
             await asyncio.sleep(random.random() / 100)
         await self.finish(command)
+
+    async def abort(self):
+        async with self.gate:
+            if self.socket is not None:
+                self.cuts += 1
+                self.socket.abort()
 
     async def is_given_up(self, command):
         """Waits for the end of the session, which is the end of this script."""
