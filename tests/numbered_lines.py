@@ -5,7 +5,7 @@
 
 The same words print the same lines, so that a log can be compared with them. Most are short; some are empty, some longer
 than a worker says at once; some have bytes that aren't UTF-8. They are written in pieces that end anywhere in a line, with
-pauses of some SECONDS in all.
+pauses of some SECONDS in all, twice as many at most.
 """
 
 import os
@@ -61,14 +61,14 @@ def write_in_pieces(chance, pipe, data):
 def print_all(seed, lines, seconds):
     chance = random.Random()
     waiting, left = {OUTPUT: b"", ERRORS: b""}, 1
-    for pipe, line in printed(seed, lines):
+    for number, (pipe, line) in enumerate(printed(seed, lines), 1):
         waiting[pipe] += line + b"\n"
         left -= 1
         if left == 0:
             for each in (OUTPUT, ERRORS):
                 write_in_pieces(chance, each, waiting[each])
                 waiting[each] = b""
-            left = chance.choice([1, 5, 50, 200])
+            left = min(chance.choice([1, 5, 50, 200]), lines - number)
             time.sleep(2 * chance.random() * seconds * left / lines)
     for each in (OUTPUT, ERRORS):
         write(each, waiting[each])

@@ -1,0 +1,156 @@
+"""Compares what `tests/chaos` found with what has to be: each line of each log, results, sessions, and least numbers."""
+
+import collections
+
+import numbered_lines
+from chaos_builds import WORKERS
+from chaos_parts import FIGURES, IS_LONG, LINES, fault
+
+LETTERS = {numbered_lines.OUTPUT: "o", numbered_lines.ERRORS: "e"}
+# The end of a short command is told within so many seconds beside a noisy one: its own two, what is on its way on the
+# narrow link, and as long as the master is stopped or its standard error is left unread.
+MOST_SECONDS = 2 + 5 + 4
+# How often each thing has to happen at least, in a run of 30,000 lines and in one of 500,000.
+LEAST = {
+    "cuts": (8, 80),
+    "dark connections": (1, 10),
+    "workers back from a dark connection": (1, 5),
+    "dark connections that were noticed": (0, 1),
+    "resumptions": (6, 60),
+    "looks": (1_000, 20_000),
+    "outages": (1, 6),
+    "outages in mid-line": (0, 3),
+    "kills": (1, 8),
+    "stops": (5, 40),
+    "second logins": (2, 12),
+    "workers that trickle": (2, 10),
+    "logins of 1 MiB": (2, 20),
+    "cancels": (1, 6),
+    "cancels between steps": (1, 8),
+    "cancels of silent commands": (4, 16),
+    "times that standard error was blocked": (1, 4),
+    "slow readers": (5, 60),
+    "readers that stopped in mid-answer": (1, 20),
+    "readers that were cut": (0, 8),
+    "short commands beside a noisy one": (4, 20),
+}
+
+
+def judged(found, printed, is_whole):
+    """How many lines are lost, doubled, moved or were never printed, where a pipe's lines in a log had to be those that
+    were printed, or a beginning of them."""
+    if found == (printed if is_whole else printed[: len(found)]):
+        return {}
+    had, all_due = collections.Counter(found), collections.Counter(printed)
+    places = {line: place for place, line in enumerate(printed) if all_due[line] == 1}
+    known = [places[line] for line in found if line in places]
+    due = collections.Counter(printed if is_whole else printed[: max(known, default=-1) + 1])
+    strange = sum(line not in all_due for line in found)
+    return {
+        "lines lost": sum((due - had).values()),
+        "lines doubled": sum((had - all_due).values()) - strange,
+        "lines moved": sum(one > next_one for one, next_one in zip(known, known[1:])),
+        "lines never printed": strange,
+    }
+
+
+def compare(step, lines):
+    """Compares a log with what its command printed."""
+    last = "hprogram finished with exit code 0"
+    said = {letter: [] for letter in LETTERS.values()}
+    for pipe, line in numbered_lines.printed(step.seed, step.lines):
+        said[LETTERS[pipe]].extend(numbered_lines.shown(line))
+    headers = [place for place, line in enumerate(lines) if line[:1] == "h"]
+    has_ended = lines[-1:] == [last]
+    is_framed = lines[:1] in ([], ["h" + " ".join(step.words())]) and headers in ([], [0], [0, len(lines) - 1])
+    if not is_framed or (step.result == "SUCCESS" and not has_ended) or (len(headers) == 2 and not has_ended):
+        fault(f"log {step.log}, {step.result}: its header lines are {[lines[place][:100] for place in headers]}")
+    for letter, printed in said.items():
+        found = [line[1:] for line in lines if line[:1] == letter]
+        wrong = judged(found, printed, has_ended or step.result == "SUCCESS")
+        FIGURES.update(wrong)
+        if wrong:
+            place = next((at for at, pair in enumerate(zip(found, printed)) if pair[0] != pair[1]), len(found))
+            fault(
+                f"log {step.log}, {step.result}, pipe {letter}: {len(found)} of {len(printed)} lines, {wrong}; line {place} is"
+                f" {found[place : place + 1]!r:.100} for {printed[place : place + 1]!r:.100}"
+            )
+    FIGURES["lines compared"] += len(lines)
+    FIGURES[f"logs that ended {step.result}"] += 1
+
+
+def compare_all(builds, shelf):
+    for step in builds.steps.values():
+        if step.log is None:
+            if step.result is not None:
+                fault(f"{step.name} ended before it started")
+            continue
+        if step.result not in ("SUCCESS", "RETRY", "CANCELLED") or step.kind == "silent" and step.result == "SUCCESS":
+            fault(f"log {step.log} ended {step.result}")
+        compare(step, shelf.lines.get(step.log, []))
+    for number, steps in enumerate(builds.builds):
+        compare_build(builds, number, steps)
+    for worker in WORKERS:
+        compare_sessions(worker, builds)
+    compare_shorts(builds)
+    if FIGURES["crowds"] and not FIGURES["connection refused, too many connections"]:
+        fault("no connection was one too many")
+    if FIGURES["times that the descriptors were filled"] and not FIGURES["accepting paused"]:
+        fault("accepting never paused")
+
+
+def compare_build(builds, number, steps):
+    results = [step.result for step in steps if step.log is not None]
+    result, is_cancelled = builds.results[number], number in builds.cancelled
+    if result == "SUCCESS" and (results != ["SUCCESS"] * len(steps)):
+        fault(f"build {number} ended SUCCESS after {results}")
+    if result == "CANCELLED" and not is_cancelled or result not in ("SUCCESS", "CANCELLED", "RETRY"):
+        fault(f"build {number} ended {result}")
+    if number not in builds.halved or not is_cancelled or results[:1] != ["SUCCESS"]:
+        return
+    # It was cancelled as its first step ended: the next one wasn't started, or was interrupted.
+    FIGURES["steps that a cancel between steps " + ("interrupted" if len(results) > 1 else "kept from a start")] += 1
+    if "SUCCESS" in results[1:] or result == "SUCCESS":
+        fault(f"build {number} was cancelled between its steps, and ended {result} after {results}")
+
+
+def compare_shorts(builds):
+    """The end of a short command doesn't wait for a noisy one."""
+    (noisy,) = builds.of_kind("noisy")
+    if noisy.over is None or noisy.began is None:
+        return
+    for step in builds.of_kind("short"):
+        if step.over is None or not noisy.began <= step.began <= noisy.over:
+            continue
+        FIGURES["short commands beside a noisy one"] += 1
+        took = step.over - step.began
+        FIGURES["milliseconds of the slowest short command"] = max(FIGURES["milliseconds of the slowest short command"], int(1_000 * took))
+        if took > MOST_SECONDS:
+            fault(f"the end of {step.name} was told after {took:.1f} s beside a noisy command of {noisy.over - noisy.began:.1f} s")
+
+
+def compare_sessions(worker, builds):
+    """Sessions are given up only where there is a reason, and only what ran on one ends RETRY."""
+    retries = sum(step.worker is worker and step.result == "RETRY" for step in builds.steps.values())
+    lost = worker.told["lost"]
+    FIGURES["resumptions"] += worker.told["resumed"]
+    FIGURES["sessions given up"] += lost
+    if retries > lost * worker.slots:
+        fault(f"{worker.name}: {retries} commands ended RETRY, and only {lost} sessions of {worker.slots} slots were given up")
+    if worker.is_faithful and lost > worker.ends + worker.taken_over:
+        fault(f"{worker.name}: {lost} sessions given up, and its process ended {worker.ends} times")
+    if worker.is_faithful and lost == 0 and not 0 <= worker.told["cut"] - worker.told["resumed"] <= 1:
+        fault(f"{worker.name}: {worker.told['cut']} cuts and {worker.told['resumed']} resumptions")
+    given_up = [number for number, steps in enumerate(builds.builds) if steps[0].worker is worker and builds.results[number] == "RETRY"]
+    if lost == 0 and given_up and not worker.is_latent:
+        fault(f"{worker.name}: builds {given_up} ended RETRY, and no session was given up")
+
+
+def demand_least():
+    """A run in which little happened shows little."""
+    if LINES < 30_000:
+        return
+    for name, (least, least_of_long) in LEAST.items():
+        due = least_of_long if IS_LONG else least
+        if FIGURES[name] < due:
+            fault(f"{FIGURES[name]} {name}, {due} are due")

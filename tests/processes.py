@@ -1,0 +1,47 @@
+"""Processes that a script of this folder starts, and what they leave behind."""
+
+import os
+import time
+
+# What a script starts has this in its environment, and so has what that starts.
+MARK = ("STARTED_BY", f"{os.getpid()}-{time.time()}")
+
+
+def environment():
+    return {**os.environ, MARK[0]: MARK[1]}
+
+
+def told_of(pid, what):
+    """A file of /proc; nothing where the process is gone."""
+    try:
+        with open(f"/proc/{pid}/{what}", "rb") as file:
+            return file.read()
+    except OSError:
+        return b""
+
+
+def all_processes():
+    return [int(entry) for entry in os.listdir("/proc") if entry.isdigit()]
+
+
+def marked():
+    """All processes that were started here, directly or not, and run."""
+    mark = "=".join(MARK).encode()
+    return [pid for pid in all_processes() if mark in told_of(pid, "environ").split(b"\0")]
+
+
+def children_of(parent):
+    """The processes that this one started."""
+    return [pid for pid in all_processes() if told_of(pid, "stat").rpartition(b")")[2].split()[1:2] == [b"%d" % parent]]
+
+
+def name_of(pid):
+    return told_of(pid, "cmdline").replace(b"\0", b" ").decode(errors="replace")[:100]
+
+
+def held(pid):
+    """How many threads and descriptors a process has; none where it is gone."""
+    try:
+        return len(os.listdir(f"/proc/{pid}/task")), len(os.listdir(f"/proc/{pid}/fd"))
+    except FileNotFoundError:
+        return 0, 0
