@@ -1,10 +1,15 @@
+-- A reader has to believe these. Items and Telling: what waits to be told, in which order, and what
+-- telling it does to the worker's core. Turns: of which command is told next.
 pub mod Items
 pub mod Telling
-pub mod Joining
-pub mod Stretches
-pub mod Headers
-pub mod Pipes
-pub mod Pieces
-pub mod Opening
 pub mod Turns
+-- What is said of a command: its header lines, the texts of its pipes, and its end.
+pub mod Headers
+pub mod Joining
+pub mod Pieces
+pub mod Pipes
+pub mod Opening
+-- What is done about a silent master.
 pub mod Keepalives
+-- How much of a pipe is shown at once. It helps the proofs alone.
+pub mod Stretches
