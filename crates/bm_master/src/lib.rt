@@ -8,6 +8,7 @@
 mod acceptor;
 mod builds;
 mod common;
+mod ending;
 mod foreman;
 mod input;
 mod news;

@@ -1,10 +1,9 @@
 //! A build master, from its sockets to its last report.
-ghost use Rattle.std.specs.Prelude.{◌≡◌, ◌<◌, [], ◌||◌, not, true, false, length, vec_len, IfNone, IfSome};
+ghost use Rattle.std.specs.Prelude.{◌≡◌, ◌<◌, length, vec_len, IfSome};
 ghost use Rattle.bm_lane.specs.Placed.{ArePlaced};
-ghost use Rattle.bm_rules.specs.Exit.{exit_status};
 
 use crate::common::{Common, Guest, flags_of};
-use crate::foreman::Left;
+use crate::ending::{end, failed, write_report};
 use crate::news::{Letters, Mail, open_mail};
 use crate::remarks::Remarks;
 use crate::seat::{Seat, seats_of};
@@ -14,13 +13,10 @@ use bm_clerk::{Bell, Desk, Guests};
 use bm_config::{Config, WorkerConfig};
 use bm_lane::{Blank, Viewer, WriterEnd, Yard, ends_of_all};
 use bm_link::User;
-use bm_parts::{
-    AllEnds, Doors, Parts, deal, maxima_of, open_all, open_doors, settle_all, slots_of, users_of,
-};
+use bm_parts::{Doors, Parts, deal, maxima_of, open_all, open_doors, slots_of, users_of};
 use bm_roster::{Bench, Roster};
-use bm_rules::{REFUSED, Report, status};
+use bm_rules::{REFUSED, Report};
 use bm_serve::Site;
-use bm_session::Results;
 use std::alloc::{AllocGlobal, Global};
 use std::io::{Read, Write};
 use std::marker::Brand;
@@ -63,25 +59,6 @@ fn refuse<F: Write>(faults: &mut F, key: &str) -> u8 {
     // Where it can't be told, the status still says that the configuration is refused.
     let _ = writeln!(faults, "bad configuration: {key}");
     REFUSED
-}
-
-// The exit status of a master that could not begin.
-fn failed() -> u8
-    ensures { result ≡ exit_status [] true }
-{
-    status(&[], true)
-}
-
-// The exit status of a master whose builds ended so, where each result is known. `failed` says that
-// the master itself failed.
-fn status_of(results: Option<Vec<Results>>, failed: bool) -> u8
-    ensures some { IfSome results (λ all. result ≡ exit_status all.items failed) }
-    ensures none { IfNone results (result ≡ exit_status [] true) }
-{
-    match &results {
-        Some(all) => status(all.as_slice(), failed),
-        None => status(&[], true),
-    }
 }
 
 /// Runs a build master: its workers connect, its builds run once each, and their logs are served on
@@ -521,80 +498,4 @@ where
         drop(input);
         None
     }
-}
-
-// Writes a report at once. The answer is whether it was written.
-fn write_report<O: Write>(alloc: Global, report: Report<'_>, output: &mut O) -> bool {
-    report.write(alloc, output).is_ok() && output.flush().is_ok()
-}
-
-// Settles the lanes once all threads have ended. The answer is the exit status: 0 only where all
-// that was to be done was done, and each build ended well.
-fn end<Y, R, O>(common: Common<Y, R>, site: Vec<Viewer<Y>>, came: Came<Y, O>) -> u8
-where
-    Y: Yard,
-    R: Wait + Clock + Drop,
-    O: Write + Drop,
-    ensures failed { came.left.has_failed || not came.is_whole ≡ true
-        → result ≡ exit_status [] true }
-    ensures unknown { IfNone came.left.results (result ≡ exit_status [] true) }
-    ensures good { IfSome came.left.results
-        (λ all. result ≡ 0 → exit_status all.items false ≡ 0) }
-{
-    let Came {
-        readers,
-        left,
-        is_whole,
-    } = came;
-    let Left {
-        benches,
-        output,
-        results,
-        has_failed,
-    } = left;
-    let Common {
-        rt,
-        alloc,
-        config,
-        lanes,
-        ..
-    } = common;
-    let ends = AllEnds {
-        readers,
-        writers: lanes,
-        benches,
-        site,
-    };
-    let is_settled = close(&rt, alloc, config.workers.as_slice(), ends, output);
-    status_of(results, has_failed || !is_whole || !is_settled)
-}
-
-// Settles the lanes, and reports what each had. The answer is whether all could be settled and
-// reported.
-fn close<Y: Yard, R: Wait + Drop, O: Write + Drop>(
-    rt: &R,
-    alloc: Global,
-    workers: &[WorkerConfig],
-    ends: AllEnds<Y, R>,
-    output: O,
-) -> bool {
-    let mut output = output;
-    let Ok(tallies) = settle_all(rt, alloc, ends) else {
-        return false;
-    };
-    let mut is_good = tallies.len() == workers.len();
-    for (worker, tally) in workers.iter().zip(tallies.as_slice()) {
-        match tally {
-            Ok(tally) => {
-                let lane = Report::Lane {
-                    name: worker.name.as_str(),
-                    commands: tally.commands,
-                    lines: u128::from(tally.lines),
-                };
-                is_good = write_report(alloc, lane, &mut output) && is_good;
-            }
-            Err(_) => is_good = false,
-        }
-    }
-    is_good
 }

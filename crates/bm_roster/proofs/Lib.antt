@@ -2,5 +2,5 @@ mod Below
 pub mod Benching
 pub mod Calls
 pub mod Counting
-mod Starts
+mod Listing
 mod Staying

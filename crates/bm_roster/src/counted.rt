@@ -2,7 +2,7 @@
 ghost use Rattle.std.specs.Prelude.{◌≡◌, ◌⊎◌, ◌<◌, ◌≤◌, ◌+◌, ◌^◌, All, IfErr, IfOk, IsOk, OnErr, OnOk, Err, Some, length, position, slice_index};
 ghost use Rattle.bm_board.specs.Board.{add_refusal, on_build, opening, result_on, start, with_build, with_ready};
 ghost use Rattle.bm_board.specs.Job.{answer_of, cancel, give_up, waits_for};
-ghost use Rattle.bm_roster.specs.Roster.{IsStarted, after_cancel, after_end, after_giving_up, has_build, is_wanted};
+ghost use Rattle.bm_roster.specs.Roster.{CanStart, IsStarted, after_cancel, after_end, after_giving_up, has_build, is_wanted};
 ghost use Rattle.bm_roster.specs.Counted.{IsOneMore, worker_of};
 
 use bm_board::{Board, BoardRefusal, Build};
@@ -136,6 +136,7 @@ impl CountedBoard {
     /// Errors: those of the board. Nothing has changed then.
     pub fn start(&mut self, number: u64) -> Result<usize, BoardRefusal>
         ensures started { IfOk result (λ worker. IsStarted self.old self.new number worker) }
+        ensures short { IfErr result (λ why. why ≡ BoardRefusal.Mem → CanStart self.old) }
         ensures refused { IfErr result (λ why. (on_build (start self.old) self.old number ≡ Err why)
             ⊎ (IsOk (on_build (start self.old) self.old number) × (why ≡ BoardRefusal.Mem))) }
         ensures unchanged { OnErr result (self.new ≡ self.old) }

@@ -196,10 +196,11 @@ impl<Y: Yard> Roster<Y> {
         }
         let worker = match self.board.start(number) {
             Ok(worker) => worker,
-            Err(why) => {
-                self.is_short = self.is_short || why == BoardRefusal::Mem;
+            Err(BoardRefusal::Mem) => {
+                self.is_short = true;
                 return None;
             }
+            Err(_) => return None,
         };
         match self.take_viewer(worker) {
             Some(viewer) => Some(Commission {

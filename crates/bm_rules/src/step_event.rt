@@ -2,7 +2,7 @@
 
 ghost use Rattle.std.specs.Prelude.{◌≡◌};
 ghost use Rattle.bm_rules.specs.Remark.{remark_line};
-ghost use Rattle.bm_rules.specs.StepEvents.{event_line};
+ghost use Rattle.bm_rules.specs.StepEvents.{event_line, log_of};
 
 use crate::log_id::LogId;
 use crate::reasons::{StartRefusal, StepLimit};
@@ -40,47 +40,41 @@ impl StepEvent {
             ≡ event_line build lane lanes worker.now step.now said.now self }
     {
         match self {
-            StepEvent::Started(command) => Remark::StepStarted {
-                build,
-                log: LogId {
-                    command,
-                    lane,
-                    lanes,
-                },
-                step,
-            },
+            StepEvent::Started(command) => {
+                let log = log_of(command, lane, lanes);
+                Remark::StepStarted { build, log, step }
+            }
             StepEvent::Refused(why) => Remark::StepRefused { build, why, step },
             StepEvent::Stopped(command, limit) => Remark::StepStopped {
                 build,
-                log: LogId {
-                    command,
-                    lane,
-                    lanes,
-                },
+                log: log_of(command, lane, lanes),
                 limit,
                 step,
             },
             StepEvent::Failed(command) => Remark::StepFailed {
                 build,
-                log: LogId {
-                    command,
-                    lane,
-                    lanes,
-                },
+                log: log_of(command, lane, lanes),
                 worker,
                 said,
                 step,
             },
             StepEvent::Ended(command, result) => Remark::StepEnded {
                 build,
-                log: LogId {
-                    command,
-                    lane,
-                    lanes,
-                },
+                log: log_of(command, lane, lanes),
                 result,
                 step,
             },
         }
+    }
+}
+
+// The log of a command on the lane at this place among so many.
+fn log_of(command: u64, lane: u64, lanes: u64) -> LogId
+    ensures { result ≡ log_of lane lanes command }
+{
+    LogId {
+        command,
+        lane,
+        lanes,
     }
 }
