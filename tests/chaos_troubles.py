@@ -226,6 +226,7 @@ class Trouble(Strangers):
         """Nobody reads the master's standard error for some seconds, and its pipe is full: all else goes on."""
         async with self.descriptors, self.builds.heard:
             self.errors.transport.pause_reading()
+            self.builds.blocks += 1
             try:
                 await self.fill_errors()
                 await asyncio.sleep(CHANCE.uniform(0.3, 1))
@@ -234,6 +235,7 @@ class Trouble(Strangers):
             finally:
                 self.errors.transport.resume_reading()
             await asyncio.sleep(0.2)
+            self.builds.blocks += 1
 
     async def fill_errors(self):
         """At most ten of these are told in a second."""
