@@ -21,6 +21,7 @@ LEAST = {
     "dark connections that were noticed": (0, 1),
     "resumptions": (6, 60),
     "looks": (1_000, 20_000),
+    "connection refused, too many connections": (1, 1),
     "outages": (1, 6),
     "outages in mid-line": (0, 3),
     "kills": (1, 8),
@@ -97,8 +98,6 @@ def compare_all(builds, shelf):
         compare_sessions(worker, builds)
     compare_cancels(builds)
     compare_shorts(builds)
-    if FIGURES["crowds"] and not FIGURES["connection refused, too many connections"]:
-        fault("no connection was one too many")
     if FIGURES["times that the descriptors were filled"] and not FIGURES["accepting paused"]:
         fault("accepting never paused")
 

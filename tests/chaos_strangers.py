@@ -14,6 +14,8 @@ from chaos_parts import CHANCE, FIGURES, fault, reset
 MOST_GUESTS = 256
 SECONDS_TO_LOG_IN = 10
 SLACK = 15
+SECONDS_TO_CONNECT = 10
+TOO_MANY = "connection refused, too many connections"
 # A second login is answered within two seconds, and some for a busy machine and a master that is stopped.
 SECONDS_TO_ANSWER = 2 + 3
 REQUEST = wire.request_head("master")
@@ -42,9 +44,13 @@ class Strangers:
         """One of these workers; rather one whose way nobody has calm just now, which may be for long."""
         return CHANCE.choice([worker for worker in workers if not worker.way.calm.locked()] or workers)
 
+    async def connected(self):
+        """A WebSocket to the master. A connect that meets a full queue would be tried again for minutes."""
+        return await asyncio.wait_for(wire.connected("%s:%d" % self.workers_address), SECONDS_TO_CONNECT)
+
     async def joined(self, name, password):
         """A connection that said a login. The answer isn't read."""
-        link = await wire.connected("%s:%d" % self.workers_address, SECONDS_TO_LOG_IN + SLACK)
+        link = await self.connected()
         login = {"seq_number": 0, "op": "auth", "username": name, "password": password, "session": os.urandom(8).hex()}
         await link.send(wire.packed(login))
         return link
@@ -123,7 +129,7 @@ class Strangers:
 
     async def long_login(self):
         """A login of a million bytes: one whose tree is large is refused, and one of a long name is a wrong one."""
-        link = await wire.connected("%s:%d" % self.workers_address, SECONDS_TO_LOG_IN + SLACK)
+        link = await self.connected()
         is_costly = CHANCE.random() < 0.7
         login = {"seq_number": 0, "op": "auth", "username": "n" * 900_000, "password": "p"}
         answer = ""
@@ -174,23 +180,33 @@ class Strangers:
         reset(writer)
 
     async def crowd(self):
-        """Once, more connections than may be without a login: those above are refused, and the workers go on."""
+        """More connections than may be without a login: those above are refused, and the workers go on. A busy machine may
+        take them so slowly that the first are closed in time; then it is tried again."""
         await asyncio.sleep(CHANCE.uniform(5, 10))
-        async with contextlib.AsyncExitStack() as calm:
-            for worker in WORKERS:
-                await calm.enter_async_context(worker.way.calm)
-            await calm.enter_async_context(self.descriptors)
-            await asyncio.sleep(0.5)
-            with contextlib.suppress(OSError):
+        while not FIGURES[TOO_MANY]:
+            async with contextlib.AsyncExitStack() as calm:
+                for worker in WORKERS:
+                    await calm.enter_async_context(worker.way.calm)
+                await calm.enter_async_context(self.descriptors)
+                await asyncio.sleep(0.5)
                 await self.be_crowded()
+            await asyncio.sleep(SECONDS_TO_LOG_IN)
 
     async def be_crowded(self):
-        async with self.opened([self.workers_address] * (MOST_GUESTS * 5 // 4)):
-            FIGURES["crowds"] += 1
+        FIGURES["crowds"] += 1
+        coming = [asyncio.ensure_future(asyncio.open_connection(*self.workers_address)) for _ in range(MOST_GUESTS * 5 // 4)]
+        try:
             for _ in range(80):
                 await asyncio.sleep(0.1)
-                if FIGURES["connection refused, too many connections"]:
+                if FIGURES[TOO_MANY]:
                     return
+        finally:
+            for each in coming:
+                each.cancel()
+            came = await asyncio.gather(*coming, return_exceptions=True)
+            for each in came:
+                if isinstance(each, tuple):
+                    reset(each[1])
 
     @contextlib.asynccontextmanager
     async def opened(self, addresses):

@@ -12,7 +12,7 @@ import wire
 from chaos_builds import LINKED
 from chaos_parts import CHANCE, FIGURES, IS_LONG, fault
 from chaos_readers import BadReaders
-from chaos_strangers import SECONDS_TO_ANSWER, Strangers
+from chaos_strangers import SECONDS_TO_ANSWER, TOO_MANY, Strangers
 from processes import children_of
 
 MOST_SECONDS_AWAY = 5
@@ -165,8 +165,8 @@ class Trouble(Strangers):
 
     async def dark_for_good(self):
         """A connection goes dark, and nobody ends it: master and worker notice by themselves, and the session goes on."""
-        if not FIGURES["crowds"]:
-            return
+        if not FIGURES[TOO_MANY]:
+            return  # a crowd needs all ways
         worker = self.chosen([worker for worker in LINKED if worker.is_faithful])
         async with worker.way.calm:
             await asyncio.sleep(0.3)
