@@ -30,7 +30,7 @@ class Worker:
         self.way, self.process = Way(bytes_a_second), None
         self.is_up, self.told = False, collections.Counter()
         self.ends, self.taken_over = 0, 0
-        # When its process was stopped, and when it went on.
+        # When its process was stopped, and when it went on: never yet where it is stopped now.
         self.stops = []
 
     def words(self):
@@ -60,9 +60,9 @@ class Worker:
                 fault(f"{self.name} ended with status {status}")
             await asyncio.sleep(CHANCE.random() / 2)
 
-    def was_stopped(self, begun, ended):
-        """Whether its process was stopped for a part of that time."""
-        return any(start < ended and end > begun for start, end in self.stops)
+    def stopped(self, begun, ended):
+        """For how many seconds of that time its process was stopped."""
+        return sum(max(0, min(end, ended) - max(start, begun)) for start, end in self.stops)
 
 
 WORKERS = [

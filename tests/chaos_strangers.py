@@ -18,6 +18,8 @@ SECONDS_TO_CONNECT = 10
 TOO_MANY = "connection refused, too many connections"
 # A second login is answered within two seconds, and some for a busy machine and a master that is stopped.
 SECONDS_TO_ANSWER = 2 + 3
+# It takes a connection for dead that is silent for one and a half; a busy machine may have a part of that.
+LEAST_SECONDS_OF_SILENCE = 1
 REQUEST = wire.request_head("master")
 FRAME_OF_A_MILLION = bytes([0x82, 0xFF]) + struct.pack(">Q", 1_000_000) + bytes(4)
 
@@ -79,7 +81,8 @@ class Strangers:
 
     async def second_login(self):
         """A worker's name once more. While the first connection lives it is refused, and the first goes on. Only one whose
-        process was stopped may be taken for dead. Its session is then given up, and so is this one's, once it comes back."""
+        process was stopped for long may be taken for dead. Its session is then given up, and so is this one's, once it comes
+        back."""
         worker = self.chosen(LINKED)
         async with worker.way.calm, self.builds.heard:
             await asyncio.sleep(0.3)
@@ -87,15 +90,16 @@ class Strangers:
             if worker.is_faithful and not is_up:
                 return
             answer, seconds = await self.log_in(worker.name, worker.password)
-            was_stopped = worker.was_stopped(begun, time.monotonic())
+            stopped = worker.stopped(begun, time.monotonic())
             await asyncio.sleep(0.3)
         FIGURES["second logins"] += 1
         if seconds > SECONDS_TO_ANSWER:
             fault(f"a second login of {worker.name} was answered {answer} after {seconds:.1f} s")
         if answer == "new":
             worker.taken_over += 2
-            if is_up and not was_stopped:
-                fault(f"a second login took {worker.name} over within {seconds:.1f} s")
+            FIGURES["stopped workers that were taken over"] += is_up
+            if is_up and stopped < LEAST_SECONDS_OF_SILENCE:
+                fault(f"a second login took {worker.name} over within {seconds:.1f} s, of which it was stopped for {stopped:.1f}")
         elif answer not in ("", "already up", "busy"):
             fault(f"a second login was answered {answer}")
 

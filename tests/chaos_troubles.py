@@ -2,6 +2,7 @@
 
 import asyncio
 import fcntl
+import math
 import os
 import signal
 import struct
@@ -199,22 +200,22 @@ class Trouble(Strangers):
                 self.signal(pid, signal.SIGKILL)
 
     async def stop(self):
-        """The master or a worker is stopped for a while, and continued."""
+        """The master or a worker is stopped for a while, and continued: one whose session has to go on for less than the time
+        after which another login takes it for dead."""
         worker = CHANCE.choice([None] + LINKED)
         pid = self.master.pid if worker is None else self.pid(worker)
         if pid is None:
             return
         FIGURES["stops"] += 1
-        begun = time.monotonic()
+        begun, stops = time.monotonic(), [] if worker is None else worker.stops
+        stops.append((begun, math.inf))
+        is_dear = worker is None or worker.is_faithful
         try:
             self.signal(pid, signal.SIGSTOP)
-            if worker is not None:
-                worker.stops.append((begun, begun + 2))
-            await asyncio.sleep(CHANCE.choice([0.01, 0.1, 0.5, 1]) * CHANCE.random())
+            await asyncio.sleep(CHANCE.choice([0.01, 0.1, 0.5, 1 if is_dear else 4]) * CHANCE.random())
         finally:
             self.signal(pid, signal.SIGCONT)
-            if worker is not None:
-                worker.stops[-1] = (begun, time.monotonic())
+            stops[-1] = (begun, time.monotonic())
 
     async def slow_reader(self):
         self.later(self.readers.dawdle())
