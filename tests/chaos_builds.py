@@ -15,7 +15,7 @@ from processes import environment
 PRINTER = os.path.join(HERE, "numbered_lines.py")
 # What the link of the narrow worker carries, and what is printed on it beside short commands.
 BYTES_A_SECOND = 250_000
-NOISY_LINES = min(max(LINES // 2, 30_000), 200_000)
+NOISY_LINES = min(max(LINES, 30_000), 60_000 if not IS_LONG else 200_000)
 SHORT = 80 if IS_LONG else 16
 SILENT = 24 if IS_LONG else 6
 
@@ -30,7 +30,7 @@ class Worker:
         self.way, self.process = Way(bytes_a_second), None
         self.is_up, self.told = False, collections.Counter()
         self.ends, self.taken_over = 0, 0
-        # When its process was stopped, and when it went on.
+        # When its process was stopped, and when it went on: never yet where it is stopped now.
         self.stops = []
 
     def words(self):
@@ -60,9 +60,9 @@ class Worker:
                 fault(f"{self.name} ended with status {status}")
             await asyncio.sleep(CHANCE.random() / 2)
 
-    def was_stopped(self, begun, ended):
-        """Whether its process was stopped for a part of that time."""
-        return any(start < ended and end > begun for start, end in self.stops)
+    def stopped(self, begun, ended):
+        """For how many seconds of that time its process was stopped."""
+        return sum(max(0, min(end, ended) - max(start, begun)) for start, end in self.stops)
 
 
 WORKERS = [
@@ -87,7 +87,7 @@ class Step:
         self.seed, self.lines, self.seconds = CHANCE.randrange(2**31), lines, round(seconds, 2)
         self.name = f"{kind} {self.seed}"
         self.log, self.result = None, None
-        self.began, self.over = None, None
+        self.began, self.over, self.between = None, None, None
 
     def words(self):
         if self.kind == "silent":
@@ -126,6 +126,8 @@ class Builds:
         # Builds that are cancelled between their steps.
         self.halved = {number for number, steps in enumerate(self.builds) if len(steps) > 1 and CHANCE.random() < 0.3}
         self.remarks, self.say = [], None
+        # When each cancel was told, and what had come between till then.
+        self.cancels, self.blocks = {}, 0
         # Whoever has this may rely on what was told: nobody keeps the master's remarks back.
         self.heard = asyncio.Lock()
 
@@ -146,6 +148,10 @@ class Builds:
         if build not in self.results and build not in self.cancelled:
             self.cancelled.add(build)
             self.say(f"cancel {build}\n")
+
+    def between(self, build):
+        """A count that grows by each cut and login of a build's worker, and each time that nobody reads the remarks."""
+        return sum(self.builds[build][0].worker.told.values()) + self.blocks
 
     def hear(self, line):
         """A line of the master's standard error."""
@@ -174,10 +180,13 @@ class Builds:
         step = self.steps[name]
         if (step.build, step.log) != (int(build), int(log)) or step.result is not None:
             fault(f"{name} ended twice, or as log {log} of build {build}")
-        step.result, step.over = result, time.monotonic()
+        step.result, step.over, step.between = result, time.monotonic(), self.between(step.build)
         if step.build in self.halved and result == "SUCCESS" and step is self.builds[step.build][0]:
             FIGURES["cancels between steps"] += 1
             self.cancel(step.build)
+
+    def cancelling(self, build):
+        self.cancels[int(build)] = time.monotonic(), self.between(int(build))
 
     def result(self, build, result):
         self.results[int(build)] = result
@@ -198,5 +207,5 @@ FORMS = [
     (re.compile(r"build \d+ (started on w\d)"), Builds.count),
     (re.compile(r"build \d+ (step not started), [a-z ]+: .*"), Builds.count),
     (re.compile(r"build \d+ (step stopped), .*"), Builds.count),
-    (re.compile(r"build \d+ (to be cancelled)"), Builds.count),
+    (re.compile(r"build (\d+) to be cancelled"), Builds.cancelling),
 ]

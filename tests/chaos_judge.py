@@ -8,8 +8,11 @@ from chaos_parts import FIGURES, IS_LONG, LINES, fault
 
 LETTERS = {numbered_lines.OUTPUT: "o", numbered_lines.ERRORS: "e"}
 # The end of a short command is told within so many seconds beside a noisy one: its own two, what is on its way on the
-# narrow link, and as long as the master is stopped or its standard error is left unread.
+# narrow link, and as long as the master is stopped or its standard error is left unread. Where a busy machine makes the link
+# narrower, it is a third of what the noisy one takes.
 MOST_SECONDS = 2 + 5 + 4
+# A step ends within so many seconds after the cancel of its build, where its worker isn't cut meanwhile.
+SECONDS_TO_CANCEL = 4
 # How often each thing has to happen at least, in a run of 30,000 lines and in one of 500,000.
 LEAST = {
     "cuts": (8, 80),
@@ -18,6 +21,7 @@ LEAST = {
     "dark connections that were noticed": (0, 1),
     "resumptions": (6, 60),
     "looks": (1_000, 20_000),
+    "connection refused, too many connections": (1, 1),
     "outages": (1, 6),
     "outages in mid-line": (0, 3),
     "kills": (1, 8),
@@ -92,9 +96,8 @@ def compare_all(builds, shelf):
         compare_build(builds, number, steps)
     for worker in WORKERS:
         compare_sessions(worker, builds)
+    compare_cancels(builds)
     compare_shorts(builds)
-    if FIGURES["crowds"] and not FIGURES["connection refused, too many connections"]:
-        fault("no connection was one too many")
     if FIGURES["times that the descriptors were filled"] and not FIGURES["accepting paused"]:
         fault("accepting never paused")
 
@@ -110,8 +113,16 @@ def compare_build(builds, number, steps):
         return
     # It was cancelled as its first step ended: the next one wasn't started, or was interrupted.
     FIGURES["steps that a cancel between steps " + ("interrupted" if len(results) > 1 else "kept from a start")] += 1
-    if "SUCCESS" in results[1:] or result == "SUCCESS":
-        fault(f"build {number} was cancelled between its steps, and ended {result} after {results}")
+
+
+def compare_cancels(builds):
+    """No step goes on after the cancel of its build, where nothing came between."""
+    for step in builds.steps.values():
+        if step.build not in builds.cancels or step.over is None:
+            continue
+        told, between = builds.cancels[step.build]
+        if step.over > told + SECONDS_TO_CANCEL and step.between == between:
+            fault(f"log {step.log} ended {step.result} {step.over - told:.1f} s after the cancel of build {step.build}")
 
 
 def compare_shorts(builds):
@@ -125,7 +136,7 @@ def compare_shorts(builds):
         FIGURES["short commands beside a noisy one"] += 1
         took = step.over - step.began
         FIGURES["milliseconds of the slowest short command"] = max(FIGURES["milliseconds of the slowest short command"], int(1_000 * took))
-        if took > MOST_SECONDS:
+        if took > max(MOST_SECONDS, (noisy.over - noisy.began) / 3):
             fault(f"the end of {step.name} was told after {took:.1f} s beside a noisy command of {noisy.over - noisy.began:.1f} s")
 
 

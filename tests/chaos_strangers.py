@@ -14,8 +14,12 @@ from chaos_parts import CHANCE, FIGURES, fault, reset
 MOST_GUESTS = 256
 SECONDS_TO_LOG_IN = 10
 SLACK = 15
+SECONDS_TO_CONNECT = 10
+TOO_MANY = "connection refused, too many connections"
 # A second login is answered within two seconds, and some for a busy machine and a master that is stopped.
 SECONDS_TO_ANSWER = 2 + 3
+# It takes a connection for dead that is silent for one and a half; a busy machine may have a part of that.
+LEAST_SECONDS_OF_SILENCE = 1
 REQUEST = wire.request_head("master")
 FRAME_OF_A_MILLION = bytes([0x82, 0xFF]) + struct.pack(">Q", 1_000_000) + bytes(4)
 
@@ -42,9 +46,13 @@ class Strangers:
         """One of these workers; rather one whose way nobody has calm just now, which may be for long."""
         return CHANCE.choice([worker for worker in workers if not worker.way.calm.locked()] or workers)
 
+    async def connected(self):
+        """A WebSocket to the master. A connect that meets a full queue would be tried again for minutes."""
+        return await asyncio.wait_for(wire.connected("%s:%d" % self.workers_address), SECONDS_TO_CONNECT)
+
     async def joined(self, name, password):
         """A connection that said a login. The answer isn't read."""
-        link = await wire.connected("%s:%d" % self.workers_address, SECONDS_TO_LOG_IN + SLACK)
+        link = await self.connected()
         login = {"seq_number": 0, "op": "auth", "username": name, "password": password, "session": os.urandom(8).hex()}
         await link.send(wire.packed(login))
         return link
@@ -73,7 +81,8 @@ class Strangers:
 
     async def second_login(self):
         """A worker's name once more. While the first connection lives it is refused, and the first goes on. Only one whose
-        process was stopped may be taken for dead. Its session is then given up, and so is this one's, once it comes back."""
+        process was stopped for long may be taken for dead. Its session is then given up, and so is this one's, once it comes
+        back."""
         worker = self.chosen(LINKED)
         async with worker.way.calm, self.builds.heard:
             await asyncio.sleep(0.3)
@@ -81,15 +90,16 @@ class Strangers:
             if worker.is_faithful and not is_up:
                 return
             answer, seconds = await self.log_in(worker.name, worker.password)
-            was_stopped = worker.was_stopped(begun, time.monotonic())
+            stopped = worker.stopped(begun, time.monotonic())
             await asyncio.sleep(0.3)
         FIGURES["second logins"] += 1
         if seconds > SECONDS_TO_ANSWER:
             fault(f"a second login of {worker.name} was answered {answer} after {seconds:.1f} s")
         if answer == "new":
             worker.taken_over += 2
-            if is_up and not was_stopped:
-                fault(f"a second login took {worker.name} over within {seconds:.1f} s")
+            FIGURES["stopped workers that were taken over"] += is_up
+            if is_up and stopped < LEAST_SECONDS_OF_SILENCE:
+                fault(f"a second login took {worker.name} over within {seconds:.1f} s, of which it was stopped for {stopped:.1f}")
         elif answer not in ("", "already up", "busy"):
             fault(f"a second login was answered {answer}")
 
@@ -123,7 +133,7 @@ class Strangers:
 
     async def long_login(self):
         """A login of a million bytes: one whose tree is large is refused, and one of a long name is a wrong one."""
-        link = await wire.connected("%s:%d" % self.workers_address, SECONDS_TO_LOG_IN + SLACK)
+        link = await self.connected()
         is_costly = CHANCE.random() < 0.7
         login = {"seq_number": 0, "op": "auth", "username": "n" * 900_000, "password": "p"}
         answer = ""
@@ -174,23 +184,33 @@ class Strangers:
         reset(writer)
 
     async def crowd(self):
-        """Once, more connections than may be without a login: those above are refused, and the workers go on."""
+        """More connections than may be without a login: those above are refused, and the workers go on. A busy machine may
+        take them so slowly that the first are closed in time; then it is tried again."""
         await asyncio.sleep(CHANCE.uniform(5, 10))
-        async with contextlib.AsyncExitStack() as calm:
-            for worker in WORKERS:
-                await calm.enter_async_context(worker.way.calm)
-            await calm.enter_async_context(self.descriptors)
-            await asyncio.sleep(0.5)
-            with contextlib.suppress(OSError):
+        while not FIGURES[TOO_MANY]:
+            async with contextlib.AsyncExitStack() as calm:
+                for worker in WORKERS:
+                    await calm.enter_async_context(worker.way.calm)
+                await calm.enter_async_context(self.descriptors)
+                await asyncio.sleep(0.5)
                 await self.be_crowded()
+            await asyncio.sleep(SECONDS_TO_LOG_IN)
 
     async def be_crowded(self):
-        async with self.opened([self.workers_address] * (MOST_GUESTS * 5 // 4)):
-            FIGURES["crowds"] += 1
+        FIGURES["crowds"] += 1
+        coming = [asyncio.ensure_future(asyncio.open_connection(*self.workers_address)) for _ in range(MOST_GUESTS * 5 // 4)]
+        try:
             for _ in range(80):
                 await asyncio.sleep(0.1)
-                if FIGURES["connection refused, too many connections"]:
+                if FIGURES[TOO_MANY]:
                     return
+        finally:
+            for each in coming:
+                each.cancel()
+            came = await asyncio.gather(*coming, return_exceptions=True)
+            for each in came:
+                if isinstance(each, tuple):
+                    reset(each[1])
 
     @contextlib.asynccontextmanager
     async def opened(self, addresses):

@@ -2,6 +2,7 @@
 
 import asyncio
 import fcntl
+import math
 import os
 import signal
 import struct
@@ -12,7 +13,7 @@ import wire
 from chaos_builds import LINKED
 from chaos_parts import CHANCE, FIGURES, IS_LONG, fault
 from chaos_readers import BadReaders
-from chaos_strangers import SECONDS_TO_ANSWER, Strangers
+from chaos_strangers import SECONDS_TO_ANSWER, TOO_MANY, Strangers
 from processes import children_of
 
 MOST_SECONDS_AWAY = 5
@@ -165,8 +166,8 @@ class Trouble(Strangers):
 
     async def dark_for_good(self):
         """A connection goes dark, and nobody ends it: master and worker notice by themselves, and the session goes on."""
-        if not FIGURES["crowds"]:
-            return
+        if not FIGURES[TOO_MANY]:
+            return  # a crowd needs all ways
         worker = self.chosen([worker for worker in LINKED if worker.is_faithful])
         async with worker.way.calm:
             await asyncio.sleep(0.3)
@@ -199,22 +200,22 @@ class Trouble(Strangers):
                 self.signal(pid, signal.SIGKILL)
 
     async def stop(self):
-        """The master or a worker is stopped for a while, and continued."""
+        """The master or a worker is stopped for a while, and continued: one whose session has to go on for less than the time
+        after which another login takes it for dead."""
         worker = CHANCE.choice([None] + LINKED)
         pid = self.master.pid if worker is None else self.pid(worker)
         if pid is None:
             return
         FIGURES["stops"] += 1
-        begun = time.monotonic()
+        begun, stops = time.monotonic(), [] if worker is None else worker.stops
+        stops.append((begun, math.inf))
+        is_dear = worker is None or worker.is_faithful
         try:
             self.signal(pid, signal.SIGSTOP)
-            if worker is not None:
-                worker.stops.append((begun, begun + 2))
-            await asyncio.sleep(CHANCE.choice([0.01, 0.1, 0.5, 1]) * CHANCE.random())
+            await asyncio.sleep(CHANCE.choice([0.01, 0.1, 0.5, 1 if is_dear else 4]) * CHANCE.random())
         finally:
             self.signal(pid, signal.SIGCONT)
-            if worker is not None:
-                worker.stops[-1] = (begun, time.monotonic())
+            stops[-1] = (begun, time.monotonic())
 
     async def slow_reader(self):
         self.later(self.readers.dawdle())
@@ -226,6 +227,7 @@ class Trouble(Strangers):
         """Nobody reads the master's standard error for some seconds, and its pipe is full: all else goes on."""
         async with self.descriptors, self.builds.heard:
             self.errors.transport.pause_reading()
+            self.builds.blocks += 1
             try:
                 await self.fill_errors()
                 await asyncio.sleep(CHANCE.uniform(0.3, 1))
@@ -234,6 +236,7 @@ class Trouble(Strangers):
             finally:
                 self.errors.transport.resume_reading()
             await asyncio.sleep(0.2)
+            self.builds.blocks += 1
 
     async def fill_errors(self):
         """At most ten of these are told in a second."""

@@ -66,7 +66,7 @@ class Way:
 
     def ride(self):
         """The connection that was made last, if it still carries."""
-        alive = [ride for ride in self.rides if not ride.is_cut and not ride.is_dark]
+        alive = [ride for ride in self.rides if not ride.is_cut and not ride.is_dark and not ride.is_left_by_master.is_set()]
         return alive[-1] if alive else None
 
     async def carry(self, reader, writer):
@@ -102,6 +102,8 @@ class Way:
                 await self.carry_on(writer, data)
         if ride.is_dark:
             await self.be_dark(ride, reader, writer)
+        if writer is ride.near:
+            ride.is_left_by_master.set()
         for end in ride.ends:
             end.close()
 
