@@ -157,17 +157,54 @@ fn make_board(alloc: Global, slots: &[u8], lock_max: &[u32]) -> Result<Board, Al
     }
 }
 
-fn add_again(board: &mut Board, build: Build) -> Result<Gives, BoardRefusal> {
+/// What is seen of a board: the results of its first four builds, and which build of worker 0 waits
+/// first.
+#[derive(Clone, Copy, PartialEq, Eq)]
+struct Seen {
+    results: [Gives; 4],
+    first: Option<usize>,
+}
+
+fn result_of(board: &Board, id: u64) -> Gives {
+    match board.result(id) {
+        Ok(result) => Has(result),
+        Err(refusal) => Refused(refusal),
+    }
+}
+
+fn look_at(board: &Board) -> Seen {
+    Seen {
+        results: [
+            result_of(board, 0),
+            result_of(board, 1),
+            result_of(board, 2),
+            result_of(board, 3),
+        ],
+        first: board.first_waiting(0),
+    }
+}
+
+fn add_once(board: &mut Board, build: Build) -> Result<Gives, BoardRefusal> {
     match board.add_build(build) {
         Ok(id) => Ok(Added(id)),
         Err((_, refusal)) => Err(refusal),
     }
 }
 
+/// Adds the build that came back for want of memory, where the board looks as before.
+fn add_again(board: &mut Board, build: Build, before: Seen) -> Result<Gives, BoardRefusal> {
+    if look_at(board) == before {
+        add_once(board, build)
+    } else {
+        Err(BoardRefusal::Mem)
+    }
+}
+
 fn add(board: &mut Board, build: Build) -> Result<Gives, BoardRefusal> {
+    let before = look_at(board);
     match board.add_build(build) {
         Ok(id) => Ok(Added(id)),
-        Err((build, BoardRefusal::Mem)) => add_again(board, build),
+        Err((build, BoardRefusal::Mem)) => add_again(board, build, before),
         Err((_, refusal)) => Err(refusal),
     }
 }
@@ -185,12 +222,22 @@ fn add_made(
     }
 }
 
+fn start_once(board: &mut Board, id: u64) -> Result<Gives, BoardRefusal> {
+    match board.try_start(id) {
+        Ok(started) => Ok(Started(started.worker, started.next)),
+        Err(refusal) => Err(refusal),
+    }
+}
+
+/// Starts the build, once more after want of memory where the board looks as before.
 fn start(board: &mut Board, id: u64) -> Result<Gives, BoardRefusal> {
-    let started = match board.try_start(id) {
-        Err(BoardRefusal::Mem) => board.try_start(id)?,
-        started => started?,
-    };
-    Ok(Started(started.worker, started.next))
+    let before = look_at(board);
+    let started = start_once(board, id);
+    if started == Err(BoardRefusal::Mem) && look_at(board) == before {
+        start_once(board, id)
+    } else {
+        started
+    }
 }
 
 fn set_ready(board: &mut Board, worker: usize, ready: bool) -> Result<Gives, BoardRefusal> {
