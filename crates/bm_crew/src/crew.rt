@@ -1,7 +1,8 @@
 //! The processes of the commands that run.
 
-ghost use Rattle.std.specs.Prelude.{◌<◌, length, OnOk};
+ghost use Rattle.std.specs.Prelude.{◌≡◌, ◌<◌, length, map, IfOk, IfSome, OnOk};
 ghost use Rattle.bm_outbox.specs.Opening.{Starts};
+ghost use Rattle.bm_crew.specs.Turns.{ready_of, turn_of};
 
 use crate::host::Host;
 use crate::job::Job;
@@ -197,8 +198,8 @@ impl Crew {
                 Ok(()) => Ok(()),
                 Err(_) => Err(AllocError),
             },
-            Part::End => {
-                job.pipes.end(piece.letter);
+            Part::End(end) => {
+                job.pipes.end(end);
                 self.pause_ms = FIRST_PAUSE_MS;
                 Ok(())
             }
@@ -209,8 +210,9 @@ impl Crew {
         }
     }
 
-    /// Puts what is told next into the outbox: the end of a command, or else, where texts may be said
-    /// or no other command runs, one of the command whose turn it is.
+    /// Puts what is told next into the outbox, by how the processes stood when they were looked at:
+    /// the end of a command, or else, where texts may be said or no other command runs, one of the
+    /// command whose turn it is.
     pub fn next<R: Wait>(
         &mut self,
         rt: &R,
@@ -218,20 +220,14 @@ impl Crew {
         may_say: bool,
         outbox: &mut Outbox,
     ) -> Result<(), AllocError> {
-        self.look();
-        let may_say = may_say || self.jobs.len() < 2;
-        let mut commands = Vec::new(alloc);
-        for job in &self.jobs {
-            commands.push(job.ready(may_say))?;
-        }
-        match next_turn(commands.as_slice()) {
-            Some(at) if at < self.jobs.len() => self.turn(rt, alloc, at, outbox),
-            _ => Ok(()),
+        match whose_turn(alloc, self.jobs.as_slice(), may_say)? {
+            Some(at) => self.turn(rt, alloc, at, outbox),
+            None => Ok(()),
         }
     }
 
     /// Looks at the processes that are about to end.
-    fn look(&mut self) {
+    pub fn look(&mut self) {
         self.killed
             .retain_mut(|child| matches!(child.try_wait(), Ok(None)));
         for job in self.jobs.iter_mut() {
@@ -241,8 +237,8 @@ impl Crew {
         }
     }
 
-    /// Puts a text of a command into the outbox, and permits its pipes another one; or
-    /// else puts its end there.
+    /// Puts a text of the command at this place into the outbox, and permits its pipes another one;
+    /// or else puts its end there.
     fn turn<R: Wait>(
         &mut self,
         rt: &R,
@@ -255,7 +251,7 @@ impl Crew {
         let mut job = self.jobs.remove(at);
         let command = job.command;
         let Some(said) = job.texts.pop_front() else {
-            return match job.code {
+            return match job.code.take() {
                 Some(code) => outbox.close(alloc, command, code),
                 None => self.kill(job),
             };
@@ -307,6 +303,28 @@ impl Crew {
         }
         done
     }
+}
+
+/// The place of the command that is told of next, if any is. One that runs alone may say a text at
+/// any time.
+fn whose_turn(alloc: Global, jobs: &[Job], may_say: bool) -> Result<Option<usize>, AllocError>
+    ensures turn { IfOk result (λ turn. turn ≡ turn_of may_say jobs.now) }
+    ensures within { IfOk result (λ turn. IfSome turn (λ at. at < length jobs.now)) }
+{
+    let may_say = may_say || jobs.len() < 2;
+    let commands = what_is_ready(alloc, jobs, may_say)?;
+    Ok(next_turn(commands.as_slice()))
+}
+
+/// What each command has to tell, where texts may be said.
+fn what_is_ready(alloc: Global, jobs: &[Job], may_say: bool) -> Result<Vec<Ready>, AllocError>
+    ensures { IfOk result (λ v. v.items ≡ map (ready_of may_say) jobs.now) }
+{
+    let mut commands = Vec::new(alloc);
+    for job in jobs {
+        commands.push(job.ready(may_say))?;
+    }
+    Ok(commands)
 }
 
 /// The permits of the first texts of a command, and where more of them are given.

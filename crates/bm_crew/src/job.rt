@@ -1,6 +1,9 @@
 //! A command whose process was started.
 
-use bm_outbox::{Pipes, Ready, Said};
+ghost use Rattle.std.specs.Prelude.{◌≡◌};
+ghost use Rattle.bm_crew.specs.Turns.{ready_of};
+
+use bm_outbox::{ExitCode, Pipes, Ready, Said};
 use crossbeam_channel::Sender;
 use std::collections::VecDeque;
 use std::process::Child;
@@ -17,7 +20,7 @@ pub(crate) struct Job {
     /// Each of these permits one more text. Without them its pipes' threads end.
     pub(crate) permits: Sender<()>,
     /// How it ended, once that is known.
-    pub(crate) code: Option<i64>,
+    pub(crate) code: Option<ExitCode>,
 }
 
 impl Job {
@@ -39,7 +42,9 @@ impl Job {
     }
 
     /// What it has to tell, where texts may be said.
-    pub(crate) fn ready(&self, may_say: bool) -> Ready {
+    pub(crate) fn ready(&self, may_say: bool) -> Ready
+        ensures { result ≡ ready_of may_say self.now }
+    {
         if !self.texts.is_empty() {
             if may_say { Ready::Text } else { Ready::Nothing }
         } else if self.code.is_some() {

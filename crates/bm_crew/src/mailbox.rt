@@ -1,7 +1,6 @@
 //! What the worker waits for.
 
-use bm_lines::Letter;
-use bm_outbox::{Keepalive, Said};
+use bm_outbox::{Keepalive, PipeEnd, Said};
 
 /// What the thread of a pipe tells of it.
 #[derive(Drop)]
@@ -9,18 +8,15 @@ pub enum Part {
     /// The next text.
     Text(Said),
     /// All texts were told.
-    End,
+    End(PipeEnd),
     /// Memory is wanting for the next text.
     NoMemory,
 }
 
-/// A part of what a pipe gives, and which pipe that is.
+/// A part of what a pipe gives, and which of the program's processes it is of.
 #[derive(Drop)]
 pub struct Piece {
-    /// Which of the program's processes it is of.
     pub job: u64,
-    /// Which of its pipes it is of.
-    pub letter: Letter,
     pub part: Part,
 }
 

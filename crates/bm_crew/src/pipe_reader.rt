@@ -2,7 +2,7 @@
 
 use crate::mailbox::{Mail, Part, Piece};
 use bm_lines::Letter;
-use bm_outbox::{PipeTexts, Said};
+use bm_outbox::{PipeEnd, PipeTexts, Said};
 use crossbeam_channel::{Receiver, Sender};
 use std::alloc::{AllocError, Global};
 use std::io::{ErrorKind, Read};
@@ -25,20 +25,20 @@ impl PipeReader {
     /// Tells what the pipe gives, until it ends, or nobody hears it any more.
     pub fn run<R: Wait, P: Read + Drop>(self, rt: &R, alloc: Global, pipe: P) {
         let part = match self.tell_all(rt, alloc, pipe) {
-            Ok(true) => Part::End,
-            Ok(false) => return,
+            Ok(Some(end)) => Part::End(end),
+            Ok(None) => return,
             Err(_) => Part::NoMemory,
         };
         self.tell(rt, part);
     }
 
-    /// Tells the texts of a pipe; or answers that nobody hears them any more.
+    /// Tells the texts of a pipe, and answers its end; or None where nobody hears them any more.
     fn tell_all<R: Wait, P: Read + Drop>(
         &self,
         rt: &R,
         alloc: Global,
         mut pipe: P,
-    ) -> Result<bool, AllocError> {
+    ) -> Result<Option<PipeEnd>, AllocError> {
         let mut room = vec![in alloc; 0u8; ROOM]?;
         let mut texts = PipeTexts::new(alloc, self.letter);
         for _ in 0..u64::MAX {
@@ -50,14 +50,18 @@ impl PipeReader {
             }
             for said in texts.take(alloc, bytes)? {
                 if !self.tell_text(rt, said) {
-                    return Ok(false);
+                    return Ok(None);
                 }
             }
         }
-        match texts.last()? {
-            Some(said) => Ok(self.tell_text(rt, said)),
-            None => Ok(true),
+        let last = texts.last()?;
+        let end = texts.end();
+        if let Some(said) = last {
+            if !self.tell_text(rt, said) {
+                return Ok(None);
+            }
         }
+        Ok(Some(end))
     }
 
     /// Tells a text, once it may; or answers that nobody hears it any more.
@@ -69,7 +73,6 @@ impl PipeReader {
     fn tell<R: Wait>(&self, rt: &R, part: Part) -> bool {
         let piece = Piece {
             job: self.job,
-            letter: self.letter,
             part,
         };
         self.owner.send(rt, Mail::Piece(piece)).is_ok()

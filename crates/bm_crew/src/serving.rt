@@ -152,14 +152,13 @@ impl Work {
         K: MaskKeys + Drop,
         R: Wait,
     {
-        let may_say = self.worker.unanswered_bytes() < MOST_UNANSWERED_BYTES;
-        if self.outbox.is_empty()
-            && self
-                .crew
-                .next(rt, alloc, may_say, &mut self.outbox)
-                .is_err()
-        {
-            return Err(ConnectionEnd::NoMemory);
+        if self.outbox.is_empty() {
+            let may_say = self.worker.unanswered_bytes() < MOST_UNANSWERED_BYTES;
+            self.crew.look();
+            let next = self.crew.next(rt, alloc, may_say, &mut self.outbox);
+            if next.is_err() {
+                return Err(ConnectionEnd::NoMemory);
+            }
         }
         match self.outbox.tell(alloc, &mut self.worker) {
             Ok(Told::Text(sent)) => send(alloc, link, &[sent])?,

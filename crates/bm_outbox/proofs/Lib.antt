@@ -3,3 +3,4 @@ mod Lengths
 mod Lossy
 mod Stretches
 mod Queue
+mod Turns

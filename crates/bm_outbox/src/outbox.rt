@@ -9,6 +9,7 @@ ghost use Rattle.bm_outbox.specs.Telling.{TellsNext};
 use crate::ending::Ending;
 use crate::item::Item;
 use crate::pipe_texts::PipeTexts;
+use crate::pipes::ExitCode;
 use crate::said::Said;
 use crate::words::{exit_line, words_line};
 use bm_lines::{Letter, Text};
@@ -87,17 +88,17 @@ impl Outbox {
         self.push_all(command, header_texts(alloc, line.as_str())?)
     }
 
-    /// Tells the end of a command whose process gave this exit code: the line of that code waits
-    /// behind the others, and the end behind it.
+    /// Tells the end of a command with this exit code, which its ended pipes gave: the line of that
+    /// code waits behind the others, and the end behind it.
     ///
     /// # Errors
     ///
     /// Want of memory. A part of the line may wait then.
     #[tactic(auto, using(crate::proofs::Queue::closes))]
-    pub fn close(&mut self, alloc: Global, command: u64, code: i64) -> Result<(), AllocError>
+    pub fn close(&mut self, alloc: Global, command: u64, code: ExitCode) -> Result<(), AllocError>
         ensures { OnOk result (Closes command code self.old self.new) }
     {
-        let texts = exit_texts(alloc, code)?;
+        let texts = exit_texts(alloc, code.get())?;
         self.push_all(command, texts)?;
         let ending = Ending::Code(code);
         self.push(Item::End { command, ending })?;

@@ -91,4 +91,37 @@ impl PipeTexts {
             text: Text::from_string(text),
         }))
     }
+
+    /// The pipe has come to its end: nothing of it is left to be said.
+    pub fn end(self) -> PipeEnd
+        requires { self.kept ≡ [] }
+        ensures { result ≡ self.letter }
+    {
+        PipeEnd {
+            letter: self.letter,
+        }
+    }
+}
+
+/// The end of a pipe: one whose last text was taken gives it, and nothing else does.
+#[derive(Drop)]
+pub struct PipeEnd {
+    letter: Letter,
+}
+
+impl Model for PipeEnd {
+    ghost use Rattle.bm_lines.specs.declared.letter.Letter.{Letter as Stream};
+
+    ghost Value = { Stream };
+
+    ghost view = { λ e. e.letter };
+}
+
+impl PipeEnd {
+    /// The stream that the pipe was.
+    pub(crate) fn letter(&self) -> Letter
+        ensures { result ≡ self.now }
+    {
+        self.letter
+    }
 }

@@ -1,15 +1,17 @@
-//! Which pipes of a command are open.
+//! Which pipes of a command are open, and the exit code that is told once none is.
 
 ghost use Rattle.std.specs.Prelude.{◌≡◌, true};
 ghost use Rattle.bm_outbox.specs.Pipes.{with_end, are_over, exit_code};
 
+use crate::pipe_texts::PipeEnd;
 use bm_lines::Letter;
+use std::marker::Model;
 
 /// Which pipes of a command are open.
 #[derive(Clone, Copy, PartialEq, Eq)]
 pub struct Pipes {
-    pub output: bool,
-    pub errors: bool,
+    pub(crate) output: bool,
+    pub(crate) errors: bool,
 }
 
 impl Pipes {
@@ -23,11 +25,11 @@ impl Pipes {
         }
     }
 
-    /// The pipe with this letter came to its end. A command has no pipe of headers.
-    pub fn end(&mut self, letter: Letter)
-        ensures { self.new ≡ with_end letter self.old }
+    /// A pipe came to this end. A command has no pipe of headers.
+    pub fn end(&mut self, end: PipeEnd)
+        ensures { self.new ≡ with_end end self.old }
     {
-        match letter {
+        match end.letter() {
             Letter::O => self.output = false,
             Letter::E => self.errors = false,
             Letter::H => {}
@@ -41,15 +43,40 @@ impl Pipes {
         !self.output && !self.errors
     }
 
-    /// The exit code that is told of a command whose process gave this one: -1 stands for none. It
-    /// is told once all that the command printed was taken, and no sooner.
-    pub fn exit_code(self, code: Option<i32>) -> i64
+    /// The exit code that is told of a command whose process gave this one: -1 stands for none.
+    /// There is none to be told before all that the command printed was taken.
+    pub fn exit_code(self, code: Option<i32>) -> ExitCode
         requires { are_over self ≡ true }
         ensures { result ≡ exit_code code }
     {
-        match code {
+        let code = match code {
             Some(code) => i64::from(code),
             None => -1,
-        }
+        };
+        ExitCode { code }
+    }
+}
+
+/// An exit code that may be told: pipes that have come to their ends give it, and nothing else
+/// does.
+#[derive(Drop)]
+pub struct ExitCode {
+    code: i64,
+}
+
+impl Model for ExitCode {
+    ghost use Rattle.std.specs.Prelude.{ℤ};
+
+    ghost Value = { ℤ };
+
+    ghost view = { λ c. c.code };
+}
+
+impl ExitCode {
+    /// The number.
+    pub fn get(&self) -> i64
+        ensures { result ≡ self.now }
+    {
+        self.code
     }
 }

@@ -1,6 +1,6 @@
 //! Of which command is told next.
 
-ghost use Rattle.std.specs.Prelude.{◌≡◌, position};
+ghost use Rattle.std.specs.Prelude.{◌≡◌, ◌<◌, IfSome, length, position};
 ghost use Rattle.bm_outbox.specs.Turns.{has_end, has_text, next_turn};
 
 /// What a command has to tell.
@@ -17,8 +17,10 @@ pub enum Ready {
 /// The place of the command that is told of next: the first whose end is to be told, or else the
 /// first that has a text. Where the one that was told of goes behind all others each time, each
 /// command waits for one text of each of the others at the most.
+#[tactic(auto, using(crate::proofs::Turns::turn_within))]
 pub fn next_turn(commands: &[Ready]) -> Option<usize>
-    ensures { result ≡ next_turn commands.now }
+    ensures turn { result ≡ next_turn commands.now }
+    ensures within { IfSome result (λ at. at < length commands.now) }
 {
     match first_end(commands) {
         Some(at) => Some(at),

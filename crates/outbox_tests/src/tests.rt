@@ -232,10 +232,18 @@ static LASTS: [&[u8]; 3] = [
     b"\xa6header\xd9\x23program finished with exit code -1\n",
 ];
 
+/// The exit code that is told of a process that printed nothing and gave this one.
+fn exit_code(alloc: Global, code: Option<i32>) -> ExitCode {
+    let mut pipes = Pipes::open();
+    pipes.end(PipeTexts::new(alloc, Letter::E).end());
+    pipes.end(PipeTexts::new(alloc, Letter::O).end());
+    pipes.exit_code(code)
+}
+
 fn speaks(alloc: Global, outbox: &mut Outbox) -> bool {
     opens(alloc, outbox, &["echo", "z"])
         && pushes(alloc, outbox)
-        && outbox.close(alloc, 0, -1).is_ok()
+        && outbox.close(alloc, 0, exit_code(alloc, None)).is_ok()
 }
 
 fn ends_with_each(alloc: Global, worker: &mut Worker, outbox: &mut Outbox) -> bool {

@@ -75,7 +75,7 @@ enum Outcome {
 fn outcome_by(piece: &Piece, told: usize) -> Option<Outcome> {
     match &piece.part {
         Part::Text(said) if TEXTS.get(told) == Some(&said.text.as_str()) => None,
-        Part::End if told == TEXTS.len() => Some(Outcome::Ended),
+        Part::End(_) if told == TEXTS.len() => Some(Outcome::Ended),
         Part::NoMemory => Some(Outcome::NoMemory),
         _ => Some(Outcome::Wrongly),
     }

@@ -4,7 +4,7 @@
 //! then and nothing told twice, and where an end can't be told its fault is. In the gate no request
 //! is refused, and no call is made twice.
 
-use super::{opens, pushes, says, says_last, worker_of};
+use super::{exit_code, opens, pushes, says, says_last, worker_of};
 use bm_lines::Letter;
 use bm_outbox::{Ending, Outbox, PipeTexts, Told, begin};
 use bm_work::{Sent, Worker};
@@ -122,7 +122,7 @@ enum Outcome {
 
 /// How the end of a command is told whose texts were.
 fn outcome_at_close(alloc: Global, worker: &mut Worker, outbox: &mut Outbox) -> Outcome {
-    let (outcome, is_told) = if outbox.close(alloc, 0, 3).is_ok() {
+    let (outcome, is_told) = if outbox.close(alloc, 0, exit_code(alloc, Some(3))).is_ok() {
         let is_told = tells_again(alloc, worker, outbox, &[CLOSED])
             && tells_again(alloc, worker, outbox, &[EXIT_CODE, ENDED])
             && resends_again(alloc, worker, outbox, &WHOLE);
