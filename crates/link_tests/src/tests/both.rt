@@ -1,6 +1,7 @@
 //! A worker and its master, each over what the other wrote.
 
-use super::desk::{Answer, Call, HEARD, NOTED, PLAIN, Row, plays};
+use super::calls::{Answer, Call, HEARD, NOTED, PLAIN};
+use super::desk::{Row, plays};
 use super::worker::Bench;
 use super::{ANSWER, ORDER, Script, TRUE};
 use std::alloc::Global;

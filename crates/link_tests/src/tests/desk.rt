@@ -1,79 +1,18 @@
-//! Links of a lane over memory, and rows of calls and their answers.
+//! Rows of calls and their answers, over a lane and its links.
 ghost use Rattle.std.specs.Prelude.{◌≡◌, ◌<◌, ◌≤◌};
 
-use super::both::worker_stream;
+use super::calls::{Answer, Call};
 use super::hostile::Came;
 use super::lengths::Long;
+use super::links::{Links, goes_down};
 use super::resumed::Case;
 use super::watch::{End, Watch};
-use super::{AGREED, AUTH, HEAD, Script, TRUE, joined, script_of};
 use bm_lane::{Blank, Drained, Ends, ReaderEnd, Viewer, Yard, open};
-use bm_lines::Text;
-use bm_link::*;
 use bm_session::{Body, Event, Results};
-use bumpalo::Bump;
-use std::alloc::{AllocError, Global};
+use std::alloc::Global;
 use std::marker::Brand;
-use std::mem::{forget, swap};
 use std::process::Abort;
 use std::sync::Wait;
-
-/// A call of a link.
-#[derive(Clone, Copy)]
-pub(crate) enum Call {
-    /// Another link is accepted, over a stream that gives these messages after the head.
-    Accept(&'static [&'static [u8]]),
-    /// Another link is accepted, over a stream that gives a head of these pieces and no message.
-    AcceptHead(&'static [&'static [u8]]),
-    /// Another link is accepted, over a stream that gives these messages after the head, and would
-    /// then block.
-    AcceptWaiting(&'static [&'static [u8]]),
-    /// Another link is accepted, over a stream that gives the first bytes of the head, and would
-    /// then block.
-    AcceptSome(usize),
-    /// Another link is accepted, over a stream that gives the head in pieces of so many bytes, and
-    /// then these messages.
-    AcceptInPieces(usize, &'static [&'static [u8]]),
-    /// Another link is accepted, over a stream that gives what a worker wrote.
-    AcceptWorker,
-    Login,
-    Attach,
-    Turn,
-    /// The command `true` is started.
-    Start,
-    /// Command 0 is interrupted.
-    Interrupt,
-    Keepalive,
-}
-
-/// What a call of a link answered.
-#[derive(Clone, Copy, PartialEq)]
-pub(crate) enum Answer {
-    Done,
-    /// The place of a user.
-    Place(usize),
-    Attached(Attached),
-    Turned(Turn),
-    /// The number of a command.
-    Started(u64),
-    Fault(LinkFault),
-    /// There was no link to call, or no memory for what it is given.
-    Nothing,
-}
-
-pub(crate) const HEARD: Answer = Answer::Turned(Turn::Heard);
-
-pub(crate) const NOTED: Answer = Answer::Turned(Turn::Noted);
-
-pub(crate) const DROPPED: Answer = Answer::Turned(Turn::Dropped);
-
-pub(crate) const WAITS: Answer = Answer::Turned(Turn::Busy);
-
-pub(crate) const PLAIN: Answer = Answer::Attached(Attached::Plain);
-
-pub(crate) const CLOSED: Answer = Answer::Fault(LinkFault::Closed);
-
-pub(crate) const BAD: Answer = Answer::Fault(LinkFault::BadMessage);
 
 /// A row: what is done or asked, and what is to come of it.
 #[derive(Clone, Copy)]
@@ -90,12 +29,20 @@ pub(crate) enum Row {
     Changes,
     /// There is one user but `other`, with this name and this password.
     Knows(&'static str, &'static str),
+    /// There is one user, with this name and this password.
+    KnowsOnly(&'static str, &'static str),
+    /// The stream of the next link fails once, behind so many of its calls.
+    FailsAfter(u32),
+    /// The streams of the next links are good.
+    IsWhole,
     /// An item of the lane's queue is taken.
     Drains,
     /// The link has this name of a login that was refused.
     Names(Option<&'static str>),
     /// These are the last bytes that the link wrote.
     Wrote(&'static [&'static [u8]]),
+    /// These are all bytes that the link wrote behind the handshake.
+    WroteAll(&'static [&'static [u8]]),
     /// The stream of the link was written to so often.
     WroteTimes(u32),
     /// What lies in the arena is forgotten, so that it can't be reset.
@@ -107,323 +54,10 @@ pub(crate) enum Row {
     /// The lane's last event was its Down.
     IsDown,
     IsCut,
+    /// This is the whole log of command 0, and so it ended.
+    Logs(&'static str, Option<Results>),
     /// The lane was cut, taken down and taken up again.
     IsGivenUp,
-}
-
-/// A link of a lane and one that is set aside, and all that their calls are given but the lane.
-#[derive(Drop)]
-pub(crate) struct Links {
-    alloc: Global,
-    carry: Carry,
-    arena: Bump,
-    users: Vec<User>,
-    argv: Vec<Text>,
-    /// The end that the stream of a link comes to.
-    pub end: End,
-    link: Option<MasterLink<Script>>,
-    aside: Option<MasterLink<Script>>,
-}
-
-fn user_of(alloc: Global, name: &str, password: &str) -> Result<User, AllocError> {
-    Ok(User {
-        name: Text::from_str(alloc, name)?,
-        password: Text::from_str(alloc, password)?,
-    })
-}
-
-impl Links {
-    /// No user is known, and there is no command to start.
-    fn new(alloc: Global, resumable: bool) -> Links {
-        Links {
-            alloc,
-            carry: Carry::new(alloc, resumable),
-            arena: Bump::new(alloc),
-            users: Vec::new(alloc),
-            argv: Vec::new(alloc),
-            end: End::Whole,
-            link: None,
-            aside: None,
-        }
-    }
-
-    /// From now on the user `w0` with the password `p` is known, and the command is `true`.
-    pub fn are_ready(&mut self) -> bool {
-        self.orders("true") && self.knows("w0", "p")
-    }
-
-    fn orders(&mut self, word: &str) -> bool {
-        match Text::from_str(self.alloc, word) {
-            Ok(word) => self.argv.push(word).is_ok(),
-            Err(_) => false,
-        }
-    }
-
-    fn knows(&mut self, name: &str, password: &str) -> bool {
-        self.users.clear();
-        self.adds("other", password) && self.adds(name, password)
-    }
-
-    fn adds(&mut self, name: &str, password: &str) -> bool {
-        match user_of(self.alloc, name, password) {
-            Ok(user) => self.users.push(user).is_ok(),
-            Err(_) => false,
-        }
-    }
-
-    /// The link before is let go, and one over this stream takes its place where it is accepted.
-    fn accept(&mut self, stream: Script) -> Answer {
-        let accepted = MasterLink::accept(self.alloc, stream);
-        let answer = match &accepted {
-            Ok(_) => Answer::Done,
-            Err(fault) => Answer::Fault(*fault),
-        };
-        self.link = accepted.ok();
-        answer
-    }
-
-    /// A link over a stream that gives the head in pieces of so many bytes, and then these
-    /// messages, takes the place of the one before.
-    pub fn accept_from(&mut self, messages: &[&[u8]], piece: usize) -> Answer {
-        match script_of(self.alloc, HEAD, messages) {
-            Ok(mut stream) => {
-                stream.piece = piece;
-                self.end.shapes(&mut stream);
-                self.accept(stream)
-            }
-            Err(_) => Answer::Nothing,
-        }
-    }
-
-    /// A link over a stream that gives a head of these pieces takes the place of the one before.
-    fn accept_head(&mut self, pieces: &[&[u8]]) -> Answer {
-        match joined(self.alloc, pieces) {
-            Ok(head) => self.accept(Script::new(self.alloc, head, usize::MAX)),
-            Err(_) => Answer::Nothing,
-        }
-    }
-
-    /// A link over a stream that gives the first bytes of the head and these messages, and would
-    /// then block, takes the place of the one before.
-    fn accept_waiting(&mut self, first: usize, messages: &[&[u8]]) -> Answer {
-        match script_of(self.alloc, HEAD, messages) {
-            Ok(mut stream) => {
-                stream.input.truncate(first);
-                stream.waits = true;
-                self.accept(stream)
-            }
-            Err(_) => Answer::Nothing,
-        }
-    }
-
-    fn accept_worker(&mut self) -> Answer {
-        match worker_stream(self.alloc) {
-            Some(stream) => self.accept(stream),
-            None => Answer::Nothing,
-        }
-    }
-
-    fn login(&mut self) -> Answer {
-        let Some(link) = &mut self.link else {
-            return Answer::Nothing;
-        };
-        match link.login(self.alloc, &mut self.arena, self.users.as_slice()) {
-            Ok(place) => Answer::Place(place),
-            Err(fault) => Answer::Fault(fault),
-        }
-    }
-
-    fn attach<Y: Yard, R: Wait>(&mut self, rt: &R, reader: &mut ReaderEnd<Y>) -> Answer {
-        let Some(link) = &mut self.link else {
-            return Answer::Nothing;
-        };
-        match link.attach(rt, self.alloc, reader, &mut self.carry) {
-            Ok(attached) => Answer::Attached(attached),
-            Err(fault) => Answer::Fault(fault),
-        }
-    }
-
-    fn turn<Y: Yard, R: Wait>(&mut self, rt: &R, reader: &mut ReaderEnd<Y>) -> Answer {
-        let Some(link) = &mut self.link else {
-            return Answer::Nothing;
-        };
-        match link.turn(rt, self.alloc, &mut self.arena, reader, &mut self.carry) {
-            Ok(turn) => Answer::Turned(turn),
-            Err(fault) => Answer::Fault(fault),
-        }
-    }
-
-    fn start<Y: Yard, R: Wait>(&mut self, rt: &R, reader: &mut ReaderEnd<Y>) -> Answer {
-        let Some(link) = &mut self.link else {
-            return Answer::Nothing;
-        };
-        let argv = self.argv.as_slice();
-        match link.start(rt, self.alloc, reader, &mut self.carry, argv) {
-            Ok(command) => Answer::Started(command),
-            Err(fault) => Answer::Fault(fault),
-        }
-    }
-
-    fn interrupt<Y: Yard, R: Wait>(&mut self, rt: &R, reader: &mut ReaderEnd<Y>) -> Answer {
-        let Some(link) = &mut self.link else {
-            return Answer::Nothing;
-        };
-        match link.interrupt(rt, self.alloc, reader, &mut self.carry, 0) {
-            Ok(()) => Answer::Done,
-            Err(fault) => Answer::Fault(fault),
-        }
-    }
-
-    fn keepalive(&mut self) -> Answer {
-        let Some(link) = &mut self.link else {
-            return Answer::Nothing;
-        };
-        match link.ask(self.alloc, &mut self.carry, Ask::Keepalive) {
-            Ok(()) => Answer::Done,
-            Err(fault) => Answer::Fault(fault),
-        }
-    }
-
-    /// The answer to a call.
-    pub fn call<Y: Yard, R: Wait>(
-        &mut self,
-        rt: &R,
-        reader: &mut ReaderEnd<Y>,
-        call: Call,
-    ) -> Answer {
-        match call {
-            Call::Accept(messages) => self.accept_from(messages, usize::MAX),
-            Call::AcceptHead(pieces) => self.accept_head(pieces),
-            Call::AcceptWaiting(messages) => self.accept_waiting(usize::MAX, messages),
-            Call::AcceptSome(first) => self.accept_waiting(first, &[]),
-            Call::AcceptInPieces(piece, messages) => self.accept_from(messages, piece),
-            Call::AcceptWorker => self.accept_worker(),
-            Call::Login => self.login(),
-            Call::Attach => self.attach(rt, reader),
-            Call::Turn => self.turn(rt, reader),
-            Call::Start => self.start(rt, reader),
-            Call::Interrupt => self.interrupt(rt, reader),
-            Call::Keepalive => self.keepalive(),
-        }
-    }
-
-    /// Whether a link over a stream that gives these messages takes its lane up plainly.
-    pub fn is_attached<Y: Yard, R: Wait>(
-        &mut self,
-        rt: &R,
-        reader: &mut ReaderEnd<Y>,
-        messages: &[&[u8]],
-    ) -> bool {
-        self.accept_from(messages, usize::MAX) == Answer::Done
-            && self.login() == Answer::Place(1)
-            && self.attach(rt, reader) == PLAIN
-    }
-
-    fn gives_so<Y: Yard, R: Wait>(
-        &mut self,
-        rt: &R,
-        reader: &mut ReaderEnd<Y>,
-        frames: &[u8],
-        gives: Answer,
-    ) -> bool {
-        let is_up = matches!(gives, Answer::Turned(_));
-        self.is_attached(rt, reader, &[AUTH, frames])
-            && self.turn(rt, reader) == gives
-            && reader.is_up() == is_up
-            && if is_up {
-                goes_down(rt, reader)
-            } else {
-                self.adds_no_more()
-            }
-    }
-
-    /// Whether nothing was written behind the answer to the login but the answer to a close frame.
-    fn adds_no_more(&self) -> bool {
-        matches!(
-            self.written().strip_prefix(TRUE),
-            Some([]) | Some([b'\x88', ..])
-        )
-    }
-
-    fn gives_long<Y: Yard, R: Wait>(
-        &mut self,
-        rt: &R,
-        reader: &mut ReaderEnd<Y>,
-        long: Long,
-        gives: Answer,
-    ) -> bool {
-        match long.frames(self.alloc) {
-            Ok(frames) => self.gives_so(rt, reader, frames.as_slice(), gives),
-            Err(_) => false,
-        }
-    }
-
-    fn has_refused(&self, name: Option<&str>) -> bool {
-        match &self.link {
-            Some(link) => link.refused() == name,
-            None => false,
-        }
-    }
-
-    fn wrote_last(&self, bytes: &[u8]) -> bool {
-        match &self.link {
-            Some(link) => link.get_ref().output.ends_with(bytes),
-            None => false,
-        }
-    }
-
-    fn wrote(&self, pieces: &[&[u8]]) -> bool {
-        match joined(self.alloc, pieces) {
-            Ok(whole) => self.wrote_last(&whole),
-            Err(_) => false,
-        }
-    }
-
-    fn wrote_times(&self, times: u32) -> bool {
-        match &self.link {
-            Some(link) => link.get_ref().writes == times,
-            None => false,
-        }
-    }
-
-    fn leaks(&self) -> bool {
-        match Box::new(&self.arena, 0u8) {
-            Ok(leaked) => {
-                forget(leaked);
-                true
-            }
-            Err(_) => false,
-        }
-    }
-
-    pub fn has_link(&self) -> bool {
-        self.link.is_some()
-    }
-
-    /// A call of the link's stream failed, or there is no link.
-    pub fn has_failed(&self) -> bool {
-        match &self.link {
-            Some(link) => link.get_ref().has_failed,
-            None => true,
-        }
-    }
-
-    /// What the link wrote behind the handshake.
-    pub fn written(&self) -> &[u8] {
-        match &self.link {
-            Some(link) => link
-                .get_ref()
-                .output
-                .as_slice()
-                .get(AGREED.len()..)
-                .unwrap_or_default(),
-            None => b"",
-        }
-    }
-}
-
-fn goes_down<Y: Yard, R: Wait>(rt: &R, reader: &mut ReaderEnd<Y>) -> bool {
-    reader.down(rt).is_ok()
 }
 
 fn is_noted<Y: Yard, R: Wait>(rt: &R, reader: &mut ReaderEnd<Y>) -> bool {
@@ -463,12 +97,22 @@ fn ended_for<Y: Yard>(viewer: &mut Viewer<Y>) -> Option<Results> {
     }
 }
 
-/// Whether this is the whole log of command 0 under that name, as the viewer sees it.
-fn is_logged_for<Y: Yard>(viewer: &mut Viewer<Y>, name: &str, content: &str) -> bool {
+/// Whether this is the whole log of command 0 under that name, where there is memory for it.
+fn is_chunk<Y: Yard>(viewer: &mut Viewer<Y>, name: &str, content: &str) -> Option<bool> {
     match viewer.chunk(0, name, 0, u64::MAX) {
-        Ok(chunk) => chunk.content.as_str() == content,
-        Err(_) => false,
+        Ok(chunk) => Some(chunk.content.as_str() == content),
+        Err(_) => None,
     }
+}
+
+/// Whether this is the whole log of command 0 under that name, as the viewer sees it. Where it is
+/// not given for want of memory, it is asked for again.
+fn is_logged_for<Y: Yard>(viewer: &mut Viewer<Y>, name: &str, content: &str) -> bool {
+    let is_right = match is_chunk(viewer, name, content) {
+        None => is_chunk(viewer, name, content),
+        is_right => is_right,
+    };
+    is_right == Some(true)
 }
 
 /// A lane, and the links over it.
@@ -522,21 +166,26 @@ impl<Y: Yard, W: Wait + Drop> Desk<Y, W> {
         match row {
             Row::Calls(call, answer) => links.call(rt, reader, call) == answer,
             Row::Changes => {
-                swap(&mut links.link, &mut links.aside);
+                links.changes();
                 true
             }
             Row::Reads(_, frames, gives) => links.gives_so(rt, reader, frames, gives),
             Row::ReadsLong(long, gives) => links.gives_long(rt, reader, long, gives),
             Row::Knows(name, password) => links.knows(name, password),
+            Row::KnowsOnly(name, password) => links.knows_only(name, password),
+            Row::FailsAfter(calls) => links.comes_to(End::Fails(calls)),
+            Row::IsWhole => links.comes_to(End::Whole),
             Row::Names(name) => links.has_refused(name),
             Row::Drains => matches!(self.ends.writer.drain(), Ok(Drained::Took)),
             Row::Wrote(pieces) => links.wrote(pieces),
+            Row::WroteAll(pieces) => links.wrote_all(pieces),
             Row::WroteTimes(times) => links.wrote_times(times),
             Row::Leaks => links.leaks(),
             Row::Fills => fills(rt, reader),
             Row::Had(events) => reader.trace().len() == events,
             Row::IsDown => is_down(reader.trace()) == Some(true),
             Row::IsCut => reader.is_cut(),
+            Row::Logs(content, ended) => self.logged("stdio", content) && self.ended() == ended,
             Row::IsGivenUp => is_given_up(reader.trace()),
         }
     }

@@ -1,14 +1,14 @@
 //! A stream that fails at one of its calls, at each in turn, or ends after one of its bytes; and a
 //! refused request for memory.
 
-use super::desk::{
-    Answer, CLOSED, Call, DROPPED, Desk, HEARD, Links, Outcome, PLAIN, Trial, is_down, tried,
-};
+use super::calls::{Answer, CLOSED, Call, DROPPED, HEARD, PLAIN};
+use super::desk::{Desk, Outcome, Trial, is_down, tried};
+use super::links::Links;
 use super::watch::{End, Step, Watch};
 use super::{ANSWER, AUTH, HEAD, ORDER, TEXT, TRUE, UPDATE};
 use bm_lane::{HearRefusal, ReaderEnd, Yard};
 use bm_link::*;
-use bm_session::{Refusal, Results};
+use bm_session::{Body, Event, Refusal, Results};
 use std::alloc::Global;
 use std::process::Abort;
 use std::sync::Wait;
@@ -95,19 +95,77 @@ impl<Y: Yard, W: Wait + Drop> Desk<Y, W> {
         Some(watch)
     }
 
-    /// The lane had its Down last, or had no event, which is right where the link failed. A command
-    /// that was started ended so that it is tried again.
+    /// The lane had a beginning of the script's events and then its Down, or had no event, which is
+    /// right where the link failed. The log has the line whose update was taken. A command that was
+    /// started ended so that it is tried again.
     fn is_over(&mut self, has_failed: bool) -> bool {
-        let is_down = match is_down(self.ends.reader.trace()) {
-            Some(is_down) => is_down,
-            None => has_failed,
+        let taken = taken_of(self.ends.reader.trace());
+        let ended = match taken {
+            Taken::Start | Taken::Line => Some(Results::Retry),
+            Taken::Nothing | Taken::Login | Taken::Other => None,
         };
-        let ended = if self.ends.reader.next_command() == 0 {
-            None
-        } else {
-            Some(Results::Retry)
-        };
-        is_down && self.ended() == ended
+        self.ended() == ended
+            && match taken {
+                Taken::Nothing => has_failed,
+                Taken::Login => true,
+                Taken::Start => self.logged("stdio", ""),
+                Taken::Line => self.logged("stdio", "oa\n"),
+                Taken::Other => false,
+            }
+    }
+}
+
+/// How much of the script a lane took before it was taken down.
+#[derive(Clone, Copy)]
+enum Taken {
+    Nothing,
+    Login,
+    Start,
+    Line,
+    /// It took something else, or wasn't taken down.
+    Other,
+}
+
+/// Whether the script's event at this place is such a one.
+fn is_at(place: usize, event: &Event) -> bool {
+    match event {
+        Event::Up => place == 0,
+        Event::Go => place == 1,
+        Event::In(0, Body::Update { .. }) => place == 2,
+        _ => false,
+    }
+}
+
+fn are_begun(events: &[Event]) -> bool {
+    for (place, event) in events.iter().enumerate() {
+        if !is_at(place, event) {
+            return false;
+        }
+    }
+    true
+}
+
+/// What the lane took before its Down.
+fn taken_before(events: &[Event]) -> Taken {
+    if !are_begun(events) {
+        return Taken::Other;
+    }
+    match events.len() {
+        1 => Taken::Login,
+        2 => Taken::Start,
+        3 => Taken::Line,
+        _ => Taken::Other,
+    }
+}
+
+fn taken_of(trace: &[Event]) -> Taken {
+    match is_down(trace) {
+        None => Taken::Nothing,
+        Some(false) => Taken::Other,
+        Some(true) => {
+            let before = trace.len().saturating_sub(1);
+            taken_before(trace.get(..before).unwrap_or_default())
+        }
     }
 }
 
@@ -155,13 +213,18 @@ fn an_end_is_told_once(rt: HostRuntime) {
     }
 }
 
-/// What came before a refused request for memory is right, and no update is passed over after it.
-/// Where the lane itself found no memory, it is made again.
+/// Whether the script is played to its end. Where a request for memory is refused, what came before
+/// it is right, nothing but a Down comes after it, and the script is played once more.
+fn is_played_or_ended<R: Wait + Abort>(rt: &R, alloc: Global) -> bool {
+    let watch = watched(rt, alloc, false, End::Refused);
+    let (is_right, is_played) = match watch {
+        Some(watch) => (watch.is_right, !watch.has_ended),
+        None => (true, false),
+    };
+    is_right && (is_played || ended_right(watched(rt, alloc, false, End::Refused)) == Some(false))
+}
+
 #[test]
 fn refused_memory_ends_the_link(rt: HostRuntime) {
-    let watch = match watched(&rt, rt.alloc(), false, End::Refused) {
-        Some(watch) => Some(watch),
-        None => watched(&rt, rt.alloc(), false, End::Refused),
-    };
-    assert!(rt; ended_right(watch).is_some());
+    assert!(rt; is_played_or_ended(&rt, rt.alloc()));
 }

@@ -1,7 +1,8 @@
 //! What comes of frames: the cases of RFC 6455 in the manner of the Autobahn test suite, and the
 //! limits.
 
-use super::desk::{Answer, BAD, CLOSED, Call, DROPPED, HEARD, PLAIN, Row, plays};
+use super::calls::{Answer, BAD, CLOSED, Call, DROPPED, HEARD, PLAIN};
+use super::desk::{Row, plays};
 use super::{ANSWER, AUTH, CLOSE, TRUE, UPDATE};
 
 /// A ping of a byte more than a ping may have.

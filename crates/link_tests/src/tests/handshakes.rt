@@ -1,7 +1,8 @@
 //! Handshakes: those that are taken, and those that are refused.
 
 use super::AUTH;
-use super::desk::{Answer, BAD, Call, PLAIN, Row, plays};
+use super::calls::{Answer, BAD, Call, PLAIN};
+use super::desk::{Row, plays};
 use bm_link::*;
 
 /// A handshake that comes in pieces is heard; one that trickles in is taken for an attack.

@@ -5,8 +5,10 @@
 //! comes of it is told here: an event is taken and answered as the protocol has it, and any other
 //! message is a bad one, after which the lane is down and its log is as it was.
 
-use super::desk::{Answer, BAD, Call, Desk, HEARD, Links, NOTED, Outcome, Trial, tried};
+use super::calls::{Answer, BAD, Call, HEARD, NOTED};
+use super::desk::{Desk, Outcome, Trial, tried};
 use super::lengths::binary;
+use super::links::Links;
 use super::{AUTH, COMPLETE_THREE, DONE, ORDER, TRUE, UPDATE};
 use bm_lane::{ReaderEnd, Yard};
 use bm_lines::{Parcel, STDIO};

@@ -1,11 +1,32 @@
 //! A master's link over memory.
 
-use super::desk::{Answer, BAD, CLOSED, Call, DROPPED, HEARD, PLAIN, Row, WAITS, plays};
+use super::calls::{Answer, BAD, CLOSED, Call, DROPPED, HEARD, PLAIN, WAITS};
+use super::desk::{Row, plays};
 use super::{
     ANSWER, AUTH, BAD_LOGIN, FULL, KEEPALIVE_ONE, KEEPALIVE_ZERO, ORDER, PING, STOP, TEXT, TRUE,
     UPDATE,
 };
 use bm_link::*;
+use bm_session::Results;
+
+/// A login, a command, its update, a text and the end, and all that is written.
+#[test]
+fn a_command_is_heard_until_the_end(rt: HostRuntime) {
+    static ROWS: [Row; 11] = [
+        Row::KnowsOnly("w0", "p"),
+        Row::Calls(Call::Accept(&[AUTH, UPDATE, TEXT]), Answer::Done),
+        Row::Calls(Call::Login, Answer::Place(0)),
+        Row::Calls(Call::Attach, PLAIN),
+        Row::Calls(Call::Start, Answer::Started(0)),
+        Row::Calls(Call::Turn, HEARD),
+        Row::Calls(Call::Turn, DROPPED),
+        Row::Calls(Call::Turn, CLOSED),
+        Row::Logs("oa\n", Some(Results::Retry)),
+        Row::Calls(Call::Turn, CLOSED),
+        Row::WroteAll(&[TRUE, ORDER, ANSWER]),
+    ];
+    assert!(rt; plays(&rt, rt.alloc(), 8, false, &ROWS));
+}
 
 /// A link whose lane is busy, and is interrupted: the turns after each drain. Each answer, order
 /// and request is one write to the stream.

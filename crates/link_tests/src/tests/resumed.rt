@@ -11,8 +11,10 @@
 //! - An update was taken, and its answer sent or not: a worker without the answer says it again,
 //!   and gets the same answer. It adds no line.
 
-use super::desk::{Answer, CLOSED, Call, Desk, HEARD, Links, NOTED, Outcome, Trial, tried};
+use super::calls::{Answer, CLOSED, Call, HEARD, NOTED};
+use super::desk::{Desk, Outcome, Trial, tried};
 use super::failing::ended_right;
+use super::links::Links;
 use super::watch::{End, Step, Watch};
 use super::{
     ANSWERS, AUTH_S, AUTH_T, DONE, DONE_ONE, HEAD, NEW, ORDER, REQUESTS, RESUMED, STOP, bytes_in,

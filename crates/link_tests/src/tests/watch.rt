@@ -1,7 +1,7 @@
 //! What is seen of the calls of a link whose stream comes to an end.
 
 use super::Script;
-use super::desk::{Answer, BAD, CLOSED};
+use super::calls::{Answer, BAD, CLOSED};
 use bm_link::LinkFault;
 
 /// Where a stream comes to its end.
@@ -65,7 +65,7 @@ impl Watch {
     /// Sees the answer to a call, after which a call of the stream has failed or not.
     pub fn see(&mut self, step: Step, answer: Answer, has_failed: bool) {
         self.place = self.place.saturating_add(step.bytes);
-        let ends = self.ends(answer, has_failed);
+        let ends = self.ends(step, answer, has_failed);
         self.is_right &= if self.has_ended {
             answer == CLOSED
         } else if ends {
@@ -77,16 +77,17 @@ impl Watch {
     }
 
     /// Whether the stream came to its end by now.
-    fn ends(&self, answer: Answer, has_failed: bool) -> bool {
+    fn ends(&self, step: Step, answer: Answer, has_failed: bool) -> bool {
         match self.end {
             End::Fails(_) => has_failed,
             End::Cut(bytes) => self.place > bytes,
-            End::Refused => matches!(
-                answer,
-                Answer::Fault(
-                    LinkFault::Mem | LinkFault::Stream | LinkFault::Closed | LinkFault::BadMessage
-                )
-            ),
+            End::Refused => {
+                answer != step.right
+                    && matches!(
+                        answer,
+                        Answer::Fault(LinkFault::Mem | LinkFault::Closed | LinkFault::BadMessage)
+                    )
+            }
             End::Whole => false,
         }
     }

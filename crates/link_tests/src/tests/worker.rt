@@ -2,7 +2,7 @@
 
 mod failing;
 
-use super::desk::{Answer, BAD, CLOSED, DROPPED, NOTED};
+use super::calls::{Answer, BAD, CLOSED, DROPPED, NOTED};
 use super::{
     AGREED, AUTH, AUTH_S, BAD_LOGIN, CLOSE, DONE, NEW, ORDER, RESUMED, Script, TEXT, TRUE,
     script_of,

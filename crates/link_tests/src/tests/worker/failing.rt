@@ -2,7 +2,7 @@
 //! bytes; and a second link of its core, which a resumed session has.
 
 use super::super::both::end_of_head;
-use super::super::desk::{Answer, CLOSED, HEARD, NOTED};
+use super::super::calls::{Answer, CLOSED, HEARD, NOTED};
 use super::super::failing::{begins, ended_right};
 use super::super::hostile::payload;
 use super::super::watch::{End, Step, Watch};
