@@ -1,12 +1,12 @@
 //! A lane's reader's end with the link by which it is up.
 
 ghost use Rattle.std.specs.Prelude.{◌≡◌, [], nat_lt, is_some, true, None, if◌then◌else◌};
-ghost use Rattle.bm_session.specs.Trace.{is_up};
+ghost use Rattle.bm_session.specs.Trace.{is_up, was_taken};
 ghost use Rattle.bm_link.specs.Carries.{new_carried};
+ghost use Rattle.bm_link.specs.Laws.{CarriesPending};
 ghost use Rattle.bm_rules.specs.Standing.{keeps_link};
 ghost use Rattle.bm_rules.specs.Tenure.{kept as kept_term, dismissed};
-ghost use Rattle.bm_clerk.specs.Desks.{counting, kept, renewed, rest_of, term_in};
-ghost use Rattle.bm_clerk.specs.Desks.{Attaches, Closes, Expires, GivesUp, Interrupts, Pings, ShutsDown, Starts, TakesUp, Ticks, Turns, with_term};
+ghost use Rattle.bm_clerk.specs.Desks.{counting, kept, renewed, rest_of, term_in, Attaches, Closes, Expires, GivesUp, Interrupts, Pings, ShutsDown, Starts, TakesUp, Ticks, Turns, with_term};
 ghost use Rattle.bm_clerk.specs.Notices.{standing_of};
 
 use crate::door::Told;
@@ -25,7 +25,8 @@ use std::sync::Wait;
 
 /// A lane's reader's end, what the lane carries from one link to the next, the link by which it is
 /// up, if it is, and how long a cut one waits for its worker. The lane is up just as long as it has
-/// a link, and ticks are counted just while it is cut.
+/// a link, and ticks are counted just while it is cut. What it carries are the orders of its lane
+/// that have no answer, in order, by their numbers.
 #[derive(Drop)]
 pub struct Desk<Y: Yard, S> {
     reader: ReaderEnd<Y>,
@@ -37,6 +38,7 @@ pub struct Desk<Y: Yard, S> {
 impl<Y: Yard, S> Model for Desk<Y, S> {
     ghost use Rattle.std.specs.Prelude.{◌≡◌, is_some};
     ghost use Rattle.bm_session.specs.Trace.{is_up};
+    ghost use Rattle.bm_link.specs.Laws.{CarriesPending};
     ghost use Rattle.bm_clerk.specs.Desks.{Seat};
     ghost use Rattle.bm_clerk.specs.Notices.{is_awaited, standing_of};
 
@@ -50,7 +52,8 @@ impl<Y: Yard, S> Model for Desk<Y, S> {
     } };
 
     ghost invariant = { λ d. (is_some d.link ≡ is_up d.reader.trace)
-        × (is_some d.tenure.cut ≡ is_awaited (standing_of d.reader.trace)) };
+        × (is_some d.tenure.cut ≡ is_awaited (standing_of d.reader.trace))
+        × CarriesPending d.carry d.reader.trace };
 }
 
 /// What a clerk waits for.
@@ -75,7 +78,9 @@ fn settle<Y: Yard, S: Drop>(
 )
     ensures link { link.new ≡ kept reader.now link.old }
     ensures tenure { tenure.new ≡ counting reader.now tenure.old }
+    ensures taken { was_taken reader.now.trace ≡ true }
 {
+    let _events = reader.trace();
     let standing = standing_of(reader);
     keep(link, standing);
     count(tenure, standing);
@@ -164,6 +169,7 @@ fn decline<Y: Yard, S: Read + Write + Drop, R: Wait>(
 impl<Y: Yard, S> Desk<Y, S> {
     /// The desk of a lane that had no event. Its worker may take `resume_ticks` ticks to resume a
     /// session after a cut; where these are 0, no session is ever resumed. It takes no memory.
+    #[tactic(auto, using(crate::proofs::Carrying::fresh))]
     pub fn new(alloc: Global, reader: ReaderEnd<Y>, resume_ticks: u32) -> Desk<Y, S>
         requires { reader.trace ≡ [] }
         ensures lane { result.lane ≡ reader }
@@ -201,6 +207,15 @@ impl<Y: Yard, S> Desk<Y, S> {
             Standing::Cut => Rest::Tick,
             Standing::Down => Rest::Order,
         }
+    }
+
+    /// What holds of every desk: what it carries are the orders of its lane that have no answer, in
+    /// order, by their numbers, so that a link which resumes the session sends just those again. It
+    /// does nothing when it runs.
+    pub fn carries_what_is_pending(&self)
+        ensures { CarriesPending self.now.carry self.now.lane.trace }
+    {
+        let _ = &self.carry;
     }
 
     /// The number of the lane.
@@ -312,6 +327,7 @@ impl<Y: Yard, S: Read + Write + Drop> Desk<Y, S> {
 
     /// Asks the worker to shut down, where the lane has a link. From now on a cut lane is given up
     /// at once. A fault of the link is told by its next turn.
+    #[tactic(auto, using(crate::proofs::Carrying::asked))]
     pub fn shut_down(&mut self, alloc: Global)
         ensures { ShutsDown S.contents self.old.link self.old self.new }
     {

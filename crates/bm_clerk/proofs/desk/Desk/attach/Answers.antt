@@ -6,7 +6,7 @@ pub invariant_of-self-2 : goal.invariant_of-self-2
 invariant_of-self-2 g c =
     seated g.S.Write.contents c.args.link c.self.inside.reader c.self.inside.carry c.self.inside.tenure
     c.take_up-answer.result.0 c.take_up-answer.new.reader c.take_up-answer.new.carry c.take_up-answer.result.1 c.put.new.place c.take_up-answer.new.tenure
-    c.take_up-answer.ensures c.put.ensures
+    c.self.invariant.2 c.take_up-answer.ensures c.put.ensures
 
 pub returns : goal.returns
 returns g c =

@@ -1,6 +1,16 @@
 use Rattle.std.proofs.Common.{rules}
 use Rattle.bm_clerk.proofs.Serving.{interrupted}
 use Rattle.bm_clerk.proofs.desk.Desk.interrupt.Goals as goal
+use Rattle.bm_clerk.proofs.Carrying.{interrupted as carries_interrupted}
+
+pub invariant_of-self-2 : goal.invariant_of-self-2
+invariant_of-self-2 g c = (
+  search rules,
+  search rules,
+  carries_interrupted g.S.Write.contents c.args.command c.in-Some.link.stage c.in-Some.link c.interrupt-answer.new.self
+      c.self.inside.reader c.interrupt-answer.new.reader c.self.inside.carry c.interrupt-answer.new.carry c.interrupt-answer.result
+      c.self.invariant.2 c.interrupt-answer.ensures.interrupted,
+)
 
 pub returns : goal.returns
 returns g c =

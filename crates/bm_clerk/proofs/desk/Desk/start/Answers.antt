@@ -1,6 +1,16 @@
 use Rattle.std.proofs.Common.{rules}
 use Rattle.bm_clerk.proofs.Serving.{started}
 use Rattle.bm_clerk.proofs.desk.Desk.start.Goals as goal
+use Rattle.bm_clerk.proofs.Carrying.{started as carries_started}
+
+pub invariant_of-self-2 : goal.invariant_of-self-2
+invariant_of-self-2 g c = (
+  search rules,
+  search rules,
+  carries_started g.S.Write.contents c.args.argv.now c.in-Some.link.stage c.in-Some.link c.start-answer.new.self
+      c.self.inside.reader c.start-answer.new.reader c.self.inside.carry c.start-answer.new.carry c.start-answer.result
+      c.self.invariant.2 c.start-answer.ensures.started,
+)
 
 pub returns : goal.returns
 returns g c =

@@ -1,5 +1,17 @@
+use Rattle.std.proofs.Common.{◌∙◌, sym, ap, rules}
 use Rattle.bm_clerk.proofs.Serving.{turned}
 use Rattle.bm_clerk.proofs.desk.Desk.turn.Goals as goal
+use Rattle.std.specs.Prelude.{is_some}
+use Rattle.bm_clerk.proofs.Carrying.{turned as carries_turned}
+
+pub invariant_of-self-2 : goal.invariant_of-self-2
+invariant_of-self-2 g c = (
+  search rules,
+  search rules,
+  carries_turned g.S.Read.remaining g.S.Write.contents c.in-Some.link.stage c.in-Some.link c.turn-answer.new.self
+      c.self.inside.reader c.turn-answer.new.reader c.self.inside.carry c.turn-answer.new.carry c.turn-answer.result
+      (sym c.self.invariant.0 ∙ ap is_some c.in-Some.is) c.settle.ensures.taken c.self.invariant.2 c.turn-answer.ensures.turned,
+)
 
 pub returns : goal.returns
 returns g c =
