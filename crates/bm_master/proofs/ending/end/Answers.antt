@@ -1,4 +1,4 @@
 use Rattle.bm_master.proofs.ending.end.Goals as goal
 
-pub returns-clause : goal.returns-clause
-returns-clause g c = (c.close.result, c.status_of.ensures)
+pub returns : goal.returns
+returns g c = (c.close-is_settled.result, c.status_of.ensures)
