@@ -373,8 +373,8 @@ where
 
     /// What is left.
     pub fn leave(self) -> Left<Y, O>
-        ensures results { IfSome result.results (λ all. AreResults self.roster.board all.items) }
-        ensures failed { result.has_failed ≡ self.has_failed }
+        ensures results { IfSome result.results (λ all. AreResults self.entry.roster.board all.items) }
+        ensures failed { result.has_failed ≡ self.entry.has_failed }
     {
         let Foreman {
             common,

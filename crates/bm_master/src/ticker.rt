@@ -35,10 +35,14 @@ impl Ticker {
 
     /// How many ticks have ended since the last call, up to a most.
     pub fn ticks<R: Clock>(&mut self, rt: &R) -> u64 {
-        let now = match self.began {
+        let passed = match self.began {
             Some(began) => began.elapsed(rt).ok(),
             None => None,
         };
-        self.pace.told(now.map(millis))
+        let now = match passed {
+            Some(passed) => Some(millis(passed)),
+            None => None,
+        };
+        self.pace.told(now)
     }
 }
