@@ -70,27 +70,21 @@ impl Block {
         self.lines.extend(self.alloc, &other.lines)
     }
 
-    /// Appends to a text the content of the lines behind the first `skip`, of `limit` at most, and
-    /// counts them.
-    pub fn append_to(&self, out: &mut String, skip: u64, limit: u64) -> Result<u64, AllocError>
-        ensures content { IfOk result (λ n. string_bytes out.new
-            ≡ string_bytes out.old ++ content_of (take limit (drop skip self.now))) }
-        ensures count { IfOk result (λ n. n ≡ length (take limit (drop skip self.now))) }
-        ensures err { OnErr result (string_bytes out.new ≡ string_bytes out.old) }
+    /// The content of the lines behind the first `skip`, of `limit` at most.
+    pub fn part(&self, skip: u64, limit: u64) -> &str
+        ensures { result.now ≡ content_of (take limit (drop skip self.now)) }
     {
         let lines = self.len();
         if skip == 0 && lines as u64 <= limit {
-            out.push_str(self.content())?;
-            return Ok(lines as u64);
+            return self.content();
         }
         let Shared::Many(content) = &self.lines else {
             // Of one line there is no part but the whole.
-            return Ok(0);
+            return "";
         };
         let from = lines.min(skip as usize);
         let count = (lines - from).min(limit as usize);
-        out.push_str(content.slice(from, from + count))?;
-        Ok(count as u64)
+        content.slice(from, from + count)
     }
 
     /// For each line its letter in lower case, its text and `\n`.

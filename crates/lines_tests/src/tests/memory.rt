@@ -52,28 +52,6 @@ fn refused_block_keeps_its_lines(rt: HostRuntime) -> Result<(), Fail> {
     Ok(())
 }
 
-/// Whether the text `> ` gets the block's content, at the second time where memory was refused and
-/// the text is as before.
-fn gets(text: &mut String, block: &Block) -> bool {
-    block.append_to(text, 0, 2).is_ok()
-        || text.as_str() == "> " && block.append_to(text, 0, 2).is_ok()
-}
-
-fn is_appended(alloc: Global, block: &Block) -> bool {
-    match again(|| String::from_str(alloc, "> ")) {
-        Ok(mut text) => gets(&mut text, block) && text.as_str() == "> oa\nob\n",
-        Err(_) => false,
-    }
-}
-
-#[test]
-fn refused_content_can_be_appended_again(rt: HostRuntime) -> Result<(), Fail> {
-    let alloc = rt.alloc();
-    let block = again(|| cut(alloc, Letter::O, "a\nb"))?;
-    assert!(rt; is_appended(alloc, &block));
-    Ok(())
-}
-
 /// Whether the block gets the lines of the other, at the second time where memory was refused and
 /// its content is as before.
 fn is_extended(block: &mut Block, other: &Block) -> bool {
