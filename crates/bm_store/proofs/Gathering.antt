@@ -1,7 +1,7 @@
 -- The asked lines of a log, gathered from its blocks.
-use Rattle.std.proofs.Common.{◌≡◌, refl, sym, ◌∙◌, ap, ℕ, zero, suc, ◌+◌, ◌-◌, ◌≤◌, ◌<◌, List, [], ◌∷◌, ◌++◌, length, take, drop, get_or, Some, arith, length-append, append_assoc, inl, inr, min}
+use Rattle.std.proofs.Common.{◌≡◌, refl, sym, ◌∙◌, ap, ℕ, zero, suc, ◌+◌, ◌-◌, ◌≤◌, ◌<◌, List, [], ◌∷◌, ◌++◌, length, take, drop, get_or, Some, true, false, arith, length-append, append_assoc, inl, inr, min}
 use Rattle.std.specs.Prelude.{◌⊎◌, map, slice_get}
-use Rattle.std.proofs.lemmas.List.{append-nil, take-append-drop, take_all, take-take, length-take, drop_all, drop-drop, drop-append-le, take-append-le, length-drop}
+use Rattle.std.proofs.lemmas.List.{append-nil, take-append-drop, length-take, drop_all, drop-drop, drop-take, drop-append-le}
 use Rattle.std.proofs.lemmas.List.Concat.{flat_map-append}
 use Rattle.std.proofs.Math.Seq.{drop-append-add}
 use Rattle.bm_lines.specs.Lines.{Line, content_of}
@@ -10,6 +10,7 @@ use Rattle.bm_session.specs.Trace.{joined, slice}
 use Rattle.bm_store.specs.declared.placed.Placed.{Placed}
 use Rattle.bm_store.specs.Book.{placed}
 use Rattle.bm_store.specs.Placing.{block_at}
+use Rattle.bm_store.specs.Portions.{IsPortion}
 use Rattle.bm_store.proofs.Places.{place-at}
 
 pub map-drop : {A B : Type 0} (f : A → B) (i : ℕ) (xs : List A) → map f (drop i xs) ≡ drop i (map f xs)
@@ -72,94 +73,50 @@ pub asked-next : (ps : List Placed) (i : ℕ) (p : Placed) (skip left : ℕ) →
     → asked ps i skip left ≡ slice p.block skip left ++ asked ps (i + 1) (skip - length p.block) (left - length (slice p.block skip left))
 asked-next ps i p skip left h = ap (λ qs. slice (joined (map block_at qs)) skip left) (drop-next ps i p h) ∙ slice-both p.block (joined (map block_at (drop (i + 1) ps))) skip left
 
-take-parts : {A : Type 0} (n k : ℕ) (xs : List A) → take (n + k) xs ≡ take n xs ++ take k (drop n xs)
-take-parts n k xs = parts n k (n + k) xs refl
-  where
-    parts : {A : Type 0} (n k m : ℕ) (xs : List A) → m ≡ n + k → take m xs ≡ take n xs ++ take k (drop n xs)
-    parts zero k m xs e = ap (λ i. take i xs) (let s : m ≡ k = omega arith in s)
-    parts (suc n) k zero xs e = absurd (omega arith)
-    parts (suc n) k (suc m) [] e = sym (take_all k [] (omega arith))
-    parts (suc n) k (suc m) (x ∷ xs) e = ap (λ l. x ∷ l) (parts n k m xs (omega arith))
-
--- of a list that begins with so many elements, these are the first ones
-take-first : (xs : List Line) (n limit : ℕ) (gathered rest : List Line) → take limit xs ≡ gathered ++ rest → n ≡ length gathered → n ≤ limit → take n xs ≡ gathered
-take-first xs n limit gathered rest e size few =
-    let left : n ≤ length gathered = omega arith in
-    let right : length gathered ≤ n = omega arith in
-    sym (take-take n limit xs few) ∙ ap (take n) e ∙ take-append-le n gathered rest left ∙ take_all n gathered right
-
--- one line of a block that has more, and the rest
-asked-one : (ps : List Placed) (i : ℕ) (p : Placed) (skip left : ℕ) → slice_get ps i ≡ Some p → skip < length p.block → 0 < left
-    → asked ps i skip left ≡ slice p.block skip 1 ++ asked ps i (skip + 1) (left - 1)
-asked-one ps i p skip left h inside some =
-    let rest : List Line = joined (map block_at (drop (i + 1) ps)) in
-    let whole : joined (map block_at (drop i ps)) ≡ p.block ++ rest = ap (λ qs. joined (map block_at qs)) (drop-next ps i p h) in
-    let amount : left ≡ 1 + (left - 1) = omega arith in
-    let size : length (drop skip p.block) ≡ length p.block - skip = length-drop skip p.block in
-    let first : take 1 (drop skip (p.block ++ rest)) ≡ slice p.block skip 1 =
-    ap (take 1) (drop-append-le skip p.block rest (omega arith)) ∙ take-append-le 1 (drop skip p.block) rest (omega arith) in
-    ap (λ l. slice l skip left) whole
-    ∙ ap (λ m. slice (p.block ++ rest) skip m) amount
-    ∙ take-parts 1 (left - 1) (drop skip (p.block ++ rest))
-    ∙ ap (λ l. l ++ take (left - 1) (drop 1 (drop skip (p.block ++ rest)))) first
-    ∙ ap (λ l. slice p.block skip 1 ++ take (left - 1) l) (drop-drop 1 skip (p.block ++ rest))
-    ∙ ap (λ l. slice p.block skip 1 ++ slice l (skip + 1) (left - 1)) (sym whole)
-
 -- what was gathered is the first part of what was asked of the blocks from a place on, and the rest is
--- still asked
-pub record IsGathering (ps : List Placed) (from i skip left skip' limit : ℕ) (out old : List ℕ) : Type 0 where
+-- still asked; the text of all, behind its first bytes, is what was appended and the text of the rest,
+-- behind its own first bytes
+pub record IsGathering (ps : List Placed) (from i before left skip before' limit skip' : ℕ) (out old : List ℕ) : Type 0 where
   pub gathered : List Line
-  pub parts : asked ps from skip' limit ≡ gathered ++ asked ps i skip left
-  pub content : out ≡ old ++ content_of gathered
+  pub parts : asked ps from before' limit ≡ gathered ++ asked ps i before left
   pub count : length gathered + left ≡ limit
+  pub text : old ++ drop skip' (content_of (asked ps from before' limit)) ≡ out ++ drop skip (content_of (asked ps i before left))
 
-pub gathering-start : (ps : List Placed) (from skip limit : ℕ) (out : List ℕ) → IsGathering ps from from skip limit skip limit out out
-gathering-start ps from skip limit out = record { gathered = []; parts = refl; content = sym (append-nil out); count = omega arith }
+pub gathering-start : (ps : List Placed) (from before limit skip : ℕ) (out : List ℕ) → IsGathering ps from from before limit skip before limit skip out out
+gathering-start ps from before limit skip out = record { gathered = []; parts = refl; count = omega arith; text = refl }
 
--- a part of what is asked is appended
-gathering-on : (ps : List Placed) (from i i2 skip left skip' limit skip2 left2 : ℕ) (out out2 old : List ℕ) (part : List Line) → IsGathering ps from i skip left skip' limit out old
-    → asked ps i skip left ≡ part ++ asked ps i2 skip2 left2 → length part ≤ left → out2 ≡ out ++ content_of part → left2 ≡ left - length part → IsGathering ps from i2 skip2 left2 skip' limit out2 old
-gathering-on ps from i i2 skip left skip' limit skip2 left2 out out2 old part h rest size grown less =
+-- the text of what is asked: that of the block at place i, and of the rest
+asked-text : (ps : List Placed) (i : ℕ) (p : Placed) (before left before2 left2 : ℕ) → slice_get ps i ≡ Some p → before2 ≡ before - length p.block → left2 ≡ left - length (slice p.block before left)
+    → asked ps i before left ≡ slice p.block before left ++ asked ps (i + 1) before2 left2
+asked-text ps i p before left before2 left2 at ahead less =
+    asked-next ps i p before left at
+    ∙ ap (λ m. slice p.block before left ++ asked ps (i + 1) m (left - length (slice p.block before left))) (sym ahead)
+    ∙ ap (λ m. slice p.block before left ++ asked ps (i + 1) before2 m) (sym less)
+
+-- what is asked of one block was appended
+pub gathering-next : (ps : List Placed) (from i : ℕ) (p : Placed) (before left skip before' limit skip' before2 left2 skip2 : ℕ) (out out2 old : List ℕ) → slice_get ps i ≡ Some p → IsGathering ps from i before left skip before' limit skip' out old
+    → out2 ≡ out ++ drop skip (content_of (slice p.block before left)) → skip2 ≡ skip - length (content_of (slice p.block before left)) → before2 ≡ before - length p.block → left2 ≡ left - length (slice p.block before left)
+    → IsGathering ps from (i + 1) before2 left2 skip2 before' limit skip' out2 old
+gathering-next ps from i p before left skip before' limit skip' before2 left2 skip2 out out2 old at h grown told ahead less =
+    let part : List Line = slice p.block before left in
+    let rest : List Line = asked ps (i + 1) before2 left2 in
+    let next : asked ps i before left ≡ part ++ rest = asked-text ps i p before left before2 left2 at ahead less in
+    let size : length part ≡ min left (length (drop before p.block)) = length-take left (drop before p.block) in
     let sum : length h.gathered + left ≡ limit = h.count in
     let total : length (h.gathered ++ part) ≡ length h.gathered + length part = length-append h.gathered part in
     record {
       gathered = h.gathered ++ part;
-      parts = h.parts ∙ ap (λ l. h.gathered ++ l) rest ∙ sym (append_assoc h.gathered part (asked ps i2 skip2 left2));
-      content =
-          grown ∙ ap (λ o. o ++ content_of part) h.content
-          ∙ append_assoc old (content_of h.gathered) (content_of part)
-          ∙ ap (λ t. old ++ t) (sym (content_of-append h.gathered part));
+      parts = h.parts ∙ ap (λ l. h.gathered ++ l) next ∙ sym (append_assoc h.gathered part rest);
       count = omega arith;
+      text =
+          h.text
+          ∙ ap (λ l. out ++ drop skip (content_of l)) next
+          ∙ ap (λ t. out ++ drop skip t) (content_of-append part rest)
+          ∙ ap (λ t. out ++ t) (drop-both skip (content_of part) (content_of rest))
+          ∙ sym (append_assoc out (drop skip (content_of part)) (drop (skip - length (content_of part)) (content_of rest)))
+          ∙ ap (λ t. t ++ drop (skip - length (content_of part)) (content_of rest)) (sym grown)
+          ∙ ap (λ m. out2 ++ drop m (content_of rest)) (sym told);
     }
-
--- what is asked of one block
-pub gathering-next : (ps : List Placed) (from i : ℕ) (p : Placed) (skip left skip' limit skip2 left2 : ℕ) (out out2 old : List ℕ) (part : List Line) → slice_get ps i ≡ Some p → IsGathering ps from i skip left skip' limit out old
-    → part ≡ slice p.block skip left → out2 ≡ out ++ content_of part → skip2 ≡ skip - length p.block → left2 ≡ left - length part → IsGathering ps from (i + 1) skip2 left2 skip' limit out2 old
-gathering-next ps from i p skip left skip' limit skip2 left2 out out2 old part at h is grown ahead less =
-    let size : length part ≡ min left (length (drop skip p.block)) = ap length is ∙ length-take left (drop skip p.block) in
-    let amount : left - length (slice p.block skip left) ≡ left2 = ap (λ (l : List Line). left - length l) (sym is) ∙ sym less in
-    let rest : asked ps i skip left ≡ part ++ asked ps (i + 1) skip2 left2 =
-    asked-next ps i p skip left at
-    ∙ ap (λ m. slice p.block skip left ++ asked ps (i + 1) (skip - length p.block) m) amount
-    ∙ ap (λ m. slice p.block skip left ++ asked ps (i + 1) m left2) (sym ahead)
-    ∙ ap (λ (l : List Line). l ++ asked ps (i + 1) skip2 left2) (sym is) in
-    gathering-on ps from i (i + 1) skip left skip' limit skip2 left2 out out2 old part h rest (omega arith) grown less
-
--- one line of a block that has more
-pub one-line : (ls : List Line) (skip : ℕ) → skip < length ls → length (slice ls skip 1) ≡ 1
-one-line ls skip inside =
-    let size : length (slice ls skip 1) ≡ min 1 (length (drop skip ls)) = length-take 1 (drop skip ls) in
-    let more : length (drop skip ls) ≡ length ls - skip = length-drop skip ls in
-    omega arith
-
-pub gathering-one : (ps : List Placed) (from i : ℕ) (p : Placed) (skip left skip' limit left2 : ℕ) (out out2 old : List ℕ) → slice_get ps i ≡ Some p → IsGathering ps from i skip left skip' limit out old
-    → skip < length p.block → 0 < left → out2 ≡ out ++ content_of (slice p.block skip 1) → left2 ≡ left - length (slice p.block skip 1) → IsGathering ps from i (skip + 1) left2 skip' limit out2 old
-gathering-one ps from i p skip left skip' limit left2 out out2 old at h inside some grown less =
-    let size : length (slice p.block skip 1) ≡ 1 = one-line p.block skip inside in
-    let amount : left - 1 ≡ left2 = omega arith in
-    let rest : asked ps i skip left ≡ slice p.block skip 1 ++ asked ps i (skip + 1) left2 =
-    asked-one ps i p skip left at inside some ∙ ap (λ m. slice p.block skip 1 ++ asked ps i (skip + 1) m) amount in
-    gathering-on ps from i i skip left skip' limit (skip + 1) left2 out out2 old (slice p.block skip 1) h rest (omega arith) grown less
 
 -- nothing is asked any more
 pub nothing-asked : (ps : List Placed) (i skip left : ℕ) → (left ≡ 0) ⊎ (length ps ≤ i) → asked ps i skip left ≡ []
@@ -173,23 +130,87 @@ nothing-asked ps i skip left (inr l) = ap (λ qs. slice (joined (map block_at qs
     none (suc k) (suc n) = refl
 
 -- what was gathered, in the end
-pub record IsGathered (ps : List Placed) (from skip limit n : ℕ) (out old : List ℕ) : Type 0 where
-  pub few : n ≤ limit
-  pub content : out ≡ old ++ content_of (asked ps from skip n)
-  pub count : n ≡ length (asked ps from skip n)
+pub record IsGathered (ps : List Placed) (from before limit skip n : ℕ) (out old : List ℕ) : Type 0 where
+  pub content : out ≡ old ++ drop skip (content_of (asked ps from before limit))
+  pub count : n ≡ length (asked ps from before limit)
 
-pub gathering-end : (ps : List Placed) (from i skip left skip' limit n : ℕ) (out old : List ℕ) → IsGathering ps from i skip left skip' limit out old → n ≡ limit - left → IsGathered ps from skip' limit n out old
-gathering-end ps from i skip left skip' limit n out old h e =
+drop-none : {A : Type 0} (n : ℕ) → drop {A = A} n [] ≡ []
+drop-none zero = refl
+drop-none (suc n) = refl
+
+pub gathering-end : (ps : List Placed) (from i before left skip before' limit skip' n : ℕ) (out old : List ℕ) → IsGathering ps from i before left skip before' limit skip' out old → n ≡ limit - left → (left ≡ 0) ⊎ (length ps ≤ i)
+    → IsGathered ps from before' limit skip' n out old
+gathering-end ps from i before left skip before' limit skip' n out old h e done =
+    let none : asked ps i before left ≡ [] = nothing-asked ps i before left done in
+    let all : asked ps from before' limit ≡ h.gathered = h.parts ∙ ap (λ l. h.gathered ++ l) none ∙ append-nil h.gathered in
     let sum : length h.gathered + left ≡ limit = h.count in
     let size : n ≡ length h.gathered = omega arith in
-    let first : asked ps from skip' n ≡ h.gathered = take-first (drop skip' (joined (map block_at (drop from ps)))) n limit h.gathered (asked ps i skip left) h.parts size (omega arith) in
-    record { few = omega arith; content = h.content ∙ ap (λ l. old ++ content_of l) (sym first); count = size ∙ ap length (sym first) }
+    record {
+      content = sym (h.text ∙ ap (λ l. out ++ drop skip (content_of l)) none ∙ ap (λ t. out ++ t) (drop-none skip) ∙ append-nil out);
+      count = size ∙ ap length (sym all);
+    }
 
--- and nothing more was asked
-pub gathering-all : (ps : List Placed) (from i skip left skip' limit n : ℕ) (out old : List ℕ) → IsGathering ps from i skip left skip' limit out old → n ≡ limit - left → (left ≡ 0) ⊎ (length ps ≤ i)
-    → asked ps from skip' n ≡ asked ps from skip' limit
-gathering-all ps from i skip left skip' limit n out old h e done =
+-- behind a part of what is asked is the rest of it
+rest-asked : (ls : List Line) (off limit n : ℕ) (gathered rest : List Line) → slice ls off limit ≡ gathered ++ rest → n ≡ length gathered → n ≤ limit → slice ls (off + n) (limit - n) ≡ rest
+rest-asked ls off limit n gathered rest e size few =
+    let sum : n + (limit - n) ≡ limit = omega arith in
+    let over : n - length gathered ≡ 0 = omega arith in
+    ap (take (limit - n)) (sym (drop-drop n off ls))
+    ∙ sym (drop-take n (limit - n) (drop off ls))
+    ∙ ap (λ m. drop n (take m (drop off ls))) sum
+    ∙ ap (drop n) e
+    ∙ drop-both n gathered rest
+    ∙ ap (λ l. l ++ drop (n - length gathered) rest) (drop_all n gathered (omega arith))
+    ∙ ap (λ m. drop m rest) over
+
+-- what is asked of a log is what is asked of its blocks from a place on
+abbrev pub IsSought : List Placed → ℕ → ℕ → ℕ → Type 0
+IsSought ps off start before = drop off (joined (map block_at ps)) ≡ drop before (joined (map block_at (drop start ps)))
+
+-- all that was asked was appended
+pub whole-portion : (ps : List Placed) (off start before0 limit skip0 i before left skip most : ℕ) (out : List ℕ) → IsSought ps off start before0 → IsGathering ps start i before left skip before0 limit skip0 out [] → length out ≤ most
+    → (left ≡ 0) ⊎ (length ps ≤ i) → IsPortion (joined (map block_at ps)) off limit skip0 most (record { content = out; lines = limit - left; skip = 0; is_last = true })
+whole-portion ps off start before0 limit skip0 i before left skip most out sought h short done =
+    let ls : List Line = joined (map block_at ps) in
+    let same : slice ls off limit ≡ asked ps start before0 limit = ap (take limit) sought in
+    let ended : IsGathered ps start before0 limit skip0 (limit - left) out [] = gathering-end ps start i before left skip before0 limit skip0 (limit - left) out [] h refl done in
     let sum : length h.gathered + left ≡ limit = h.count in
-    let size : n ≡ length h.gathered = omega arith in
-    let first : asked ps from skip' n ≡ h.gathered = take-first (drop skip' (joined (map block_at (drop from ps)))) n limit h.gathered (asked ps i skip left) h.parts size (omega arith) in
-    first ∙ sym (append-nil h.gathered) ∙ ap (λ l. h.gathered ++ l) (sym (nothing-asked ps i skip left done)) ∙ sym h.parts
+    let none : asked ps i before left ≡ [] = nothing-asked ps i before left done in
+    let rest : slice ls (off + (limit - left)) (limit - (limit - left)) ≡ [] = rest-asked ls off limit (limit - left) h.gathered (asked ps i before left) (same ∙ h.parts) (omega arith) (omega arith) ∙ none in
+    let content : out ≡ drop skip0 (content_of (slice ls off limit)) = ended.content ∙ ap (λ l. drop skip0 (content_of l)) (sym same) in
+    record {
+      few = omega arith;
+      short = short;
+      parts = sym content ∙ sym (append-nil out) ∙ ap (λ l. out ++ content_of l) (sym rest);
+      last = λ _. (content, ended.count ∙ ap length (sym same));
+    }
+
+-- a part of what is asked of one block was appended
+pub cut-portion : (ps : List Placed) (off start before0 limit skip0 i : ℕ) (p : Placed) (before left skip told most : ℕ) (out out2 : List ℕ) → IsSought ps off start before0 → slice_get ps i ≡ Some p
+    → IsGathering ps start i before left skip before0 limit skip0 out [] → length out2 ≤ most
+    → out ++ drop skip (content_of (slice p.block before left)) ≡ out2 ++ drop told (content_of (slice p.block before left)) → skip < length (content_of (slice p.block before left)) → told ≤ length (content_of (slice p.block before left))
+    → IsPortion (joined (map block_at ps)) off limit skip0 most (record { content = out2; lines = limit - left; skip = told; is_last = false })
+cut-portion ps off start before0 limit skip0 i p before left skip told most out out2 sought at h short cut some inside =
+    let ls : List Line = joined (map block_at ps) in
+    let part : List ℕ = content_of (slice p.block before left) in
+    let more : List Line = asked ps (i + 1) (before - length p.block) (left - length (slice p.block before left)) in
+    let same : slice ls off limit ≡ asked ps start before0 limit = ap (take limit) sought in
+    let sum : length h.gathered + left ≡ limit = h.count in
+    let rest : slice ls (off + (limit - left)) (limit - (limit - left)) ≡ asked ps i before left = rest-asked ls off limit (limit - left) h.gathered (asked ps i before left) (same ∙ h.parts) (omega arith) (omega arith) in
+    let text : content_of (asked ps i before left) ≡ part ++ content_of more = ap content_of (asked-next ps i p before left at) ∙ content_of-append (slice p.block before left) more in
+    record {
+      few = omega arith;
+      short = short;
+      parts =
+          ap (λ l. drop skip0 (content_of l)) same
+          ∙ h.text
+          ∙ ap (λ t. out ++ drop skip t) text
+          ∙ ap (λ t. out ++ t) (drop-append-le skip part (content_of more) (omega arith))
+          ∙ sym (append_assoc out (drop skip part) (content_of more))
+          ∙ ap (λ t. t ++ content_of more) cut
+          ∙ append_assoc out2 (drop told part) (content_of more)
+          ∙ ap (λ t. out2 ++ t) (sym (drop-append-le told part (content_of more) inside))
+          ∙ ap (λ t. out2 ++ drop told t) (sym text)
+          ∙ ap (λ l. out2 ++ drop told (content_of l)) (sym rest);
+      last = λ h. absurd (cc h);
+    }

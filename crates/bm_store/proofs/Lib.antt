@@ -3,7 +3,7 @@ pub mod Gathering
 pub mod Growing
 pub mod Looks
 pub mod Meaning
-pub mod Pieces
+pub mod Portions
 pub mod Places
 mod Rows
 pub mod Shelves

@@ -89,6 +89,10 @@ abbrev pub chunk_log : Name → ℕ → ℕ → Logs → Option (List Line)
 chunk_log name off lim l =
     if is_there name l then Some (slice (joined (l.blocks name)) off lim) else None
 
+-- all lines of a log
+abbrev pub lines_log : Name → Logs → Option (List Line)
+lines_log name l = if is_there name l then Some (joined (l.blocks name)) else None
+
 -- what a book answers for the log of command k under a name: none where it is not there
 abbrev pub placed_in : List Logs → ℕ → Name → Option (List Placed)
 placed_in ls k name = option_and_then (placed_log name) (slice_get ls k)
@@ -98,6 +102,9 @@ state_in ls k name = option_and_then (state_log name) (slice_get ls k)
 
 abbrev pub chunk_in : List Logs → ℕ → Name → ℕ → ℕ → Option (List Line)
 chunk_in ls k name off lim = option_and_then (chunk_log name off lim) (slice_get ls k)
+
+abbrev pub lines_in_log : List Logs → ℕ → Name → Option (List Line)
+lines_in_log ls k name = option_and_then (lines_log name) (slice_get ls k)
 
 -- how many lines the logs `stdio` of all commands have together, as far as 64 bits count
 abbrev pub stdio_lines_in : List Logs → ℕ

@@ -3,13 +3,14 @@
 ghost use Rattle.std.specs.Prelude.{◌≡◌, [], length, map, slice_get, Ok, Err, OnOk, OnErr, MatchResult};
 ghost use Rattle.std.specs.Option.{option_copied};
 ghost use Rattle.bm_store.specs.Book.{change_at, after_item, placed_in, chunk_in, state_in, stdio_lines_in};
-ghost use Rattle.bm_store.specs.Pieces.{LooksAt, LooksAtSome};
+ghost use Rattle.bm_store.specs.Portions.{LooksAt, LooksAtPortion};
 ghost use Rattle.bm_store.specs.Kept.{logs_in, kept_after, kept_with_parcel, kept_with_end};
 
 use crate::chunk::{Chunk, LogState, ViewRefusal};
 use crate::command_logs::CommandLogs;
 use crate::gather::lines;
 use crate::placed::Placed;
+use crate::portion::{Portion, gather_portion};
 use bm_lines::Parcel;
 use bm_session::{Item, Results};
 use std::alloc::{AllocError, Global};
@@ -64,13 +65,12 @@ fn end_all(commands: &mut [CommandLogs], results: Results)
     }
 }
 
-/// What a viewer is told of lines that were gathered, or for which memory was wanting.
-fn told(gathered: Result<Chunk, AllocError>) -> Result<Chunk, ViewRefusal>
-    ensures { MatchResult gathered (λ chunk. result ≡ Ok chunk)
-        (λ _. result ≡ Err ViewRefusal.Mem) }
+/// What a viewer is told of what was gathered, or for which memory was wanting.
+fn told<T: Drop>(gathered: Result<T, AllocError>) -> Result<T, ViewRefusal>
+    ensures { MatchResult gathered (λ it. result ≡ Ok it) (λ _. result ≡ Err ViewRefusal.Mem) }
 {
     match gathered {
-        Ok(chunk) => Ok(chunk),
+        Ok(it) => Ok(it),
         Err(_) => Err(ViewRefusal::Mem),
     }
 }
@@ -160,24 +160,29 @@ impl Book {
     pub fn slice(&self, k: u64, name: &str, offset: u64, limit: u64) -> Result<Chunk, ViewRefusal>
         ensures { LooksAt result offset (chunk_in (logs_in self.now) k name.now offset limit) }
     {
-        self.lines(k, name, offset, limit, None)
+        match self.blocks(k, name) {
+            Some(blocks) => told(lines(*self.commands.allocator(), blocks, offset, limit)),
+            None => Err(ViewRefusal::NoLog),
+        }
     }
 
-    /// The same, or as many of these lines from the first on as have `enough` bytes together, where
-    /// a number is enough: no line follows once the text has so many.
-    pub fn lines(
+    /// A portion of the content of these lines: behind its first `skip` bytes, `most` bytes at
+    /// most, and up to the end of a character. `Mem` also where `skip` lies inside of one.
+    pub fn portion(
         &self,
         k: u64,
         name: &str,
         offset: u64,
         limit: u64,
-        enough: Option<usize>,
-    ) -> Result<Chunk, ViewRefusal>
-        ensures { LooksAtSome (logs_in self.now) k name.now offset limit enough result }
+        skip: usize,
+        most: usize,
+    ) -> Result<Portion, ViewRefusal>
+        ensures { LooksAtPortion (logs_in self.now) k name.now offset limit skip most result }
     {
         match self.blocks(k, name) {
             Some(blocks) => {
-                told(lines(*self.commands.allocator(), blocks, offset, limit, enough))
+                let alloc = *self.commands.allocator();
+                told(gather_portion(alloc, blocks, offset, limit, skip, most))
             }
             None => Err(ViewRefusal::NoLog),
         }

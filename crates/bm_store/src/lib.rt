@@ -9,7 +9,9 @@ mod gather;
 pub mod laws;
 mod named_log;
 mod placed;
+mod portion;
 
 pub use book::Book;
 pub use chunk::{Chunk, LogState, ViewRefusal};
 pub use placed::Placed;
+pub use portion::Portion;

@@ -1,6 +1,6 @@
 //! Worked books: each row is what a book takes or is asked, and what it gives.
 
-use super::turn::Gives::{self, Blocks, Counts, NoLog, Slice, State, Taken};
+use super::turn::Gives::{self, Blocks, Counts, Mem, NoLog, Portion, Slice, State, Taken};
 use super::turn::Turn::*;
 use super::turn::slice;
 use super::{Row, goes_through};
@@ -24,23 +24,38 @@ fn slices_run_over_blocks(rt: HostRuntime) {
 }
 
 #[test]
-fn no_line_follows_what_is_enough(rt: HostRuntime) {
-    static ROWS: [Row; 12] = [
+fn portions_end_in_time_and_between_characters(rt: HostRuntime) {
+    static ROWS: [Row; 15] = [
         (Open(0), Taken),
-        (PieceOf("stdio", 0, 9, 1), Slice(0, 0, "")),
+        (PortionOf("stdio", 0, 9, 0, 1), Portion("", 0, 0, true)),
         (Add(&[("stdio", "a\nb\n")]), Taken),
-        (Add(&[("stdio", "cccc\nd\ne\n")]), Taken),
-        (PieceOf("stdio", 0, 9, 1), Slice(0, 1, "oa\n")),
-        (PieceOf("stdio", 1, 9, 4), Slice(1, 2, "ob\nocccc\n")),
-        (PieceOf("stdio", 0, 9, 6), Slice(0, 2, "oa\nob\n")),
-        (PieceOf("stdio", 2, 1, 99), Slice(2, 1, "occcc\n")),
+        (Add(&[("stdio", "cäc\nd\ne\n")]), Taken),
         (
-            PieceOf("stdio", 0, 9, 99),
-            Slice(0, 5, "oa\nob\nocccc\nod\noe\n"),
+            PortionOf("stdio", 0, 9, 0, 4),
+            Portion("oa\no", 0, 4, false),
         ),
-        (PieceOf("stdio", 3, 9, 0), Slice(3, 0, "")),
-        (PieceOf("stdio", 7, 9, 9), Slice(7, 0, "")),
-        (PieceOf("l", 0, 9, 9), NoLog),
+        (
+            PortionOf("stdio", 0, 9, 4, 4),
+            Portion("b\noc", 2, 2, false),
+        ),
+        (
+            PortionOf("stdio", 0, 9, 0, 6),
+            Portion("oa\nob\n", 2, 0, false),
+        ),
+        (PortionOf("stdio", 2, 7, 2, 1), Portion("", 0, 2, false)),
+        (PortionOf("stdio", 2, 7, 2, 3), Portion("äc", 0, 5, false)),
+        (PortionOf("stdio", 2, 7, 3, 9), Mem),
+        (
+            PortionOf("stdio", 2, 1, 0, 99),
+            Portion("ocäc\n", 1, 0, true),
+        ),
+        (
+            PortionOf("stdio", 0, 9, 0, 18),
+            Portion("oa\nob\nocäc\nod\noe\n", 5, 0, true),
+        ),
+        (PortionOf("stdio", 2, 1, 99, 9), Portion("", 1, 0, true)),
+        (PortionOf("stdio", 7, 9, 0, 9), Portion("", 0, 0, true)),
+        (PortionOf("l", 0, 9, 0, 9), NoLog),
     ];
     goes_through(&rt, &mut Book::new(rt.alloc()), &ROWS);
 }

@@ -16,8 +16,8 @@ pub enum Turn {
     Gone,
     /// A log of command 0, and from where on how many lines.
     SliceOf(&'static str, u64, u64),
-    /// The same, and how many bytes are enough.
-    PieceOf(&'static str, u64, u64, usize),
+    /// The same, how many bytes of their text are skipped, and how many are told at most.
+    PortionOf(&'static str, u64, u64, usize, usize),
     StateOf(u64, &'static str),
     BlocksOf(u64, &'static str),
     Totals,
@@ -29,6 +29,8 @@ pub enum Gives {
     Taken,
     /// The first line's place, how many lines, and their content.
     Slice(u64, u64, &'static str),
+    /// A text, how many lines and then bytes the rest is behind, and whether nothing is left.
+    Portion(&'static str, u64, usize, bool),
     /// How many lines there are, and how the command ended.
     State(u64, Option<Results>),
     /// The place of each block, and how many lines it has.
@@ -36,6 +38,7 @@ pub enum Gives {
     /// How many commands there are, and how many lines their logs `stdio` have.
     Counts(u64, u64),
     NoLog,
+    Mem,
 }
 
 /// Whether the parcel takes the text under the name.
@@ -115,15 +118,16 @@ pub fn slice(book: &Book, name: &str, offset: u64, limit: u64) -> Result<Chunk, 
     }
 }
 
-fn piece(
+/// What is asked: from where on how many lines, how many bytes are skipped, and how many are told.
+type Asked = (u64, u64, usize, usize);
+
+fn portion(
     book: &Book,
     name: &str,
-    offset: u64,
-    limit: u64,
-    enough: usize,
-) -> Result<Chunk, ViewRefusal> {
-    match book.lines(0, name, offset, limit, Some(enough)) {
-        Err(ViewRefusal::Mem) => book.lines(0, name, offset, limit, Some(enough)),
+    (offset, limit, skip, most): Asked,
+) -> Result<Portion, ViewRefusal> {
+    match book.portion(0, name, offset, limit, skip, most) {
+        Err(ViewRefusal::Mem) => book.portion(0, name, offset, limit, skip, most),
         answer => answer,
     }
 }
@@ -132,8 +136,8 @@ fn piece(
 pub fn plays(alloc: Global, book: &mut Book, (turn, gives): &Row) -> bool {
     match turn {
         Turn::SliceOf(name, offset, limit) => gives.is_slice(slice(book, name, *offset, *limit)),
-        Turn::PieceOf(name, offset, limit, enough) => {
-            gives.is_slice(piece(book, name, *offset, *limit, *enough))
+        Turn::PortionOf(name, offset, limit, skip, most) => {
+            gives.is_portion(portion(book, name, (*offset, *limit, *skip, *most)))
         }
         Turn::StateOf(k, name) => gives.is_state(book.state(*k, name)),
         Turn::BlocksOf(k, name) => gives.are_blocks(book.blocks(*k, name)),
@@ -166,6 +170,20 @@ impl Gives {
                     && chunk.lines == *lines
                     && chunk.content.as_str() == *text
             }
+            _ => false,
+        }
+    }
+
+    fn is_portion(&self, answer: Result<Portion, ViewRefusal>) -> bool {
+        match (self, answer) {
+            (Gives::Portion(text, lines, skip, is_last), Ok(portion)) => {
+                portion.content.as_str() == *text
+                    && portion.lines == *lines
+                    && portion.skip == *skip
+                    && portion.is_last == *is_last
+            }
+            (Gives::NoLog, Err(refusal)) => refusal == ViewRefusal::NoLog,
+            (Gives::Mem, Err(refusal)) => refusal == ViewRefusal::Mem,
             _ => false,
         }
     }
