@@ -16,6 +16,8 @@ mod process;
 mod remarks;
 mod seat;
 mod serving;
+mod staff;
+mod start;
 mod telling;
 mod threads;
 mod ticker;
