@@ -9,7 +9,7 @@ use crate::job::Job;
 use crate::mailbox::{Mail, Part, Piece};
 use crate::pipe_reader::PipeReader;
 use bm_lines::{Letter, Text};
-use bm_outbox::{Ending, Item, Outbox, Pipes, Ready, Said, next_turn};
+use bm_outbox::{Ending, Item, Outbox, Pipes, Ready, Said, StartFault, next_turn};
 use bm_work::Argv;
 use crossbeam_channel::{Receiver, Sender};
 use std::alloc::{AllocError, Global};
@@ -84,8 +84,8 @@ impl Crew {
         !self.killed.is_empty() || self.jobs.iter().any(|job| job.is_ending())
     }
 
-    /// Starts a command. The line of its words is told first, also where the process can't be
-    /// started.
+    /// Starts a command. The line of its words is told first, and where the process can't be started
+    /// then why that is.
     pub fn run<R>(
         &mut self,
         rt: &R,
@@ -99,30 +99,29 @@ impl Crew {
         ensures { OnOk result (Starts command argv.now outbox.old outbox.new) }
     {
         outbox.open(alloc, command, argv.as_slice())?;
-        if self.starts(rt, alloc, command, argv.as_slice())? {
-            return Ok(());
+        match self.starts(rt, alloc, command, argv.as_slice())? {
+            Some(why) => outbox.fail(alloc, command, why),
+            None => Ok(()),
         }
-        let ending = Ending::CannotStart;
-        outbox.push(Item::End { command, ending })?;
-        Ok(())
     }
 
-    /// Starts a process and the threads of its pipes, or answers that one of them can't be started.
+    /// Starts a process and the threads of its pipes, or answers why one of them can't be started.
     fn starts<R>(
         &mut self,
         rt: &R,
         alloc: Global,
         command: u64,
         words: &[Text],
-    ) -> Result<bool, AllocError>
+    ) -> Result<Option<StartFault>, AllocError>
     where
         R: Host,
     {
         self.jobs.reserve(1)?;
         self.killed.reserve(1)?;
         let (permits, given) = permits(rt, alloc)?;
-        let Some(child) = started(rt, alloc, words) else {
-            return Ok(false);
+        let child = match started(rt, alloc, words) {
+            Ok(child) => child,
+            Err(why) => return Ok(Some(why)),
         };
         self.started = self.started.wrapping_add(1);
         let mut job = Job {
@@ -136,10 +135,10 @@ impl Crew {
         };
         if self.watches(rt, alloc, &mut job, &given) {
             self.jobs.push(job)?;
-            return Ok(true);
+            return Ok(None);
         }
         self.kill(job)?;
-        Ok(false)
+        Ok(Some(StartFault::NoThread))
     }
 
     /// Starts the threads of a process's pipes, or answers that one of them can't be started.
@@ -336,18 +335,32 @@ fn permits<R: Wait>(rt: &R, alloc: Global) -> Result<(Sender<()>, Receiver<()>),
     Ok((permits, given))
 }
 
-/// A process of these words with an empty input, and with pipes for its output and its errors.
-fn started<R>(rt: &R, alloc: Global, words: &[Text]) -> Option<Child>
+/// A process of these words with an empty input, and with pipes for its output and its errors; or
+/// why it can't be started.
+fn started<R>(rt: &R, alloc: Global, words: &[Text]) -> Result<Child, StartFault>
 where
     R: Host,
 {
-    let (first, rest) = words.split_first()?;
-    let mut command = Command::new(alloc, first.as_str()).ok()?;
-    for word in rest {
-        command.arg(word.as_str()).ok()?;
-    }
+    let Ok(mut command) = command_of(alloc, words) else {
+        return Err(StartFault::NoMemory);
+    };
     command.stdin(Stdio::null());
     command.stdout(Stdio::piped());
     command.stderr(Stdio::piped());
-    command.spawn(rt).ok()
+    match command.spawn(rt) {
+        Ok(child) => Ok(child),
+        Err(error) => Err(StartFault::of(&error)),
+    }
+}
+
+/// The command of these words. One without words has no program.
+fn command_of(alloc: Global, words: &[Text]) -> Result<Command, AllocError> {
+    let Some((first, rest)) = words.split_first() else {
+        return Command::new(alloc, "");
+    };
+    let mut command = Command::new(alloc, first.as_str())?;
+    for word in rest {
+        command.arg(word.as_str())?;
+    }
+    Ok(command)
 }

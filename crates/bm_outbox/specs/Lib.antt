@@ -3,8 +3,10 @@
 pub mod Items
 pub mod Telling
 pub mod Turns
--- What is said of a command: its header lines, the texts of its pipes, and its end.
+-- What is said of a command: its header lines, the texts of its pipes, why it can't be started, and
+-- its end.
 pub mod Headers
+pub mod Faults
 pub mod Joining
 pub mod Pieces
 pub mod Pipes

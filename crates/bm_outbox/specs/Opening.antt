@@ -2,6 +2,7 @@
 use Rattle.std.specs.Prelude.{◌≡◌, ◌⊎◌, ℕ, ℤ, List, [], ◌∷◌, ◌++◌, map, Option, Some, None}
 use Rattle.bm_lines.specs.declared.letter.Letter.TheVariants.{H}
 use Rattle.bm_work.specs.Cuts.{texts_of as cut_texts, left_of, shown}
+use Rattle.bm_outbox.specs.Faults.{fault_line}
 use Rattle.bm_outbox.specs.Headers.{words_line, exit_line}
 use Rattle.bm_outbox.specs.Joining.{IsJoined}
 use Rattle.bm_outbox.specs.Pieces.{IsLast}
@@ -9,6 +10,7 @@ use Rattle.bm_outbox.specs.declared.ending.Ending.TheVariants.{Code, CannotStart
 use Rattle.bm_outbox.specs.declared.item.Item.{Item}
 use Rattle.bm_outbox.specs.declared.item.Item.TheVariants as item
 use Rattle.bm_outbox.specs.declared.said.Said.{Said}
+use Rattle.bm_outbox.specs.declared.start_fault.StartFault.{StartFault}
 
 abbrev pub just : Option Said → List Said
 just (Some s) = s ∷ []
@@ -31,11 +33,20 @@ abbrev pub Opens : ℕ → List (List ℕ) → List Item → List Item → List 
 Opens k words follows old new = (said : List Said) × IsHeader (words_line words) said
     × (new ≡ old ++ waiting_texts k said ++ follows)
 
+-- what is told of a command that can't be started: one header, the line that says why, and its end
+abbrev pub EndsUnstarted : ℕ → StartFault → List Item → Type 0
+EndsUnstarted k why told = (said : Said) × (said.letter ≡ H) × (said.text ≡ fault_line why)
+    × (told ≡ item.Text k said ∷ item.End k CannotStart ∷ [])
+
+-- that waits behind what waited
+abbrev pub Fails : ℕ → StartFault → List Item → List Item → Type 0
+Fails k why old new = (told : List Item) × EndsUnstarted k why told × (new ≡ old ++ told)
+
 -- A command begins: the line of its words waits, and nothing of it before that line. Where its
--- process can't be started, its end follows at once.
+-- process can't be started, why and its end follow at once.
 abbrev pub Starts : ℕ → List (List ℕ) → List Item → List Item → Type 0
-Starts k words old new =
-    Opens k words [] old new ⊎ Opens k words (item.End k CannotStart ∷ []) old new
+Starts k words old new = Opens k words [] old new
+    ⊎ ((why : StartFault) × (told : List Item) × EndsUnstarted k why told × Opens k words told old new)
 
 -- a command has ended with an exit code: the line of that code waits behind all that was told, and
 -- its end behind that

@@ -1,9 +1,11 @@
 //! What waits to be told, in its order.
 
 ghost use Rattle.std.specs.Prelude.{◌≡◌, ◌==◌, ◌∷◌, ◌++◌, [], length, IfOk, OnOk, OnErr};
+ghost use Rattle.bm_lines.specs.declared.letter.Letter.TheVariants.{H};
+ghost use Rattle.bm_outbox.specs.Faults.{fault_line};
 ghost use Rattle.bm_outbox.specs.Headers.{exit_line};
 ghost use Rattle.bm_outbox.specs.Items.{without, Tells};
-ghost use Rattle.bm_outbox.specs.Opening.{Closes, IsHeader, Opens, waiting_texts};
+ghost use Rattle.bm_outbox.specs.Opening.{Closes, Fails, IsHeader, Opens, waiting_texts};
 ghost use Rattle.bm_outbox.specs.Telling.{TellsNext};
 
 use crate::ending::Ending;
@@ -11,7 +13,8 @@ use crate::item::Item;
 use crate::pipe_texts::PipeTexts;
 use crate::pipes::ExitCode;
 use crate::said::Said;
-use crate::words::{exit_line, words_line};
+use crate::start_fault::StartFault;
+use crate::words::{exit_line, fault_line, words_line};
 use bm_lines::{Letter, Text};
 use bm_work::{Sent, WorkRefusal, Worker};
 use std::alloc::{AllocError, Global};
@@ -86,6 +89,22 @@ impl Outbox {
     {
         let line = words_line(alloc, words)?;
         self.push_all(command, header_texts(alloc, line.as_str())?)
+    }
+
+    /// Tells the end of a command whose process can't be started for this reason: the line that says
+    /// why waits behind the others, and the end behind it.
+    ///
+    /// # Errors
+    ///
+    /// Want of memory. The line may wait then.
+    pub fn fail(&mut self, alloc: Global, command: u64, why: StartFault) -> Result<(), AllocError>
+        ensures { OnOk result (Fails command why self.old self.new) }
+    {
+        let said = fault_text(alloc, why)?;
+        self.push(Item::Text { command, said })?;
+        let ending = Ending::CannotStart;
+        self.push(Item::End { command, ending })?;
+        Ok(())
     }
 
     /// Tells the end of a command with this exit code, which its ended pipes gave: the line of that
@@ -213,4 +232,16 @@ fn exit_texts(alloc: Global, code: i64) -> Result<Vec<Said>, AllocError>
     let line = exit_line(alloc, code)?;
     let texts = header_texts(alloc, line.as_str())?;
     Ok(texts)
+}
+
+/// What is said of a command that can't be started for this reason.
+fn fault_text(alloc: Global, why: StartFault) -> Result<Said, AllocError>
+    ensures letter { IfOk result (λ said. said.letter ≡ H) }
+    ensures text { IfOk result (λ said. said.text ≡ fault_line why) }
+{
+    let line = fault_line(alloc, why)?;
+    Ok(Said {
+        letter: Letter::H,
+        text: Text::from_string(line),
+    })
 }

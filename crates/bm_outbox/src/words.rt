@@ -2,8 +2,10 @@
 
 ghost use Rattle.std.specs.Prelude.{◌≡◌, ◌++◌, ◌∷◌, IfOk, OnOk, string_bytes};
 ghost use Rattle.std.specs.List.{flat_map};
+ghost use Rattle.bm_outbox.specs.Faults.{fault_line};
 ghost use Rattle.bm_outbox.specs.Headers.{words_line, exit_line};
 
+use crate::start_fault::StartFault;
 use bm_lines::Text;
 use std::alloc::{AllocError, Global};
 
@@ -37,4 +39,12 @@ pub fn exit_line(alloc: Global, code: i64) -> Result<String, AllocError>
     ensures { IfOk result (λ s. string_bytes s ≡ exit_line code) }
 {
     format!(in alloc; "program finished with exit code {code}\n")
+}
+
+/// The line that says why a command can't be started.
+pub fn fault_line(alloc: Global, fault: StartFault) -> Result<String, AllocError>
+    ensures { IfOk result (λ s. string_bytes s ≡ fault_line fault) }
+{
+    let why = fault.reason();
+    format!(in alloc; "cannot start: {why}\n")
 }

@@ -8,6 +8,7 @@ use bm_outbox::*;
 use bm_value::decode_whole;
 use bm_work::Worker;
 use std::alloc::{AllocError, Global};
+use std::io;
 use std::process::Abort;
 use std::test::Fail;
 
@@ -246,8 +247,13 @@ fn speaks(alloc: Global, outbox: &mut Outbox) -> bool {
         && outbox.close(alloc, 0, exit_code(alloc, None)).is_ok()
 }
 
-fn ends_with_each(alloc: Global, worker: &mut Worker, outbox: &mut Outbox) -> bool {
-    for last in &LASTS {
+fn ends_with_each(
+    alloc: Global,
+    worker: &mut Worker,
+    outbox: &mut Outbox,
+    lasts: &[&[u8]],
+) -> bool {
+    for last in lasts {
         if !ends_with(alloc, worker, outbox, last) {
             return false;
         }
@@ -260,8 +266,65 @@ fn header_lines_stand_first_and_last(rt: HostRuntime) -> Result<(), Fail> {
     let alloc = rt.alloc();
     let mut worker = worker_of(alloc).ok_or("no command")?;
     let mut outbox = Outbox::new(alloc);
-    assert!(rt; speaks(alloc, &mut outbox) && ends_with_each(alloc, &mut worker, &mut outbox));
+    assert!(rt;
+        speaks(alloc, &mut outbox) && ends_with_each(alloc, &mut worker, &mut outbox, &LASTS)
+    );
     Ok(())
+}
+
+/// How the updates of a command end whose program is missing, in their order.
+static UNSTARTED: [&[u8]; 2] = [
+    b"\xa6header\xa7echo z\n",
+    b"\xa6header\xbbcannot start: no such file\n",
+];
+
+fn fails(alloc: Global, outbox: &mut Outbox) -> bool {
+    opens(alloc, outbox, &["echo", "z"]) && outbox.fail(alloc, 0, StartFault::NoSuchFile).is_ok()
+}
+
+/// Whether the next request is the only one of an end, by this fault.
+fn ends_by(alloc: Global, worker: &mut Worker, outbox: &mut Outbox, fault: &[u8]) -> bool {
+    match outbox.tell(alloc, worker) {
+        Ok(Told::End(requests)) => match requests.as_slice() {
+            [only] => only.bytes.as_slice().ends_with(fault),
+            _ => false,
+        },
+        _ => false,
+    }
+}
+
+#[test]
+fn missing_program_is_told_before_the_end(rt: HostRuntime) -> Result<(), Fail> {
+    let alloc = rt.alloc();
+    let mut worker = worker_of(alloc).ok_or("no command")?;
+    let mut outbox = Outbox::new(alloc);
+    assert!(rt;
+        fails(alloc, &mut outbox)
+            && ends_with_each(alloc, &mut worker, &mut outbox, &UNSTARTED)
+            && ends_by(alloc, &mut worker, &mut outbox, b"\xaccannot start")
+    );
+    Ok(())
+}
+
+/// Numbers of Linux's errors, and what is told of each.
+static ERRORS: [(i32, &str); 9] = [
+    (2, "no such file"),
+    (5, "other fault"),
+    (7, "argument list too long"),
+    (8, "exec format error"),
+    (11, "no more processes"),
+    (12, "out of memory"),
+    (13, "permission denied"),
+    (20, "not a directory"),
+    (24, "too many open files"),
+];
+
+#[test]
+fn errors_of_a_start_have_their_texts(rt: HostRuntime) {
+    for (number, want) in &ERRORS {
+        let told = StartFault::of(&io::Error::from_raw_os_error(*number)).reason();
+        assert!(rt; told == *want, "error {number}");
+    }
 }
 
 #[test]

@@ -72,7 +72,7 @@ fn a_program_that_is_not_there_is_told(rt: HostRuntime) {
     let script = |master: &mut Master| {
         master.start_program(0, "/no/such/program")?;
         master.hear_ends(1)?;
-        let is_told = master.said.as_str() == "h/no/such/program\n"
+        let is_told = master.said.as_str() == "h/no/such/program\nhcannot start: no such file\n"
             && master.codes.is_empty()
             && master.has_faults(1, "cannot start");
         if is_told { master.close() } else { None }
