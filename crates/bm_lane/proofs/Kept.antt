@@ -1,16 +1,17 @@
 -- What a book keeps of items means the book of those items.
-use Rattle.std.proofs.Common.{◌≡◌, ◌⊎◌, ◌≤◌, ℕ, List, [], ◌∷◌, fold, Option, Some, None, option_map, Result, Ok, Err, inl, inr, refl, ap, subst, ◌∙◌}
+use Rattle.std.proofs.Common.{◌≡◌, ◌⊎◌, ℕ, List, [], ◌∷◌, fold, Option, Some, None, option_map, Result, Ok, Err, refl, ap, subst, ◌∙◌}
 use Rattle.std.specs.Prelude.{MatchOption}
 use Rattle.bm_lines.specs.Names.{Name}
 use Rattle.bm_session.specs.declared.item.Item.{Item}
 use Rattle.bm_store.specs.declared.chunk.Chunk.{Chunk}
 use Rattle.bm_store.specs.declared.chunk.ViewRefusal.{ViewRefusal}
 use Rattle.bm_store.specs.declared.chunk.ViewRefusal.TheVariants.{NoLog, Mem}
+use Rattle.bm_store.specs.declared.portion.Portion.{Portion}
 use Rattle.bm_store.specs.Kept.{Kept, logs_in, kept_after}
 use Rattle.bm_store.specs.Book.{Logs, book, after_item, chunk_in, chunk_of, state_in}
-use Rattle.bm_store.specs.Pieces.{GivesEnough, LooksAtSome}
+use Rattle.bm_store.specs.Portions.{LooksAt, LooksAtPortion}
 use Rattle.bm_store.proofs.Meaning.{kept_books_mean_logs}
-use Rattle.bm_lane.specs.Answers.{Answered, AnsweredSome, lines_of_book, state_of_book}
+use Rattle.bm_lane.specs.Answers.{Answered, lines_of_book, state_of_book}
 use Rattle.bm_lane.specs.Copies.{kept_book}
 
 kept_fold : (ks : List Kept) (is : List Item) → logs_in (fold kept_after ks is) ≡ fold after_item (logs_in ks) is
@@ -29,21 +30,13 @@ pub answers : {A B : Type 0} (f : A → B) (o : Option A) (r : Result B ViewRefu
 answers f None r h = h
 answers f (Some a) r h = h
 
--- some of the asked lines as an answer
-abbrev AnsweredOf : List Logs → ℕ → Name → ℕ → ℕ → Option ℕ → Result Chunk ViewRefusal → Type 0
-AnsweredOf ls k name off lim enough r =
-    (n : ℕ) × (n ≤ lim) × Answered (option_map (chunk_of off) (chunk_in ls k name off n)) r
-    × ((option_map (chunk_of off) (chunk_in ls k name off n) ≡ option_map (chunk_of off) (chunk_in ls k name off lim)) ⊎ GivesEnough enough r)
+-- so a look at lines is answered from the book of those items
+pub lines_are_kept : (ks : List Kept) (is : List Item) (k : ℕ) (name : Name) (off lim : ℕ) (r : Result Chunk ViewRefusal) → ks ≡ kept_book is → LooksAt r off (chunk_in (logs_in ks) k name off lim)
+    → Answered (lines_of_book is k name off lim) r
+lines_are_kept ks is k name off lim r same h =
+    subst (λ (b : List Logs). Answered (option_map (chunk_of off) (chunk_in b k name off lim)) r) (ap logs_in same ∙ kept_is_book is) (answers (chunk_of off) (chunk_in (logs_in ks) k name off lim) r h)
 
-pub some_answers : (ks : List Kept) (is : List Item) (k : ℕ) (name : Name) (off lim : ℕ) (enough : Option ℕ) (r : Result Chunk ViewRefusal) → ks ≡ kept_book is → LooksAtSome (logs_in ks) k name off lim enough r
-    → AnsweredSome is k name off lim enough r
-some_answers ks is k name off lim enough r same h = subst (λ (b : List Logs). AnsweredOf b k name off lim enough r) (ap logs_in same ∙ kept_is_book is) (
-  h.0,
-  h.1,
-  answers (chunk_of off) (chunk_in (logs_in ks) k name off h.0) r h.2,
-  elim h.3 [ inl e ↦ inl (ap (option_map (chunk_of off)) e) | inr some ↦ inr some ],
-)
-
--- where no number is enough, all of them
-pub all_answered : (is : List Item) (k : ℕ) (name : Name) (off lim : ℕ) (r : Result Chunk ViewRefusal) → AnsweredSome is k name off lim None r → Answered (lines_of_book is k name off lim) r
-all_answered is k name off lim r h = elim h.3 [ inl e ↦ subst (λ (o : Option Chunk). Answered o r) e h.2 | inr some ↦ absurd (cc some.2.1) ]
+-- and so is one at a portion
+pub portion_is_kept : (ks : List Kept) (is : List Item) (k : ℕ) (name : Name) (off lim skip most : ℕ) (r : Result Portion ViewRefusal) → ks ≡ kept_book is
+    → LooksAtPortion (logs_in ks) k name off lim skip most r → LooksAtPortion (book is) k name off lim skip most r
+portion_is_kept ks is k name off lim skip most r same h = subst (λ (b : List Logs). LooksAtPortion b k name off lim skip most r) (ap logs_in same ∙ kept_is_book is) h

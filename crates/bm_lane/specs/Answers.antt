@@ -1,12 +1,11 @@
 -- What a viewer is answered.
-use Rattle.std.specs.Prelude.{◌≡◌, ◌⊎◌, ◌≤◌, ℕ, List, Option, Some, None, option_map, Result, Ok, Err}
+use Rattle.std.specs.Prelude.{◌≡◌, ◌⊎◌, ℕ, List, Option, Some, None, option_map, Result, Ok, Err}
 use Rattle.bm_lines.specs.Names.{Name}
 use Rattle.bm_session.specs.declared.item.Item.{Item}
 use Rattle.bm_store.specs.declared.chunk.Chunk.{Chunk}
 use Rattle.bm_store.specs.declared.chunk.LogState.{LogState}
 use Rattle.bm_store.specs.declared.chunk.ViewRefusal.{ViewRefusal}
 use Rattle.bm_store.specs.declared.chunk.ViewRefusal.TheVariants.{NoLog, Mem}
-use Rattle.bm_store.specs.Pieces.{GivesEnough}
 use Rattle.bm_store.specs.Book.{book, chunk_in, chunk_of, state_in}
 
 -- the asked lines of a log of the book of these items, where it is there
@@ -21,13 +20,6 @@ state_of_book seen k name = state_in (book seen) k name
 abbrev pub Answered : {A : Type 0} → Option A → Result A ViewRefusal → Type 0
 Answered (Some a) r = (r ≡ Ok a) ⊎ (r ≡ Err Mem)
 Answered None r = r ≡ Err NoLog
-
--- the first n of the asked lines: all that there are, or enough of them
-abbrev pub AnsweredSome : List Item → ℕ → Name → ℕ → ℕ → Option ℕ → Result Chunk ViewRefusal
-    → Type 0
-AnsweredSome seen k name off lim enough r =
-    (n : ℕ) × (n ≤ lim) × Answered (lines_of_book seen k name off n) r
-    × ((lines_of_book seen k name off n ≡ lines_of_book seen k name off lim) ⊎ GivesEnough enough r)
 
 -- what was asked, or that it is not there
 abbrev pub told : {A : Type 0} → Option A → Result A ViewRefusal

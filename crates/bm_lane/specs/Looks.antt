@@ -1,5 +1,5 @@
 -- What a look of a viewer gives.
-use Rattle.std.specs.Prelude.{◌≡◌, ◌⊎◌, ℕ, List, Some, Result, Err}
+use Rattle.std.specs.Prelude.{◌≡◌, ◌⊎◌, ℕ, List, Result, Err}
 use mathlib.Core.List.{IsPrefix}
 use Rattle.bm_lines.specs.Names.{Name}
 use Rattle.bm_session.specs.declared.item.Item.{Item}
@@ -7,7 +7,10 @@ use Rattle.bm_store.specs.declared.chunk.Chunk.{Chunk}
 use Rattle.bm_store.specs.declared.chunk.LogState.{LogState}
 use Rattle.bm_store.specs.declared.chunk.ViewRefusal.{ViewRefusal}
 use Rattle.bm_store.specs.declared.chunk.ViewRefusal.TheVariants.{Closed}
-use Rattle.bm_lane.specs.Answers.{Answered, AnsweredSome, told, lines_of_book, state_of_book}
+use Rattle.bm_store.specs.declared.portion.Portion.{Portion}
+use Rattle.bm_store.specs.Book.{book}
+use Rattle.bm_store.specs.Portions.{LooksAtPortion}
+use Rattle.bm_lane.specs.Answers.{Answered, told, lines_of_book, state_of_book}
 use Rattle.bm_lane.specs.Ends.{Watched}
 
 -- a viewer went from one sight to the next, which is no less, and answered what is said of that; or
@@ -24,10 +27,11 @@ abbrev pub GivesChunk : Watched → Watched → ℕ → Name → ℕ → ℕ →
 GivesChunk old new k name off lim r =
     Looks old new r (λ seen. Answered (lines_of_book seen k name off lim) r)
 
--- these lines, or as many of them from the first on as have enough bytes
-abbrev pub GivesPiece : Watched → Watched → ℕ → Name → ℕ → ℕ → ℕ → Result Chunk ViewRefusal → Type 0
-GivesPiece old new k name off lim enough r =
-    Looks old new r (λ seen. AnsweredSome seen k name off lim (Some enough) r)
+-- a portion of the text of these lines, behind its first bytes: most bytes at most
+abbrev pub GivesPortion
+    : Watched → Watched → ℕ → Name → ℕ → ℕ → ℕ → ℕ → Result Portion ViewRefusal → Type 0
+GivesPortion old new k name off lim skip most r =
+    Looks old new r (λ seen. LooksAtPortion (book seen) k name off lim skip most r)
 
 -- the state of a log
 abbrev pub GivesState : Watched → Watched → ℕ → Name → Result LogState ViewRefusal → Type 0

@@ -16,6 +16,7 @@ mod mark;
 mod pool;
 mod published;
 mod publisher;
+mod questions;
 mod reader_end;
 mod refusals;
 mod relay;

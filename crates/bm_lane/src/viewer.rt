@@ -1,13 +1,14 @@
 //! What a viewer is to its thread.
 ghost use Rattle.std.specs.Prelude.{◌≡◌, length, [], IsTrue};
 ghost use mathlib.Core.List.{IsPrefix};
-ghost use Rattle.bm_lane.specs.Looks.{GivesChunk, GivesPiece, GivesState};
+ghost use Rattle.bm_lane.specs.Looks.{GivesChunk, GivesPortion, GivesState};
 
 use crate::mark::Mark;
 use crate::publisher::Publisher;
-use crate::window::{Asked, LogOf, Window};
+use crate::questions::{LinesOf, PortionOf, StateOf};
+use crate::window::Window;
 use crate::yard::Yard;
-use bm_store::{Chunk, LogState, ViewRefusal};
+use bm_store::{Chunk, LogState, Portion, ViewRefusal};
 use std::marker::{Model, PhantomData};
 use std::sync::Wait;
 
@@ -61,39 +62,41 @@ impl<Y: Yard> Viewer<Y> {
     ) -> Result<Chunk, ViewRefusal>
         ensures { GivesChunk self.old self.new command name.now offset limit result }
     {
-        let asked = Asked {
+        let asked = LinesOf {
             command,
             name,
             offset,
             limit,
-            enough: None,
         };
-        match self.window.lines(&asked) {
+        match self.window.ask(&asked) {
             Some(answer) => answer,
             None => Err(ViewRefusal::Closed),
         }
     }
 
-    /// The same, or as many of these lines from the first on as have `enough` bytes together: no
-    /// line follows once the text has so many. So a look is no longer than that and one line.
-    pub fn piece(
+    /// A portion of the text of these lines, behind its first `skip` bytes: `most` bytes at most,
+    /// so it may end inside of a line.
+    ///
+    /// The answers `NoLog`, `Mem` and `Closed` are as those of [`chunk`](Viewer::chunk). `Mem` is
+    /// answered also where the first `skip` bytes end inside of a character.
+    pub fn portion(
         &mut self,
         command: u64,
         name: &str,
         offset: u64,
         limit: u64,
-        enough: usize,
-    ) -> Result<Chunk, ViewRefusal>
-        ensures { GivesPiece self.old self.new command name.now offset limit enough result }
+        skip: usize,
+        most: usize,
+    ) -> Result<Portion, ViewRefusal>
+        ensures { GivesPortion self.old self.new command name.now offset limit skip most result }
     {
-        let asked = Asked {
+        let lines = LinesOf {
             command,
             name,
             offset,
             limit,
-            enough: Some(enough),
         };
-        let answer = self.window.lines(&asked);
+        let answer = self.window.ask(&PortionOf { lines, skip, most });
         match answer {
             Some(answer) => answer,
             None => Err(ViewRefusal::Closed),
@@ -108,7 +111,7 @@ impl<Y: Yard> Viewer<Y> {
     pub fn state(&mut self, command: u64, name: &str) -> Result<LogState, ViewRefusal>
         ensures { GivesState self.old self.new command name.now result }
     {
-        match self.window.state(&LogOf { command, name }) {
+        match self.window.ask(&StateOf { command, name }) {
             Some(answer) => answer,
             None => Err(ViewRefusal::Closed),
         }

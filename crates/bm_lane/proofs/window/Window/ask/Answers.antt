@@ -2,10 +2,10 @@ use Rattle.std.proofs.Common.{List, ap, ◌∙◌, subst}
 use mathlib.Core.List.{IsPrefix}
 use Rattle.bm_session.specs.declared.item.Item.{Item}
 use Rattle.bm_lane.specs.Windows.{Looked}
-use Rattle.bm_lane.proofs.window.Window.state.Goals as goal
+use Rattle.bm_lane.proofs.window.Window.ask.Goals as goal
 
 pub returns : goal.returns
-returns c =
+returns g c =
     let b = c.in_ok-front.ensures in
     let more = b.2 c.self.inside.front c.self.invariant.0 in (
       more.0 ∙ ap (λ (w : Looked). w.history) c.self.view_is,
