@@ -2,7 +2,7 @@
 
 ghost use Rattle.std.specs.Prelude.{◌≡◌, ◌<◌, length, map, IfOk, IfSome, OnOk};
 ghost use Rattle.bm_outbox.specs.Opening.{Starts};
-ghost use Rattle.bm_crew.specs.Turns.{ready_of, turn_of};
+ghost use Rattle.bm_crew.specs.Turns.{ready_of, turn_of, IsReady, TellsAt, TellsTurn};
 
 use crate::host::Host;
 use crate::job::Job;
@@ -212,13 +212,17 @@ impl Crew {
     /// Puts what is told next into the outbox, by how the processes stood when they were looked at:
     /// the end of a command, or else, where texts may be said or no other command runs, one of the
     /// command whose turn it is.
+    #[tactic(auto, using(crate::proofs::Turned::turn_is_ready))]
     pub fn next<R: Wait>(
         &mut self,
         rt: &R,
         alloc: Global,
         may_say: bool,
         outbox: &mut Outbox,
-    ) -> Result<(), AllocError> {
+    ) -> Result<(), AllocError>
+        ensures { OnOk result (TellsTurn (turn_of may_say self.old.jobs.items)
+            self.old.jobs.items self.new.jobs.items outbox.old outbox.new) }
+    {
         match whose_turn(alloc, self.jobs.as_slice(), may_say)? {
             Some(at) => self.turn(rt, alloc, at, outbox),
             None => Ok(()),
@@ -245,15 +249,18 @@ impl Crew {
         at: usize,
         outbox: &mut Outbox,
     ) -> Result<(), AllocError>
-        requires { at < length self.old.jobs.items }
+        requires within { at < length self.old.jobs.items }
+        requires ready { IsReady at self.old.jobs.items }
+        ensures { OnOk result (TellsAt at self.old.jobs.items self.new.jobs.items
+            outbox.old outbox.new) }
     {
         let mut job = self.jobs.remove(at);
         let command = job.command;
         let Some(said) = job.texts.pop_front() else {
-            return match job.code.take() {
-                Some(code) => outbox.close(alloc, command, code),
-                None => self.kill(job),
+            let Some(code) = job.code.take() else {
+                unreachable!()
             };
+            return outbox.close(alloc, command, code);
         };
         // It fails where both pipes have ended, and then nobody asks for it.
         let _ = job.permits.send(rt, ());
