@@ -1,28 +1,23 @@
 -- Lines of a log that are told piece by piece.
-use Rattle.std.proofs.Common.{◌≡◌, ◌≤◌, ◌<◌, ◌+◌, ◌-◌, ◌^◌, ◌⊎◌, ℕ, zero, suc, Bool, true, false, cond, List, [], ◌∷◌, ◌++◌, length, take, drop, map, fold, Option, Some, None, option_map, Ok, Err, refl, sym, subst, ap, ◌∙◌, arith, append_assoc, length-append, length-take, length-drop, inl, inr, codes}
-use Rattle.std.specs.Prelude.{◌==◌, is_none, min, option_and_then, slice_get, decimal, Result}
-use Rattle.std.proofs.lemmas.List.{append-nil, take-append-le, drop-append-le, drop-drop, take_all}
+use Rattle.std.proofs.Common.{◌≡◌, ◌≤◌, ◌+◌, ◌-◌, ◌^◌, ◌⊎◌, ℕ, zero, suc, Bool, true, false, cond, List, [], ◌∷◌, ◌++◌, length, take, drop, Option, Some, None, option_map, Ok, Err, refl, sym, subst, ap, ◌∙◌, arith, append_assoc, length-drop, inl, inr}
+use Rattle.std.specs.Prelude.{min, option_and_then, slice_get, Result, IsTrue, MatchOption}
+use Rattle.std.proofs.lemmas.List.{take-append-le, drop-append-le, take_all}
 use Rattle.std.proofs.lemmas.List.Concat.{flat_map-append}
-use Rattle.std.proofs.lemmas.List.Sums.{fold-append}
 use mathlib.Core.List.{IsPrefix}
-use Rattle.json.specs.Print.{escape, escape_byte, quoted}
-use Rattle.bm_lines.specs.Lines.{Line, content_of, letter_code}
+use Rattle.json.specs.Print.{escape, escape_byte}
+use Rattle.bm_lines.specs.Lines.{Line, content_of}
 use Rattle.bm_lines.specs.Names.{Name}
-use Rattle.bm_lines.specs.Parcels.{blocks_under}
-use Rattle.bm_lines.specs.declared.parcel.Part.{Part}
 use Rattle.bm_session.specs.declared.item.Item.{Item}
-use Rattle.bm_session.specs.declared.item.Item.TheVariants.{Open, Lines, End, Gone}
-use Rattle.bm_session.specs.declared.results.Results.{Results}
-use Rattle.bm_session.specs.declared.results.Results.TheVariants.{Retry}
 use Rattle.bm_session.specs.Trace.{joined, slice}
 use Rattle.bm_store.specs.declared.chunk.Chunk.{Chunk}
 use Rattle.bm_store.specs.declared.chunk.LogState.{LogState}
-use Rattle.bm_store.specs.Book.{Logs, book, blocks_in, blocks_of_log, is_there, state_log, chunk_log, chunk_of}
+use Rattle.bm_store.specs.Book.{Logs, book, blocks_in, blocks_of_log, is_there, state_log, lines_log, chunk_log, chunk_of}
+use Rattle.bm_store.specs.Portions.{IsPortion, LooksAtPortion}
+use Rattle.bm_store.specs.declared.portion.Portion.{Portion}
 use Rattle.bm_store.proofs.Growing.{logs_grow}
 use Rattle.bm_store.specs.declared.chunk.ViewRefusal.{ViewRefusal}
-use Rattle.bm_store.specs.declared.chunk.ViewRefusal.TheVariants.{NoLog}
-use Rattle.bm_lane.specs.Answers.{Answered, AnsweredSome, told, lines_of_book, state_of_book}
-use Rattle.bm_http.specs.Bodies.{contents_text}
+use Rattle.bm_store.specs.declared.chunk.ViewRefusal.TheVariants.{NoLog, Mem}
+use Rattle.bm_lane.specs.Answers.{Answered, told, lines_of_book, state_of_book}
 use Rattle.bm_http.specs.LongAnswers.{log_in, escaped, held, left_text}
 
 -- Logs grow
@@ -49,114 +44,95 @@ pub lines-stay : (seen more : List Item) (k : ℕ) (name : Name) (at n : ℕ) �
     → slice (log_in more k name) at n ≡ slice (log_in seen k name) at n
 lines-stay seen more k name at n p le = slice-same (log_in seen k name) (log_in more k name) at n (log-grows seen more k name p) le
 
-take-parts : {A : Type 0} (n k m : ℕ) (xs : List A) → m ≡ n + k → take m xs ≡ take n xs ++ take k (drop n xs)
-take-parts zero k m xs e = ap (λ i. take i xs) (let s : m ≡ k = omega arith in s)
-take-parts (suc n) k zero xs e = absurd (omega arith)
-take-parts (suc n) k (suc m) [] e = sym (take_all k [] (omega arith))
-take-parts (suc n) k (suc m) (x ∷ xs) e = ap (λ l. x ∷ l) (take-parts n k m xs (omega arith))
-
-slice-parts : (xs : List Line) (at n end : ℕ) → at + n ≤ end → slice xs at (end - at) ≡ slice xs at n ++ slice xs (at + n) (end - (at + n))
-slice-parts xs at n end le =
-    let amount : end - at ≡ n + (end - (at + n)) = omega arith in
-    take-parts n (end - (at + n)) (end - at) (drop at xs) amount ∙ ap (λ l. slice xs at n ++ take (end - (at + n)) l) (drop-drop n at xs)
-
--- the escapes of a text are those of its parts
-pub escaped-parts : (xs ys : List Line) → escaped (xs ++ ys) ≡ escaped xs ++ escaped ys
-escaped-parts xs ys =
-    ap escape (flat_map-append (λ (l : Line). letter_code l.letter ∷ (l.text ++ 10 ∷ [])) xs ys)
-    ∙ flat_map-append escape_byte (content_of xs) (content_of ys)
-
 -- What is left
 
--- the text before the lines is told
-pub left-front : (b : List ℕ) (xs : List Line) (at end : ℕ) (back : Option (List ℕ)) → left_text (Some b) xs at end back ≡ b ++ left_text None xs at end back
-left-front b xs at end back = refl
-
--- some lines are told
-pub left-lines : (xs : List Line) (at n end : ℕ) (back : Option (List ℕ)) → at + n ≤ end → left_text None xs at end back ≡ escaped (slice xs at n) ++ left_text None xs (at + n) end back
-left-lines xs at n end back le =
-    ap (λ t. t ++ held back) (ap escaped (slice-parts xs at n end le) ∙ escaped-parts (slice xs at n) (slice xs (at + n) (end - (at + n))))
-    ∙ append_assoc (escaped (slice xs at n)) (escaped (slice xs (at + n) (end - (at + n)))) (held back)
-
-no-lines : (xs : List Line) (at end : ℕ) → end ≤ at → escaped (slice xs at (end - at)) ≡ []
-no-lines xs at end le = let none : end - at ≡ 0 = omega arith in ap (λ n. escaped (slice xs at n)) none
-
--- all lines were told: the rest is told
-pub left-back : (b : List ℕ) (xs : List Line) (at end : ℕ) → end ≤ at → left_text None xs at end (Some b) ≡ b ++ left_text None xs at end None
-left-back b xs at end le =
-    ap (λ t. t ++ b) (no-lines xs at end le) ∙ sym (ap (λ t. b ++ (t ++ [])) (no-lines xs at end le) ∙ append-nil b)
-
--- and nothing is left
-pub left-none : (xs : List Line) (at end : ℕ) → end ≤ at → left_text None xs at end None ≡ []
-left-none xs at end le = ap (λ t. t ++ []) (no-lines xs at end le)
-
-regroup : (e q a d b i c : List ℕ) → e ++ q ++ a ++ d ++ b ++ i ++ c ≡ e ++ (q ++ a ++ d ++ b ++ i ++ c)
-regroup e q a d b i c = simp append_assoc
-
--- the body for lines has their escapes behind its first 26 bytes, and else is the body for no lines
-pub contents-parts : (id first : ℕ) (c : List ℕ) → contents_text id first c ≡ take 26 (contents_text id first []) ++ (escape c ++ drop 26 (contents_text id first []))
-contents-parts id first c =
-    ap (λ t. take 26 (contents_text id first []) ++ t)
-    (regroup (escape c) (34 ∷ []) (codes ",\"firstline\":") (decimal first) (codes ",\"logid\":") (decimal id) (codes "}],\"meta\":{}}"))
-
-pub contents-long : (id first : ℕ) → 26 ≤ length (contents_text id first [])
-contents-long id first = search arith
+-- a portion of the text of the lines is told: the escapes of a text are those of its parts
+pub left-portion : (xs : List Line) (at n end skip next : ℕ) (text : List ℕ) (back : Option (List ℕ))
+    → drop skip (content_of (slice xs at (end - at))) ≡ text ++ drop next (content_of (slice xs (at + n) (end - at - n)))
+    → left_text None xs at end skip back ≡ escape text ++ left_text None xs (at + n) end next back
+left-portion xs at n end skip next text back parts =
+    let rest : List ℕ = drop next (content_of (slice xs (at + n) (end - at - n))) in
+    let amount : end - at - n ≡ end - (at + n) = omega arith in
+    ap (λ t. escape t ++ held back) parts
+    ∙ ap (λ t. t ++ held back) (flat_map-append escape_byte text rest)
+    ∙ append_assoc (escape text) (escape rest) (held back)
+    ∙ ap (λ m. escape text ++ (escaped next (slice xs (at + n) m) ++ held back)) amount
 
 -- What a look says
 
--- a look that gave lines gave those of the log
-pub lines-told : (seen : List Item) (k : ℕ) (name : Name) (at n : ℕ) (chunk : Chunk) → Answered (lines_of_book seen k name at n) (Ok chunk) → chunk ≡ chunk_of at (slice (log_in seen k name) at n)
-lines-told seen k name at n chunk = go (slice_get (book seen) k)
+abbrev no_chunk : ViewRefusal → Result Chunk ViewRefusal
+no_chunk e = Err e
+
+abbrev pub a_chunk : ℕ → ℕ → List ℕ → Result Chunk ViewRefusal
+a_chunk off n text = Ok (record { first_line = off; lines = n; content = text })
+
+-- what is answered of a look at a portion of lines that are there or not
+abbrev Tells : (off lim skip most : ℕ) → Result Portion ViewRefusal → Option (List Line) → Type 0
+Tells off lim skip most r o = MatchOption o (r ≡ Err NoLog) (λ lines. (r ≡ Err Mem) ⊎ ((p : Portion) × (r ≡ Ok p) × IsPortion lines off lim skip most p))
+
+-- a look that gave a portion gave one of the log
+pub portion-given : (seen : List Item) (k : ℕ) (name : Name) (off lim skip most : ℕ) (p : Portion) → LooksAtPortion (book seen) k name off lim skip most (Ok p)
+    → IsPortion (log_in seen k name) off lim skip most p
+portion-given seen k name off lim skip most p = go (slice_get (book seen) k)
   where
-    known : (l : Logs) (b : Bool) → Answered (option_map (chunk_of at) (cond b (Some (slice (joined (l.blocks name)) at n)) None)) (Ok chunk) → chunk ≡ chunk_of at (slice (joined (l.blocks name)) at n)
-    known l true (inl h) = cc h
-    known l true (inr h) = absurd (cc h)
+    known : (l : Logs) (b : Bool) → Tells off lim skip most (Ok p) (cond b (Some (joined (l.blocks name))) None) → IsPortion (joined (l.blocks name)) off lim skip most p
+    known l true (inl h) = absurd (cc h)
+    known l true (inr h) = let same : h.0 ≡ p = cc h.1 in subst (λ q. IsPortion (joined (l.blocks name)) off lim skip most q) same h.2
     known l false h = absurd (cc h)
 
-    go : (o : Option Logs) → Answered (option_map (chunk_of at) (option_and_then (chunk_log name at n) o)) (Ok chunk) → chunk ≡ chunk_of at (slice (joined (blocks_of_log name o)) at n)
+    go : (o : Option Logs) → Tells off lim skip most (Ok p) (option_and_then (lines_log name) o) → IsPortion (joined (blocks_of_log name o)) off lim skip most p
     go None h = absurd (cc h)
     go (Some l) h = known l (is_there name l) h
 
--- of lines that are all there
-slice-counted : (xs : List Line) (at n : ℕ) → at + n ≤ length xs → length (slice xs at n) ≡ n
-slice-counted xs at n le =
-    let size : length (slice xs at n) ≡ min n (length (drop at xs)) = length-take n (drop at xs) in
-    let more : length (drop at xs) ≡ length xs - at = length-drop at xs in
-    omega arith
+-- a portion of a later log is one of the log as it stood, where its lines were there
+pub portion-stays : (seen more : List Item) (k : ℕ) (name : Name) (at count skip most : ℕ) (p : Portion) → IsPrefix seen more → at + count ≤ length (log_in seen k name)
+    → IsPortion (log_in more k name) at count skip most p → IsPortion (log_in seen k name) at count skip most p
+portion-stays seen more k name at count skip most p le there h =
+    let few : p.lines ≤ count = h.few in
+    let whole : slice (log_in more k name) at count ≡ slice (log_in seen k name) at count = lines-stay seen more k name at count le there in
+    let rest : slice (log_in more k name) (at + p.lines) (count - p.lines) ≡ slice (log_in seen k name) (at + p.lines) (count - p.lines) =
+    lines-stay seen more k name (at + p.lines) (count - p.lines) le (omega arith) in
+    record {
+      few = h.few;
+      short = h.short;
+      parts = ap (λ l. drop skip (content_of l)) (sym whole) ∙ h.parts ∙ ap (λ l. p.content ++ drop p.skip (content_of l)) rest;
+      last = λ t. ((h.last t).0 ∙ ap (λ l. drop skip (content_of l)) whole, (h.last t).1 ∙ ap (λ (l : List Line). length l) whole);
+    }
 
--- a later look that gave some of the lines that were there gave these
-pub piece-told : (seen more : List Item) (k : ℕ) (name : Name) (at count enough : ℕ) (chunk : Chunk) → IsPrefix seen more → at + count ≤ length (log_in seen k name)
-    → AnsweredSome more k name at count (Some enough) (Ok chunk) → (chunk.lines ≤ count) × (chunk.content ≡ content_of (slice (log_in seen k name) at chunk.lines))
-piece-told seen more k name at count enough chunk p le h =
-    let n : ℕ = h.0 in
-    let few : n ≤ count = h.1 in
-    let there : at + n ≤ length (log_in seen k name) = omega arith in
-    let same : slice (log_in more k name) at n ≡ slice (log_in seen k name) at n = lines-stay seen more k name at n p there in
-    let is : chunk ≡ chunk_of at (slice (log_in seen k name) at n) = lines-told more k name at n chunk h.2 ∙ ap (chunk_of at) same in
-    let counted : chunk.lines ≡ n = ap (λ (d : Chunk). d.lines) is ∙ slice-counted (log_in seen k name) at n there in (
-      omega arith,
-      ap (λ (d : Chunk). d.content) is ∙ ap (λ m. content_of (slice (log_in seen k name) at m)) (sym counted),
-    )
+-- a look that gave the last portion gave all that was asked
+pub portion-whole : (seen : List Item) (k : ℕ) (name : Name) (off lim most : ℕ) (p : Portion) → IsTrue p.is_last → LooksAtPortion (book seen) k name off lim 0 most (Ok p)
+    → Answered (lines_of_book seen k name off lim) (a_chunk off p.lines p.content)
+portion-whole seen k name off lim most p is_last = go (slice_get (book seen) k)
+  where
+    all : (ls : List Line) → IsPortion ls off lim 0 most p → a_chunk off p.lines p.content ≡ Ok (chunk_of off (slice ls off lim))
+    all ls h = ap (λ (t : List ℕ). a_chunk off p.lines t) (h.last is_last).0 ∙ ap (λ (n : ℕ). a_chunk off n (content_of (slice ls off lim))) (h.last is_last).1
 
--- a look that gave less text than would be enough gave all that was asked
-pub piece-whole : (seen : List Item) (k : ℕ) (name : Name) (at lim enough : ℕ) (chunk : Chunk) → length chunk.content < enough → AnsweredSome seen k name at lim (Some enough) (Ok chunk)
-    → Answered (lines_of_book seen k name at lim) (Ok chunk)
-piece-whole seen k name at lim enough chunk less h = elim h.3 [
-  | inl same ↦ subst (λ (o : Option Chunk). Answered o (Ok chunk)) same h.2
-  | inr some ↦
-      let c : some.0 ≡ chunk = cc some.1 in
-      let bytes : enough ≡ some.2.0 = cc some.2.1 in
-      let long : some.2.0 ≤ length some.0.content = some.2.2 in
-      let size : length some.0.content ≡ length chunk.content = ap (λ (d : Chunk). length d.content) c in
-      absurd (omega arith)
-]
+    known : (l : Logs) (b : Bool) → Tells off lim 0 most (Ok p) (cond b (Some (joined (l.blocks name))) None)
+        → Answered (option_map (chunk_of off) (cond b (Some (slice (joined (l.blocks name)) off lim)) None)) (a_chunk off p.lines p.content)
+    known l true (inl h) = absurd (cc h)
+    known l true (inr h) = let same : h.0 ≡ p = cc h.1 in inl (all (joined (l.blocks name)) (subst (λ q. IsPortion (joined (l.blocks name)) off lim 0 most q) same h.2))
+    known l false h = absurd (cc h)
 
--- and so did one that was refused
-pub piece-refused : (seen : List Item) (k : ℕ) (name : Name) (at lim enough : ℕ) (e : ViewRefusal) → AnsweredSome seen k name at lim (Some enough) (Err e) → Answered (lines_of_book seen k name at lim) (Err e)
-piece-refused seen k name at lim enough e h = elim h.3 [
-  | inl same ↦ subst (λ (o : Option Chunk). Answered o (Err e)) same h.2
-  | inr some ↦ absurd (cc some.1)
-]
+    go : (o : Option Logs) → Tells off lim 0 most (Ok p) (option_and_then (lines_log name) o)
+        → Answered (option_map (chunk_of off) (option_and_then (chunk_log name off lim) o)) (a_chunk off p.lines p.content)
+    go None h = absurd (cc h)
+    go (Some l) h = known l (is_there name l) h
+
+-- and one that was refused says why the lines are
+pub portion-refused : (seen : List Item) (k : ℕ) (name : Name) (off lim skip most : ℕ) (e : ViewRefusal) → LooksAtPortion (book seen) k name off lim skip most (Err e)
+    → Answered (lines_of_book seen k name off lim) (Err e)
+portion-refused seen k name off lim skip most e = go (slice_get (book seen) k)
+  where
+    known : (l : Logs) (b : Bool) → Tells off lim skip most (Err e) (cond b (Some (joined (l.blocks name))) None)
+        → Answered (option_map (chunk_of off) (cond b (Some (slice (joined (l.blocks name)) off lim)) None)) (Err e)
+    known l true (inl h) = let same : e ≡ Mem = cc h in inr (ap (λ (d : ViewRefusal). no_chunk d) same)
+    known l true (inr h) = absurd (cc h.1)
+    known l false h = let same : e ≡ NoLog = cc h in ap (λ (d : ViewRefusal). no_chunk d) same
+
+    go : (o : Option Logs) → Tells off lim skip most (Err e) (option_and_then (lines_log name) o)
+        → Answered (option_map (chunk_of off) (option_and_then (chunk_log name off lim) o)) (Err e)
+    go None h = let same : e ≡ NoLog = cc h in ap (λ (d : ViewRefusal). no_chunk d) same
+    go (Some l) h = known l (is_there name l) h
 
 abbrev Known : ℕ → Name → ℕ → ℕ → Option Logs → LogState → Type 0
 Known k name off lim o s =
@@ -191,9 +167,6 @@ slice-bounded xs off lim n total t e = bounded (drop off xs) lim n (omega (arith
 
 abbrev no_state : ViewRefusal → Result LogState ViewRefusal
 no_state e = Err e
-
-abbrev no_chunk : ViewRefusal → Result Chunk ViewRefusal
-no_chunk e = Err e
 
 abbrev a_state : LogState → Result LogState ViewRefusal
 a_state s = Ok s

@@ -1,8 +1,7 @@
 -- What one viewer of so many shows of what is asked for, at one look.
-use Rattle.std.specs.Prelude.{◌≡◌, ◌⊎◌, ℕ, ◌/◌, ◌%◌, List, Result, Err}
+use Rattle.std.specs.Prelude.{◌≡◌, ◌⊎◌, ℕ, ◌/◌, ◌%◌, Result, Err}
 use mathlib.Core.List.{IsPrefix}
 use Rattle.bm_lines.specs.Names.{Name}
-use Rattle.bm_session.specs.declared.item.Item.{Item}
 use Rattle.bm_store.specs.declared.chunk.Chunk.{Chunk}
 use Rattle.bm_store.specs.declared.chunk.LogState.{LogState}
 use Rattle.bm_store.specs.declared.chunk.ViewRefusal.{ViewRefusal}

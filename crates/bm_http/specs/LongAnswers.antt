@@ -1,5 +1,5 @@
 -- Answers that are told piece by piece.
-use Rattle.std.specs.Prelude.{ℕ, ◌-◌, List, [], ◌++◌, Option, Some, None}
+use Rattle.std.specs.Prelude.{ℕ, ◌-◌, List, [], ◌++◌, drop, Option, Some, None}
 use Rattle.json.specs.Print.{escape}
 use Rattle.bm_lines.specs.Names.{Name}
 use Rattle.bm_lines.specs.Lines.{Line, content_of}
@@ -11,16 +11,16 @@ use Rattle.bm_store.specs.Book.{book, blocks_in}
 abbrev pub log_in : List Item → ℕ → Name → List Line
 log_in seen k name = joined (blocks_in (book seen) k name)
 
--- lines as they stand inside a string of JSON
-abbrev pub escaped : List Line → List ℕ
-escaped lines = escape (content_of lines)
+-- lines behind so many bytes of their text, as they stand inside a string of JSON
+abbrev pub escaped : ℕ → List Line → List ℕ
+escaped skip lines = escape (drop skip (content_of lines))
 
 abbrev pub held : Option (List ℕ) → List ℕ
 held None = []
 held (Some text) = text
 
--- what is left to tell: what stands before the lines, the lines from one place up to another, and
--- what stands behind them
-abbrev pub left_text : Option (List ℕ) → List Line → ℕ → ℕ → Option (List ℕ) → List ℕ
-left_text front lines at end back =
-    held front ++ (escaped (slice lines at (end - at)) ++ held back)
+-- what is left to tell: what stands before the lines, the lines from one place up to another behind
+-- so many bytes of their text, and what stands behind them
+abbrev pub left_text : Option (List ℕ) → List Line → ℕ → ℕ → ℕ → Option (List ℕ) → List ℕ
+left_text front lines at end skip back =
+    held front ++ (escaped skip (slice lines at (end - at)) ++ held back)

@@ -5,10 +5,11 @@ ghost use Rattle.bm_http.specs.FirstLooks.{GoesOn, ShowsLines, Tells, shown_by};
 ghost use Rattle.bm_http.specs.Replies.{chunk_reply};
 ghost use Rattle.bm_http.specs.Shown.{asked_by};
 
-use crate::long_answer::{ENOUGH, LongAnswer};
+use crate::long_answer::{LongAnswer, MOST_BYTES};
 use crate::request::{Request, Span};
 use crate::sight::{Sight, state_by};
 use bm_lane::{Viewer, Yard};
+use bm_store::Chunk;
 use std::alloc::{AllocError, Global};
 use std::borrow::CowStr;
 
@@ -49,8 +50,8 @@ fn long_by<'t, Y: Yard>(
     Ok(FirstLook::Long(answer))
 }
 
-// A look of one viewer at lines of a command's log: all of them, where they are no longer than a
-// piece.
+// A look of one viewer at lines of a command's log: all of them, where one piece has room for
+// their text.
 fn lines_by<'t, Y: Yard>(
     alloc: Global,
     viewer: &mut Viewer<Y>,
@@ -64,13 +65,25 @@ fn lines_by<'t, Y: Yard>(
         × ShowsLines viewer.new command (cow_str_bytes name.entry) span.offset span.limit r
         × (shown_by g ≡ chunk_reply id r)) }
 {
-    match viewer.piece(command, name.as_str(), span.offset, span.limit, ENOUGH) {
+    match viewer.portion(
+        command,
+        name.as_str(),
+        span.offset,
+        span.limit,
+        0,
+        MOST_BYTES,
+    ) {
         Err(refused) => Ok(FirstLook::Whole(Sight::Lines(id, Err(refused)))),
-        Ok(chunk) => {
-            if chunk.content.as_str().len() < ENOUGH {
-                return Ok(FirstLook::Whole(Sight::Lines(id, Ok(chunk))));
+        Ok(portion) => {
+            if !portion.is_last {
+                return long_by(alloc, viewer, command, id, name, span);
             }
-            long_by(alloc, viewer, command, id, name, span)
+            let chunk = Chunk {
+                first_line: span.offset,
+                lines: portion.lines,
+                content: portion.content,
+            };
+            Ok(FirstLook::Whole(Sight::Lines(id, Ok(chunk))))
         }
     }
 }

@@ -1,17 +1,18 @@
 //! Lines of a log that are told piece by piece, as the log stood at one look.
-ghost use Rattle.std.specs.Prelude.{◌≡◌, ◌+◌, ◌^◌, ◌<◌, ◌≤◌, ◌++◌, [], length, IfOk, MatchOption, string_bytes};
+ghost use Rattle.std.specs.Prelude.{◌≡◌, ◌+◌, ◌^◌, ◌<◌, ◌≤◌, ◌++◌, [], length, IfOk, IfSome, MatchOption, string_bytes};
 ghost use mathlib.Core.List.{IsPrefix};
 ghost use Rattle.json.specs.Print.{escape};
 ghost use Rattle.bm_lines.specs.Lines.{content_of};
 ghost use Rattle.bm_session.specs.Trace.{slice};
+ghost use Rattle.bm_store.specs.Portions.{IsPortion};
 ghost use Rattle.bm_http.specs.Bodies.{contents_text};
 ghost use Rattle.bm_http.specs.LongAnswers.{log_in};
-ghost use Rattle.bm_http.specs.Pieces.{piece_text};
+ghost use Rattle.bm_http.specs.Pieces.{IsBounded, piece_text};
 
 use crate::bodies;
 use bm_lane::{Mark, Viewer, Yard};
 use bm_lines::Text;
-use bm_store::Chunk;
+use bm_store::Portion;
 use bytes::Bytes;
 use serde_json::Value;
 use std::alloc::{AllocError, Global};
@@ -21,8 +22,8 @@ use thiserror::Error;
 /// How long the text before the lines is.
 const FRONT: usize = 26;
 
-/// How many bytes of lines are enough for a piece.
-pub(crate) const ENOUGH: usize = 65_536;
+/// How many bytes of the lines' text a piece has at most.
+pub(crate) const MOST_BYTES: usize = 65_536;
 
 /// Why a piece can't be had.
 #[derive(Clone, Copy, Debug, Error)]
@@ -45,6 +46,8 @@ pub struct LongAnswer<Y: Yard> {
     front: Option<Bytes>,
     at: u64,
     end: u64,
+    // How many bytes of the text of the lines from `at` on were told.
+    skip: usize,
     back: Option<Bytes>,
 }
 
@@ -55,7 +58,7 @@ impl<Y: Yard> Model for LongAnswer<Y> {
     ghost Value = { List ℕ };
 
     ghost view = { λ s. left_text s.front (log_in s.mark.seen s.command (string_bytes s.name)) s.at
-        s.end s.back };
+        s.end s.skip s.back };
 
     ghost invariant = { λ s. (s.at ≤ s.end)
         × (s.end ≤ length (log_in s.mark.seen s.command (string_bytes s.name))) };
@@ -95,27 +98,33 @@ fn inside(alloc: Global, text: Text) -> Result<Bytes, AllocError>
     quoted.slice(1..quoted.len() - 1)
 }
 
-/// Lines of a log as it stood at a mark, by a look of now: as many as make a piece.
-fn lines_at<Y: Yard>(
+/// A portion of the text of lines of a log as it stood at a mark, by a look of now.
+fn portion_at<Y: Yard>(
     viewer: &mut Viewer<Y>,
     mark: &Mark<Y>,
     command: u64,
     name: &str,
     at: u64,
     count: u64,
-) -> Result<Chunk, PieceError>
+    skip: usize,
+) -> Result<Portion, PieceError>
     requires { at + count ≤ length (log_in mark.now.seen command name.now) }
     ensures seen { (viewer.new.lane ≡ viewer.old.lane) × IsPrefix viewer.old.seen viewer.new.seen }
-    ensures lines { IfOk result (λ c. (c.lines ≤ count)
-        × (c.content ≡ content_of (slice (log_in mark.now.seen command name.now) at c.lines))) }
+    ensures some { IfOk result (λ p. 0 < length p.content) }
+    ensures portion { IfOk result (λ p.
+        IsPortion (log_in mark.now.seen command name.now) at count skip MOST_BYTES p) }
 {
-    let Ok(chunk) = viewer.piece(command, name, at, count, ENOUGH) else {
+    let Ok(portion) = viewer.portion(command, name, at, count, skip, MOST_BYTES) else {
         return Err(PieceError::View);
     };
+    // A frame without a byte would end the body.
+    if portion.content.as_str().is_empty() {
+        return Err(PieceError::View);
+    }
     if !viewer.has_seen(mark) {
         return Err(PieceError::View);
     }
-    Ok(chunk)
+    Ok(portion)
 }
 
 impl<Y: Yard> LongAnswer<Y> {
@@ -144,6 +153,7 @@ impl<Y: Yard> LongAnswer<Y> {
             front: Some(front),
             at: first,
             end: first + count,
+            skip: 0,
             back: Some(back),
         })
     }
@@ -160,25 +170,28 @@ impl<Y: Yard> LongAnswer<Y> {
             × IsPrefix viewer.old.seen viewer.new.seen }
         ensures piece { MatchOption result (self.old ≡ [])
             (λ r. IfOk r (λ p. self.old ≡ piece_text p ++ self.new)) }
+        ensures bounded { IfSome result (λ r. IfOk r IsBounded) }
     {
         if let Some(front) = self.front.take() {
             return Some(Ok(Piece::Ready(front)));
         }
         if self.at < self.end {
-            let lines = lines_at(
+            let told = portion_at(
                 viewer,
                 &self.mark,
                 self.command,
                 self.name.as_str(),
                 self.at,
                 self.end - self.at,
+                self.skip,
             );
-            let chunk = match lines {
-                Ok(chunk) => chunk,
+            let portion = match told {
+                Ok(portion) => portion,
                 Err(error) => return Some(Err(error)),
             };
-            self.at += chunk.lines;
-            return Some(Ok(Piece::Raw(chunk.content)));
+            self.at += portion.lines;
+            self.skip = portion.skip;
+            return Some(Ok(Piece::Raw(portion.content)));
         }
         match self.back.take() {
             Some(back) => Some(Ok(Piece::Ready(back))),

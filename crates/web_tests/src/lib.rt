@@ -11,6 +11,8 @@ mod lanes;
 #[cfg(test)]
 mod memory;
 #[cfg(test)]
+mod pieces;
+#[cfg(test)]
 mod rows;
 #[cfg(test)]
 mod visits;

@@ -1,13 +1,12 @@
-use Rattle.std.proofs.Common.{rules, arith, ap, sym, subst, refl, ◌∙◌, ◌≡◌, ◌<◌, ◌-◌, ◌^◌, ℕ, List, Option, Some, Ok, Err, inl, inr}
-use Rattle.std.specs.Prelude.{min, string_bytes, length}
+use Rattle.std.proofs.Common.{arith, ap, sym, subst, refl, ◌∙◌, ◌≡◌, ◌-◌, List, Option, Some, Ok, Err, inl, inr}
+use Rattle.std.specs.Prelude.{min, length}
 use Rattle.std.specs.Cow.{cow_str_bytes}
 use Rattle.bm_lines.specs.Names.{Name}
 use Rattle.bm_lines.specs.Lines.{Line, content_of}
 use Rattle.bm_session.specs.Trace.{slice}
 use Rattle.bm_store.specs.Book.{chunk_of}
 use Rattle.bm_store.specs.declared.chunk.Chunk.{Chunk}
-use Rattle.bm_store.specs.declared.chunk.ViewRefusal.TheVariants.{Closed, Mem}
-use Rattle.bm_lane.specs.Answers.{Answered, told, state_of_book}
+use Rattle.bm_lane.specs.Answers.{Answered, state_of_book}
 use Rattle.bm_http.specs.Bodies.{contents_text}
 use Rattle.bm_http.specs.Replies.{page}
 use Rattle.bm_http.specs.LongAnswers.{log_in}
