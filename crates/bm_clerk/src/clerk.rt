@@ -11,7 +11,7 @@ use crate::notice::{Notice, loss_of, notice_of};
 use crate::stream::{Timed, WorkerStream};
 use bm_board::Words;
 use bm_lane::{ReaderEnd, Yard};
-use bm_link::{Attached, LinkFault, MasterLink, Turn};
+use bm_link::{Attached, LinkFault, MasterLink, Turn, are_short};
 use bm_rules::{Care, LossCause, PeerTimer, Standing};
 use bumpalo::Bump;
 use crossbeam_channel::Sender;
@@ -311,13 +311,20 @@ where
         }
     }
 
+    /// Starts a command. The words of a configuration are short enough; a plan by which others come
+    /// is refused here, before its order is kept to be sent again.
     fn start(&mut self, words: &Words, bytes: ByteCount, answer: &Sender<Told, Global>) {
+        let argv = words.as_slice();
+        if !are_short(argv) {
+            let _ = answer.send(self.rt, Told::TooLong);
+            return;
+        }
         if self.heard.reserve().is_err() {
             let _ = answer.send(self.rt, Told::Later);
             return;
         }
         let before = self.desk.standing();
-        let told = self.desk.start(self.rt, self.alloc, words.as_slice());
+        let told = self.desk.start(self.rt, self.alloc, argv);
         match told {
             Told::Started(command) => {
                 self.open = self.open.saturating_add(1);
@@ -325,7 +332,7 @@ where
                 let _ = self.heard.begin(command, bytes);
             }
             Told::Full => self.tell.tell(Notice::Filled),
-            Told::Interrupted | Told::Later | Told::Refused => {}
+            Told::Interrupted | Told::Later | Told::Refused | Told::TooLong => {}
         }
         self.note(before, LossCause::Stream);
         let _ = answer.send(self.rt, told);

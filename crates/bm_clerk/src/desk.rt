@@ -4,6 +4,7 @@ ghost use Rattle.std.specs.Prelude.{◌≡◌, [], nat_lt, is_some, true, None, 
 ghost use Rattle.bm_session.specs.Trace.{is_up, was_taken};
 ghost use Rattle.bm_link.specs.Carries.{new_carried};
 ghost use Rattle.bm_link.specs.Laws.{CarriesPending};
+ghost use Rattle.bm_link.specs.Texts.{AreShort};
 ghost use Rattle.bm_rules.specs.Standing.{keeps_link};
 ghost use Rattle.bm_rules.specs.Tenure.{kept as kept_term, dismissed};
 ghost use Rattle.bm_clerk.specs.Desks.{counting, kept, renewed, rest_of, term_in, Attaches, Closes, Expires, GivesUp, Interrupts, Pings, ShutsDown, Starts, TakesUp, Ticks, Turns, with_term};
@@ -301,6 +302,7 @@ impl<Y: Yard, S: Read + Write + Drop> Desk<Y, S> {
     /// Starts a command with these words. Nothing is sent on a lane without a link: a cut one is to
     /// be tried later, and one that was given up refuses.
     pub fn start<R: Wait>(&mut self, rt: &R, alloc: Global, argv: &[Text]) -> Told
+        requires { AreShort argv.now }
         ensures { Starts S.contents argv.now self.old.link self.old result self.new }
     {
         let Some(link) = &mut self.link else {

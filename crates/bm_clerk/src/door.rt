@@ -99,6 +99,8 @@ pub enum Told {
     Refused,
     /// The lane has had as many events as it may.
     Full,
+    /// Nothing was done: an order doesn't carry as many words, or as long ones.
+    TooLong,
 }
 
 /// The end of a door for those who order. Contracts see the number of its lane.

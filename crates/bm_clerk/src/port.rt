@@ -257,7 +257,8 @@ fn settle<S: Drop, R: Wait + Clock>(rt: &R, alloc: Global, door: &Door<S>) {
 ///
 /// # Errors
 ///
-/// `Lost` where the lane is given up, or refuses; `Cancelled` where the step doesn't always run and
+/// `Lost` where the lane is given up, or refuses; `Full` where it has had as many events as it may,
+/// or the words are more than an order carries; `Cancelled` where the step doesn't always run and
 /// its build is cancelled while it waits. Nothing is started then.
 fn start<S: Drop, R: Wait + Clock>(
     rt: &R,
@@ -274,7 +275,7 @@ fn start<S: Drop, R: Wait + Clock>(
         match try_start(rt, alloc, door, &step.argv, bytes) {
             Some(Told::Started(command)) => return Ok(command),
             Some(Told::Later) => thread::sleep(rt, Duration::from_millis(TICK)),
-            Some(Told::Full) => return Err(StartRefusal::Full),
+            Some(Told::Full | Told::TooLong) => return Err(StartRefusal::Full),
             Some(Told::Interrupted | Told::Refused) => return Err(StartRefusal::Lost),
             None => return Err(StartRefusal::Memory),
         }

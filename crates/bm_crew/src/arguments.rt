@@ -1,5 +1,8 @@
 //! The words of the command line.
 
+ghost use Rattle.std.specs.Prelude.{◌↔◌, ◌∷◌, [], IfSome, IsTrue};
+ghost use Rattle.bm_link.specs.Texts.{AreShort};
+
 use std::alloc::{AllocError, AllocGlobal};
 use std::rt::Env;
 use std::{env, io};
@@ -30,7 +33,9 @@ pub fn words<R: Env + AllocGlobal>(rt: &R) -> Result<Vec<String>, AllocError> {
 
 /// Reads the words of the command line, of which the first is the program's name. The answer is
 /// None where they ask for nothing that the program does.
-pub fn read_job(words: &[String]) -> Option<Job<'_>> {
+pub fn read_job(words: &[String]) -> Option<Job<'_>>
+    ensures { IfSome result (λ job. AreShort (job.name.now ∷ job.password.now ∷ [])) }
+{
     let [_, address, name, password] = words else {
         return None;
     };
@@ -65,6 +70,8 @@ fn is_port(text: &str) -> bool {
 }
 
 /// Whether a login can have both.
-fn is_login(name: &str, password: &str) -> bool {
+fn is_login(name: &str, password: &str) -> bool
+    ensures { IsTrue result ↔ AreShort (name.now ∷ password.now ∷ []) }
+{
     name.len() <= MOST_LOGIN_BYTES && password.len() <= MOST_LOGIN_BYTES - name.len()
 }

@@ -1,5 +1,8 @@
 //! A worker's life: connections in turn, and the work that outlives them.
 
+ghost use Rattle.std.specs.Prelude.{◌∷◌, []};
+ghost use Rattle.bm_link.specs.Texts.{AreShort};
+
 use crate::closing::close;
 use crate::connection::{Connection, ConnectionEnd};
 use crate::host::Host;
@@ -60,7 +63,8 @@ where
         + Send
         + Sync
         + 'static,
-    requires { (state : _) (limit : _) → D.pre state limit }
+    requires dials { (state : _) (limit : _) → D.pre state limit }
+    requires short { AreShort (name.now ∷ password.now ∷ []) }
 {
     let alloc = rt.alloc();
     let login = Login {
@@ -83,7 +87,8 @@ where
     S: Read + Write + OpenStream + Drop + Send + 'static,
     D: FnMut(Duration) -> Option<S>,
     R: Host + RandomSource + Drop,
-    requires { (state : _) (limit : _) → D.pre state limit }
+    requires dials { (state : _) (limit : _) → D.pre state limit }
+    requires short { AreShort (login.name.now ∷ login.password.now ∷ []) }
 {
     let mut limit = Duration::ZERO;
     let mut number = 0u64;
@@ -121,6 +126,7 @@ fn connected<S, R>(
 where
     S: Read + Write + OpenStream + Drop + Send + 'static,
     R: Host + RandomSource + Drop,
+    requires { AreShort (login.name.now ∷ login.password.now ∷ []) }
 {
     let Some((connection, ready, watch)) = watched(alloc, work, number, stream) else {
         return ConnectionEnd::Lost;

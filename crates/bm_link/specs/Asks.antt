@@ -1,5 +1,5 @@
 -- What a master asks of a worker besides its orders.
-use Rattle.std.specs.Prelude.{◌≡◌, ◌≤◌, ◌<◌, ◌^◌, ◌⊎◌, ℕ, List, Option, Result, Ok, Err}
+use Rattle.std.specs.Prelude.{◌≡◌, ◌≤◌, ◌<◌, ◌^◌, ◌⊎◌, ℕ, List, [], ◌∷◌, Option, Result, Ok, Err}
 use Rattle.tungstenite.specs.Socket.{Socket}
 use Rattle.bm_value.specs.Writing.{written}
 use Rattle.bm_msg.specs.Meaning.{Asked, request, print, keepalive, get_worker_info, shutdown}
@@ -17,6 +17,11 @@ asks_for (ask.Print message) = print message
 asks_for ask.Keepalive = keepalive
 asks_for ask.GetWorkerInfo = get_worker_info
 asks_for ask.Shutdown = shutdown
+
+-- the texts that it carries
+abbrev pub texts_of : Ask → List (List ℕ)
+texts_of (ask.Print message) = message ∷ []
+texts_of _ = []
 
 -- the bytes of the request with number n
 unfoldable pub ask_bytes : ℕ → Ask → List ℕ

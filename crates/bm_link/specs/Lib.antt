@@ -14,6 +14,8 @@ pub mod Users
 pub mod Logins
 pub mod Telling
 pub mod Attaching
+-- How long the texts may be that a message carries.
+pub mod Texts
 -- What a master sends unasked, its pings and closes, and what a lane carries from one link to the next.
 pub mod Orders
 pub mod Asks
@@ -26,9 +28,10 @@ pub mod Asked
 pub mod Working
 -- What is sent beside messages: pings, and close frames.
 pub mod Frames
--- Laws of what is carried, and of what a fault leaves behind it.
+-- Laws of what is carried, of what a fault leaves behind it, and of messages that carry short texts.
 pub mod Laws
 pub mod LawsOfFaults
+pub mod LawsOfTexts
 -- This one only helps proofs, as do definitions of the others that no public contract leads to:
 -- what a part of a call does.
 pub mod Steps

@@ -2,13 +2,15 @@
 
 ghost use Rattle.std.specs.Prelude.{◌≡◌, ◌<◌, ◌^◌, IfOk, MatchResult};
 ghost use Rattle.bm_msg.specs.Meaning.{asked};
-ghost use Rattle.bm_link.specs.Asks.{asks_for, ask_bytes, SendsAsk};
+ghost use Rattle.bm_link.specs.Asks.{asks_for, ask_bytes, texts_of, SendsAsk};
+ghost use Rattle.bm_link.specs.Texts.{AreShort};
 
 use crate::carry::Carry;
 use crate::fault::LinkFault;
 use crate::parts::send;
+use crate::requests::request_bytes;
 use bm_lines::Text;
-use bm_msg::{Numbered, Request, write_request};
+use bm_msg::Request;
 use std::alloc::{AllocError, Global};
 use std::io::{Read, Write};
 use tungstenite::{NoMask, WebSocket};
@@ -26,6 +28,20 @@ pub enum Ask {
     Shutdown,
 }
 
+impl Ask {
+    /// An equal request.
+    pub fn copy(&self) -> Result<Ask, AllocError>
+        ensures { IfOk result (λ ask. ask ≡ self.now) }
+    {
+        match self {
+            Ask::Print(message) => Ok(Ask::Print(message.copy()?)),
+            Ask::Keepalive => Ok(Ask::Keepalive),
+            Ask::GetWorkerInfo => Ok(Ask::GetWorkerInfo),
+            Ask::Shutdown => Ok(Ask::Shutdown),
+        }
+    }
+}
+
 fn request_of(ask: Ask) -> Request
     ensures { asked result ≡ asks_for ask }
 {
@@ -40,14 +56,11 @@ fn request_of(ask: Ask) -> Request
 /// The bytes of the request with this number.
 #[tactic(auto, unfolding(crate::specs::Asks::ask_bytes))]
 fn ask_bytes(alloc: Global, seq: u64, ask: Ask) -> Result<Vec<u8>, AllocError>
-    requires { seq < 2 ^ 63 }
+    requires number { seq < 2 ^ 63 }
+    requires short { AreShort (texts_of ask) }
     ensures { IfOk result (λ v. v.items ≡ ask_bytes seq ask) }
 {
-    let request = request_of(ask);
-    match write_request(alloc, &Numbered { seq, request }) {
-        Ok(bytes) => Ok(bytes),
-        Err(_) => Err(AllocError),
-    }
+    request_bytes(alloc, seq, request_of(ask))
 }
 
 /// Sends a request under the next number, which is not given again.
@@ -57,6 +70,7 @@ pub(crate) fn send_ask<S: Read + Write + Drop>(
     carry: &mut Carry,
     ask: Ask,
 ) -> Result<(), LinkFault>
+    requires { AreShort (texts_of ask) }
     ensures { SendsAsk S.contents carry.old ask socket.old result socket.new carry.new }
 {
     let Some(seq) = carry.next_ask() else {

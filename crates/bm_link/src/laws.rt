@@ -1,7 +1,9 @@
-//! What a lane carries and what a fault leaves behind it, as contracts.
+//! What a lane carries, what a fault leaves behind it, and that short texts fit into a frame, as
+//! contracts.
 
 ghost use Rattle.bm_link.specs.Laws.{WorkersEventsKeep, OrdersAreAdded, SessionsBeginAnew};
 ghost use Rattle.bm_link.specs.LawsOfFaults.{AnswersOnlyWhatWasTaken, CutsWhereAllowed, LaneRefusesByItsTrace, TellsOnlyTheRefusal};
+ghost use Rattle.bm_link.specs.LawsOfTexts.{AsksFit, LoginsFit, OrdersFit};
 
 use std::io::Write;
 
@@ -25,4 +27,12 @@ pub fn faults_leave_no_more<S: Write>()
     ensures refusals { TellsOnlyTheRefusal S.contents }
     ensures lanes { LaneRefusesByItsTrace }
     ensures cuts { CutsWhereAllowed }
+{}
+
+/// A message that carries the short texts of its caller fits into a frame of its reader: an order,
+/// any other request of a master, and a login whose session's text a master keeps.
+pub fn short_texts_fit()
+    ensures orders { OrdersFit }
+    ensures asks { AsksFit }
+    ensures logins { LoginsFit }
 {}

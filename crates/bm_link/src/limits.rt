@@ -5,7 +5,7 @@ ghost use Rattle.bm_link.specs.Accepting.{IsLimited};
 use tungstenite::WebSocketConfig;
 
 /// The most bytes of a message, and of a frame.
-pub const MOST_BYTES: usize = 1_048_576;
+const MOST_BYTES: usize = 1_048_576;
 
 /// The most bytes that wait to be sent, with the message that is sent. Above it a message is not
 /// sent, for want of memory, and no ping is read.

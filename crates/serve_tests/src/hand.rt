@@ -17,6 +17,9 @@ const LOGIN_TIME: u64 = 10_000;
 /// How long a read of a worker waits, in milliseconds.
 const READ_TIME: u64 = 100;
 
+/// The most bytes that a name has, and a password.
+const MOST_BYTES: usize = 1_000;
+
 /// How many reads a worker waits for an order.
 const MOST_READS: u32 = 200;
 
@@ -64,6 +67,9 @@ fn dial<R>(
 where
     R: RandomSource + AllocGlobal + Net<Stream = TcpStream> + Copy + Drop,
 {
+    if name.len() > MOST_BYTES || password.len() > MOST_BYTES {
+        return Err(LinkFault::Stream);
+    }
     let stream = reach(&rt, address)?;
     match WorkerLink::connect(rt.alloc(), rt, stream, name, password, session) {
         Ok((link, attached)) if waits(&link.get_ref().stream, READ_TIME) => Ok((link, attached)),

@@ -6,7 +6,7 @@ use super::{dial, waiting};
 use bm_crew::{ReadyStream, work_run};
 use bm_lane::{Blank, Drained, Ends, Yard, open};
 use bm_lines::{STDIO, Text};
-use bm_link::{Ask, Carry, MasterLink, User};
+use bm_link::{Ask, Carry, MasterLink, User, are_short};
 use bm_session::Results;
 use bumpalo::Bump;
 use std::alloc::{AllocError, AllocGlobal, Global};
@@ -194,12 +194,11 @@ impl<Y: Yard, W: Wait + Drop> Desk<Y, W> {
     fn is_joined<R: Wait>(&mut self, rt: &R, arena: &mut Bump, link: &mut Link) -> bool {
         let (alloc, users) = (self.alloc, self.users.as_slice());
         let (reader, carry) = (&mut self.ends.reader, &mut self.carry);
+        let argv = self.argv.as_slice();
         link.login(alloc, arena, users).is_ok()
             && link.attach(rt, alloc, reader, carry).is_ok()
             && (reader.next_command() != 0
-                || link
-                    .start(rt, alloc, reader, carry, self.argv.as_slice())
-                    .is_ok())
+                || are_short(argv) && link.start(rt, alloc, reader, carry, argv).is_ok())
     }
 
     /// Whether the worker was told to leave once the command had ended, by the end of the

@@ -171,6 +171,9 @@ impl Links {
             return Answer::Nothing;
         };
         let argv = self.argv.as_slice();
+        if !are_short(argv) {
+            return Answer::Nothing;
+        }
         match link.start(rt, self.alloc, reader, &mut self.carry, argv) {
             Ok(command) => Answer::Started(command),
             Err(fault) => Answer::Fault(fault),
