@@ -19,6 +19,9 @@ EXAMPLE = "/usr/share/doc/bolgrudi/examples/first-build.toml"
 SILENT = [["sleep", "4321"]]
 BELOW = [["sh", "-c", "echo begun; sleep 4322; echo not reached"]]
 SHORT = [["echo", "done"]]
+# These don't hear SIGTERM, which scancel sends to each process by itself: what ends them is the end of their worker.
+DEAF = [["sh", "-c", "trap '' TERM; exec sleep 4321"]]
+DEAF_BELOW = [["sh", "-c", "trap '' TERM; echo begun; sleep 4322; echo not reached"]]
 PROCESSORS = 4
 
 
@@ -81,7 +84,7 @@ def cancel():
 
 def scancel():
     """the job is cancelled by scancel while two builds run and a third waits, which runs in a new job"""
-    with master_of([SILENT, BELOW, SHORT], resume_ticks=200) as master:
+    with master_of([DEAF, DEAF_BELOW, SHORT], resume_ticks=200) as master:
         master.begin(2)
         subprocess.run(["scancel", job_of_worker()], check=True)
         results = master.results(3)
@@ -96,7 +99,7 @@ def scancel():
 
 def srun_killed():
     """srun is killed while a step runs; the build that waits runs in a new job"""
-    with master_of([SILENT, SHORT], slots=1, resume_ticks=200) as master:
+    with master_of([DEAF, SHORT], slots=1, resume_ticks=200) as master:
         master.begin()
         for number, words in BEFORE.others().items():
             if words.startswith("srun "):
