@@ -1,6 +1,6 @@
--- A reader has to believe Paths, Numbers and Targets, what stands in a request; Refusals; Requests,
--- what it asks for; Bodies; Replies, what it is answered; Shown, what contracts see of requests,
--- sights and answers; and Laws.
+-- A reader has to believe these. Paths, Numbers and Targets: what stands in a request. Refusals.
+-- Requests: what it asks for. Bodies. Replies: what it is answered. Shown: what contracts see of
+-- requests, sights and answers. Laws.
 pub mod Paths
 pub mod Numbers
 pub mod Targets
@@ -10,6 +10,9 @@ pub mod Bodies
 pub mod Replies
 pub mod Shown
 pub mod Laws
+-- LongAnswers: what is left to tell of an answer in pieces. Pieces: the text that a piece is.
+-- FirstLooks: what one viewer shows at one look. WholeOrLong: the reply that an answer tells, whole
+-- or in pieces.
 pub mod LongAnswers
 pub mod Pieces
 pub mod FirstLooks

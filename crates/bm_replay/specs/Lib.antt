@@ -1,5 +1,4 @@
--- What a reader of this crate has to believe: all of these files. The lemmas of proofs/ only help
--- their proofs. what a worker and its lane do, connection after connection
+-- A reader has to believe all of these. What a worker and its lane do, connection after connection
 pub mod Schedule
 -- the same over connections that are cut and resumed
 pub mod Resumed

@@ -32,7 +32,7 @@ pub struct Limits {
     pub workers: usize,
     /// How many connections are open at once. Others wait, unaccepted.
     pub connections: usize,
-    /// How long a connection may be idle, or take over the head of a request, until it is closed.
+    /// How long a connection may wait for a request's head, or take over it, until it is closed.
     pub idle: Duration,
     /// How long a client may take nothing of what is sent to it, until the connection is closed.
     pub stalled: Duration,
