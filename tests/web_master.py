@@ -100,6 +100,10 @@ class Master:
             time.sleep(0.05)
         raise TimeoutError(f"log {log} doesn't end")
 
+    def descriptors(self):
+        """How many descriptors the master has open."""
+        return len(os.listdir(f"/proc/{self.master.pid}/fd"))
+
     def get(self, target):
         """Status and value of an answer, over a connection of its own."""
         connection = http.client.HTTPConnection(self.web, timeout=20)
