@@ -8,7 +8,7 @@ use Rattle.bm_board.specs.declared.plan.Build.{Build}
 use Rattle.bm_board.specs.declared.steps.Next.TheVariants.{Step, Ended}
 use Rattle.bm_board.specs.declared.refusal.BoardRefusal.TheVariants.{NoBuild, NotWaiting, NotRunning, NoWorker, LockHeld, BadLock}
 use Rattle.bm_board.specs.Steps.{next_of}
-use Rattle.bm_board.specs.Job.{Course, Outcome, answer_of, cancel, finish, give_up, release}
+use Rattle.bm_board.specs.ScheduledBuild.{Course, Outcome, answer_of, cancel, finish, give_up, release}
 use Rattle.bm_board.specs.Board.{Standing, opening, with_ready, with_build, add_refusal, on_build, board_after, start, result_on}
 
 -- a step by its flags: haltOnFailure, flunkOnFailure, alwaysRun

@@ -9,9 +9,9 @@ use Rattle.std.proofs.lemmas.List.Elements.{All-set, All-push}
 use Rattle.bm_board.specs.declared.plan.Mode.{Mode}
 use Rattle.bm_board.specs.declared.plan.Mode.TheVariants.{Counting, Exclusive}
 use Rattle.bm_board.specs.declared.plan.Build.{Build}
-use Rattle.bm_board.specs.declared.worker.Worker.{Worker}
+use Rattle.bm_board.specs.declared.worker_slots.WorkerSlots.{WorkerSlots}
 use Rattle.bm_board.specs.Locks.{is_use, are_distinct, are_good, may_have}
-use Rattle.bm_board.specs.Job.{Course, is_holding, waiting, IsSameHolder}
+use Rattle.bm_board.specs.ScheduledBuild.{Course, is_holding, waiting, IsSameHolder}
 use Rattle.bm_board.specs.Board.{Standing, occupies, holds_lock, occupied, holders, most_builds}
 use Rattle.bm_board.specs.Kept.{Tally, place_share, lock_share, are_free, IsTaken, is_known, IsKept}
 use Rattle.bm_board.proofs.Uses.{used_passes, one_mode}
@@ -258,12 +258,12 @@ kept_added b t build jobs true e worker locks room kept =
     kept)
 
 -- the board with a worker's readiness changed is kept
-pub kept_ready : (b : Standing) (t : Tally) (w : ℕ) (old : Worker) (ready : Bool) → old ≡ get_or b.workers w old → IsKept b t → IsKept (record { workers = set b.workers w (record { slots = old.slots; ready = ready }); maxima = b.maxima; jobs = b.jobs }) t
+pub kept_ready : (b : Standing) (t : Tally) (w : ℕ) (old : WorkerSlots) (ready : Bool) → old ≡ get_or b.workers w old → IsKept b t → IsKept (record { workers = set b.workers w (record { slots = old.slots; ready = ready }); maxima = b.maxima; jobs = b.jobs }) t
 kept_ready b t w old ready e kept =
-    let new : Worker = record { slots = old.slots; ready = ready } in
+    let new : WorkerSlots = record { slots = old.slots; ready = ready } in
     let len = length-set b.workers w new in
-    let slots : map (λ (worker : Worker). worker.slots) (set b.workers w new) ≡ map (λ (worker : Worker). worker.slots) b.workers =
-    map-set_same (λ (worker : Worker). worker.slots) b.workers w new old (ap (λ (worker : Worker). worker.slots) e) in
+    let slots : map (λ (worker : WorkerSlots). worker.slots) (set b.workers w new) ≡ map (λ (worker : WorkerSlots). worker.slots) b.workers =
+    map-set_same (λ (worker : WorkerSlots). worker.slots) b.workers w new old (ap (λ (worker : WorkerSlots). worker.slots) e) in
     record {
       few = kept.few;
       known = subst (λ (n : ℕ). All (λ job. IsTrue (is_known n (length b.maxima) job)) b.jobs) (sym len) kept.known;
@@ -284,7 +284,7 @@ kept_ready b t w old ready e kept =
     }
 
 -- a new board is kept
-pub kept_opening : (workers : List Worker) (maxima : List ℕ) (n m : ℕ) → n ≡ length workers → m ≡ length maxima → IsKept (record { workers = workers; maxima = maxima; jobs = [] }) (record { taken = replicate n 0; counting = replicate m 0; exclusive = replicate m 0 })
+pub kept_opening : (workers : List WorkerSlots) (maxima : List ℕ) (n m : ℕ) → n ≡ length workers → m ≡ length maxima → IsKept (record { workers = workers; maxima = maxima; jobs = [] }) (record { taken = replicate n 0; counting = replicate m 0; exclusive = replicate m 0 })
 kept_opening workers maxima n m en em =
     record {
       few = omega arith;

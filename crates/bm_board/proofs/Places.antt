@@ -4,8 +4,8 @@ use Rattle.std.specs.Option.{option_map_or}
 use Rattle.std.proofs.lemmas.Option.{slice_get-get_or}
 use Rattle.std.proofs.lemmas.List.{set-get_or}
 use Rattle.bm_board.specs.declared.refusal.BoardRefusal.TheVariants.{NoBuild}
-use Rattle.bm_board.specs.Job.{Course, Outcome, job_after, answer_of}
-use Rattle.bm_board.specs.declared.worker.Worker.{Worker}
+use Rattle.bm_board.specs.ScheduledBuild.{Course, Outcome, job_after, answer_of}
+use Rattle.bm_board.specs.declared.worker_slots.WorkerSlots.{WorkerSlots}
 use Rattle.bm_board.specs.Board.{Standing, on_build, board_after, with_ready}
 
 -- the board with one build changed
@@ -40,9 +40,9 @@ after_place call b now id job new v l e h =
     ap (λ j. with_job b id j) h ∙ after_outcome b id job e (call job) ∙ ap (λ o. board_after b id o) (sym (on_place call b id job l e)) ∙ ap (λ z. board_after z id (on_build call z id)) v
 
 -- the board with the worker at a place ready or not
-pub ready_place : (b now : Standing) (w : ℕ) (old : Worker) (ready : Bool) → b ≡ now → w < length b.workers → old ≡ get_or b.workers w old → record { workers = set b.workers w (record { slots = old.slots; ready = ready }); maxima = b.maxima; jobs = b.jobs } ≡ with_ready now w ready
+pub ready_place : (b now : Standing) (w : ℕ) (old : WorkerSlots) (ready : Bool) → b ≡ now → w < length b.workers → old ≡ get_or b.workers w old → record { workers = set b.workers w (record { slots = old.slots; ready = ready }); maxima = b.maxima; jobs = b.jobs } ≡ with_ready now w ready
 ready_place b now w old ready v l e =
     let found = slice_get-get_or b.workers w old l in
-    let change : Worker → List Worker = λ worker. set b.workers w (record { slots = worker.slots; ready = ready }) in
-    let after : List Worker → Standing = λ workers. record { workers = workers; maxima = b.maxima; jobs = b.jobs } in
+    let change : WorkerSlots → List WorkerSlots = λ worker. set b.workers w (record { slots = worker.slots; ready = ready }) in
+    let after : List WorkerSlots → Standing = λ workers. record { workers = workers; maxima = b.maxima; jobs = b.jobs } in
     ap (λ worker. after (change worker)) e ∙ ap (λ o. after (option_map_or change o b.workers)) (sym found) ∙ ap (λ z. with_ready z w ready) v

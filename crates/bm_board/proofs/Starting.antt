@@ -10,13 +10,13 @@ use Rattle.bm_board.specs.declared.plan.LockUse.{LockUse}
 use Rattle.bm_board.specs.declared.plan.Build.{Build}
 use Rattle.bm_board.specs.declared.steps.Next.{Next}
 use Rattle.bm_board.specs.declared.steps.Next.TheVariants.{Step, Ended}
-use Rattle.bm_board.specs.declared.job.Phase.{Phase}
-use Rattle.bm_board.specs.declared.job.Phase.TheVariants.{Waiting, Running, Over}
-use Rattle.bm_board.specs.declared.worker.Worker.{Worker}
-use Rattle.bm_board.specs.declared.job.Started.{Started}
+use Rattle.bm_board.specs.declared.scheduled_build.Phase.{Phase}
+use Rattle.bm_board.specs.declared.scheduled_build.Phase.TheVariants.{Waiting, Running, Over}
+use Rattle.bm_board.specs.declared.worker_slots.WorkerSlots.{WorkerSlots}
+use Rattle.bm_board.specs.declared.scheduled_build.Started.{Started}
 use Rattle.bm_board.specs.declared.refusal.BoardRefusal.TheVariants.{NotWaiting, NoWorker, LockHeld}
 use Rattle.bm_board.specs.Locks.{may_have, are_good, are_distinct}
-use Rattle.bm_board.specs.Job.{Course, Outcome, is_waiting, is_holding, phase_of, started, first_of, answer_of}
+use Rattle.bm_board.specs.ScheduledBuild.{Course, Outcome, is_waiting, is_holding, phase_of, started, first_of, answer_of}
 use Rattle.bm_board.specs.Board.{Standing, occupied, holders, has_place, is_free, start, on_build, board_after}
 use Rattle.bm_board.specs.Kept.{Tally, are_free, is_known, HasRoom, IsKept}
 use Rattle.bm_board.proofs.Uses.{all_alike, each_passes, same_mode}
@@ -36,11 +36,11 @@ start_chosen b now id job waits place free v l e hw hp hf =
     ∙ ap (λ f. chosen job waits place f) hf
 
 -- the worker's place, by the slots that are counted
-pub has_place_is : (b : Standing) (t : Tally) (w : ℕ) (had : Worker) → w < length b.workers → had ≡ get_or b.workers w had → IsKept b t → has_place b w ≡ (had.ready && nat_lt (slice_index t.taken w) had.slots)
+pub has_place_is : (b : Standing) (t : Tally) (w : ℕ) (had : WorkerSlots) → w < length b.workers → had ≡ get_or b.workers w had → IsKept b t → has_place b w ≡ (had.ready && nat_lt (slice_index t.taken w) had.slots)
 has_place_is b t w had l e kept =
     let found = slice_get-get_or b.workers w had l in
-    ap (λ o. option_map_or (λ (worker : Worker). worker.ready && nat_lt (occupied w b.jobs) worker.slots) o false) found
-    ∙ ap (λ (worker : Worker). worker.ready && nat_lt (occupied w b.jobs) worker.slots) (sym e)
+    ap (λ o. option_map_or (λ (worker : WorkerSlots). worker.ready && nat_lt (occupied w b.jobs) worker.slots) o false) found
+    ∙ ap (λ (worker : WorkerSlots). worker.ready && nat_lt (occupied w b.jobs) worker.slots) (sym e)
     ∙ ap (λ n. had.ready && nat_lt n had.slots) (sym (kept.counts.slots w l))
 
 -- the locks that may be had, by the holders that are counted
@@ -54,7 +54,7 @@ are_free_is b t uses there kept =
     ∙ ap (λ n. may_have u.mode (slice_index b.maxima u.lock) (slice_index t.counting u.lock) n) (sym (kept.counts.alone u.lock low)))
 
 -- a start, by what its tests found
-pub start_by : (b now : Standing) (t : Tally) (id : ℕ) (job : Course) (build : Build) (had : Worker) (taken : ℕ) (waits place free : Bool) → b ≡ now → id < length b.jobs → job ≡ get_or b.jobs id job → IsKept b t → build ≡ job.build → is_waiting job.phase ≡ waits → had ≡ get_or b.workers build.worker had → taken ≡ slice_index t.taken build.worker → (had.ready && nat_lt taken had.slots) ≡ place → are_free t b.maxima build.locks ≡ free → on_build (start now) now id ≡ chosen job waits place free
+pub start_by : (b now : Standing) (t : Tally) (id : ℕ) (job : Course) (build : Build) (had : WorkerSlots) (taken : ℕ) (waits place free : Bool) → b ≡ now → id < length b.jobs → job ≡ get_or b.jobs id job → IsKept b t → build ≡ job.build → is_waiting job.phase ≡ waits → had ≡ get_or b.workers build.worker had → taken ≡ slice_index t.taken build.worker → (had.ready && nat_lt taken had.slots) ≡ place → are_free t b.maxima build.locks ≡ free → on_build (start now) now id ≡ chosen job waits place free
 start_by b now t id job build had taken waits place free v l e kept hb hw at ht hp hf =
     let known = and_parts (nat_lt job.build.worker (length b.workers)) (are_good (length b.maxima) job.build.locks) (known_at b t id job l e kept) in
     let good = and_parts (list_all (λ u. nat_lt u.lock (length b.maxima)) job.build.locks) (are_distinct job.build.locks) known.1 in
@@ -98,13 +98,13 @@ starts job new hw hn =
     }
 
 -- the tests of a start found that the build may start
-pub startable : (b : Standing) (t : Tally) (id : ℕ) (job : Course) (build : Build) (had : Worker) (taken : ℕ) → id < length b.jobs → job ≡ get_or b.jobs id job → IsKept b t → build ≡ job.build → had ≡ get_or b.workers build.worker had → taken ≡ slice_index t.taken build.worker → taken < had.slots → are_free t b.maxima build.locks ≡ true → IsStartable b t job
+pub startable : (b : Standing) (t : Tally) (id : ℕ) (job : Course) (build : Build) (had : WorkerSlots) (taken : ℕ) → id < length b.jobs → job ≡ get_or b.jobs id job → IsKept b t → build ≡ job.build → had ≡ get_or b.workers build.worker had → taken ≡ slice_index t.taken build.worker → taken < had.slots → are_free t b.maxima build.locks ≡ true → IsStartable b t job
 startable b t id job build had taken l e kept hb at ht lt hf =
     let known = and_parts (nat_lt job.build.worker (length b.workers)) (are_good (length b.maxima) job.build.locks) (known_at b t id job l e kept) in
     let good = and_parts (list_all (λ u. nat_lt u.lock (length b.maxima)) job.build.locks) (are_distinct job.build.locks) known.1 in
-    let slots : ◌≡◌ {A = ℕ} (slice_index (map (λ (worker : Worker). worker.slots) b.workers) job.build.worker) had.slots =
-    get_or-map (λ (worker : Worker). worker.slots) b.workers job.build.worker had 0 (ltb-true job.build.worker (length b.workers) known.0)
-    ∙ ap (λ (worker : Worker). worker.slots) (sym (subst (λ (x : Build). had ≡ get_or b.workers x.worker had) hb at)) in
+    let slots : ◌≡◌ {A = ℕ} (slice_index (map (λ (worker : WorkerSlots). worker.slots) b.workers) job.build.worker) had.slots =
+    get_or-map (λ (worker : WorkerSlots). worker.slots) b.workers job.build.worker had 0 (ltb-true job.build.worker (length b.workers) known.0)
+    ∙ ap (λ (worker : WorkerSlots). worker.slots) (sym (subst (λ (x : Build). had ≡ get_or b.workers x.worker had) hb at)) in
     let counted : ◌≡◌ {A = ℕ} (slice_index t.taken build.worker) (slice_index t.taken job.build.worker) = ap (λ (x : Build). slice_index t.taken x.worker) hb in
     record {
       place = omega (arith, slots, counted, ht, lt);

@@ -7,16 +7,16 @@ use Rattle.bm_board.specs.declared.plan.Mode.TheVariants.{Counting, Exclusive}
 use Rattle.bm_board.specs.declared.plan.LockUse.{LockUse}
 use Rattle.bm_board.specs.declared.plan.Build.{Build}
 use Rattle.bm_session.specs.declared.results.Results.{Results}
-use Rattle.bm_board.specs.declared.job.Started.{Started}
-use Rattle.bm_board.specs.declared.worker.Worker.{Worker}
+use Rattle.bm_board.specs.declared.scheduled_build.Started.{Started}
+use Rattle.bm_board.specs.declared.worker_slots.WorkerSlots.{WorkerSlots}
 use Rattle.bm_board.specs.declared.refusal.BoardRefusal.{BoardRefusal}
 use Rattle.bm_board.specs.declared.refusal.BoardRefusal.TheVariants.{NoBuild, NotWaiting, NoWorker, LockHeld, BadLock, Full}
 use Rattle.bm_board.specs.Locks.{is_use, are_good, may_have}
-use Rattle.bm_board.specs.Job.{Course, Outcome, is_waiting, is_holding, waiting, started, first_of, result_in}
+use Rattle.bm_board.specs.ScheduledBuild.{Course, Outcome, is_waiting, is_holding, waiting, started, first_of, result_in}
 
 -- the workers, the locks' maxima, and the builds by number
 pub record Standing : Type 0 where
-  pub workers : List Worker
+  pub workers : List WorkerSlots
   pub maxima : List ℕ
   pub jobs : List Course
 

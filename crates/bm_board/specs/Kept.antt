@@ -7,7 +7,7 @@ use Rattle.bm_board.specs.declared.plan.Mode.TheVariants.{Counting, Exclusive}
 use Rattle.bm_board.specs.declared.plan.LockUse.{LockUse}
 use Rattle.bm_board.specs.declared.plan.Build.{Build}
 use Rattle.bm_board.specs.Locks.{is_mode, is_use, are_distinct, are_good, may_have}
-use Rattle.bm_board.specs.Job.{Course}
+use Rattle.bm_board.specs.ScheduledBuild.{Course}
 use Rattle.bm_board.specs.Board.{Standing, occupied, holders, IsWithinLimits, most_builds}
 
 -- the slots taken of each worker, and the holders of each lock in each mode

@@ -2,7 +2,7 @@
 -- and each call on it, and the board of all builds.
 pub mod Steps
 pub mod Locks
-pub mod Job
+pub mod ScheduledBuild
 pub mod Board
 -- What a board counts as it changes. It helps the proofs alone.
 pub mod Kept

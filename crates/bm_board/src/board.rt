@@ -3,13 +3,13 @@
 ghost use Rattle.std.specs.Prelude.{◌≡◌, ℕ, ◌<◌, ◌≤◌, ◌&&◌, ◌+◌, ◌^◌, true, nat_lt, All, length, OnOk, OnErr, IfOk, IfErr, IsOk, ◌⊎◌, Some, None, Ok, Err, position};
 
 use crate::counts::Counts;
-use crate::job::{Job, Started};
 use crate::locks;
 use crate::outcomes::Outcomes;
 use crate::plan::Build;
 use crate::refusal::BoardRefusal;
+use crate::scheduled_build::{ScheduledBuild, Started};
 use crate::steps::Next;
-use crate::worker::Worker;
+use crate::worker_slots::WorkerSlots;
 use bm_session::Results;
 use std::alloc::{AllocError, Global};
 use std::marker::Model;
@@ -21,11 +21,11 @@ const MOST_BUILDS: usize = 10_000;
 /// locks from its start until it is released.
 #[derive(Drop)]
 pub struct Board {
-    workers: Vec<Worker>,
+    workers: Vec<WorkerSlots>,
     maxima: Vec<u32>,
     // What the builds hold, counted.
     counts: Counts,
-    jobs: Vec<Job>,
+    jobs: Vec<ScheduledBuild>,
 }
 
 impl Model for Board {
@@ -47,7 +47,7 @@ impl Model for Board {
 
 impl Board {
     ghost use Rattle.bm_board.specs.Board.{IsWithinLimits, add_refusal, board_after, on_build, opening, result_on, start, with_build, with_ready};
-    ghost use Rattle.bm_board.specs.Job.{answer_of, cancel, finish, give_up, release, waits_for};
+    ghost use Rattle.bm_board.specs.ScheduledBuild.{answer_of, cancel, finish, give_up, release, waits_for};
 
     /// A board of workers with these many slots, none ready, and of locks with these maxima.
     pub fn new(alloc: Global, slots: &[u8], lock_max: &[u32]) -> Result<Board, AllocError>
@@ -57,7 +57,7 @@ impl Board {
     {
         let mut workers = Vec::with_capacity(alloc, slots.len())?;
         for n in slots {
-            workers.push(Worker {
+            workers.push(WorkerSlots {
                 slots: *n,
                 ready: false,
             })?;
@@ -115,7 +115,7 @@ impl Board {
         if id >= MOST_BUILDS {
             return Err((build, BoardRefusal::Full));
         }
-        let job = Job::new(*self.jobs.allocator(), build);
+        let job = ScheduledBuild::new(*self.jobs.allocator(), build);
         match self.jobs.push(job) {
             Ok(()) => Ok(id as u64),
             Err(failed) => Err((failed.value.into_build(), BoardRefusal::Mem)),
@@ -240,7 +240,7 @@ impl Board {
 }
 
 // Whether a worker with so many slots taken may run one build more.
-fn has_place(had: Worker, taken: u8) -> bool
+fn has_place(had: WorkerSlots, taken: u8) -> bool
     ensures place { result ≡ (had.ready && nat_lt taken had.slots) }
     ensures room { result ≡ true → taken + 1 < 2 ^ 8 }
 {

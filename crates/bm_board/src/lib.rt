@@ -4,20 +4,20 @@
 
 mod board;
 mod counts;
-mod job;
 mod listed;
 mod locks;
 mod outcomes;
 mod plan;
 mod refusal;
+mod scheduled_build;
 mod steps;
-mod worker;
+mod worker_slots;
 
 pub use board::Board;
-pub use job::{Phase, Started};
 pub use listed::{Copied, Listed};
 pub use outcomes::Outcomes;
 pub use plan::{Build, LockUse, LockUses, Mode, StepPlan, StepPlans, Words};
 pub use refusal::BoardRefusal;
+pub use scheduled_build::{Phase, Started};
 pub use steps::{Next, next_step};
-pub use worker::Worker;
+pub use worker_slots::WorkerSlots;

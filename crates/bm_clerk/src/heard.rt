@@ -4,7 +4,7 @@ ghost use Rattle.std.specs.Prelude.{◌≡◌, ◌+◌, ◌-◌, ◌^◌, fold, 
 ghost use Rattle.bm_lines.specs.Lines.{content_of};
 ghost use Rattle.bm_clerk.specs.Heard.{carried};
 
-use bm_lines::Part;
+use bm_lines::LogLines;
 use bm_session::{Body, Event};
 use std::alloc::{AllocError, Global};
 use std::sync::Arc;
@@ -29,7 +29,7 @@ pub(crate) struct Heard {
 
 /// How many bytes these parts of an update carry, as the web gives them: each line's letter, text
 /// and line end.
-fn carried(parts: &[Part]) -> u64
+fn carried(parts: &[LogLines]) -> u64
     ensures { result ≡ carried parts.now }
 {
     parts.iter().fold(0, |sum, part| more(sum, part.block.content().len() as u64))
@@ -74,7 +74,7 @@ impl Heard {
             _,
             Body::Update {
                 command,
-                parcel,
+                batch,
                 ..
             },
         ) = event
@@ -83,7 +83,7 @@ impl Heard {
         };
         for counted in self.counted.iter() {
             if counted.command == *command {
-                let bytes = carried(parcel.parts());
+                let bytes = carried(batch.parts());
                 counted.bytes.fetch_add(bytes, Ordering::SeqCst);
             }
         }

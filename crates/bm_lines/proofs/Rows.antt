@@ -1,10 +1,10 @@
 -- Worked examples, which compute.
 use Rattle.std.specs.Prelude.{◌≡◌, refl, List, [], ◌∷◌, codes, Some, None}
 use Rattle.bm_lines.specs.declared.letter.Letter.TheVariants.{O, E, H}
-use Rattle.bm_lines.specs.declared.parcel.Part.{Part}
+use Rattle.bm_lines.specs.declared.line_batch.LogLines.{LogLines}
 use Rattle.bm_lines.specs.Names.{stdio}
 use Rattle.bm_lines.specs.Lines.{lines_of, content_of}
-use Rattle.bm_lines.specs.Parcels.{with_item, blocks_under, block_under}
+use Rattle.bm_lines.specs.LineBatches.{with_item, blocks_under, block_under}
 
 -- "x\n\ny" is cut into three lines, the second of them empty
 empty_line_is_kept : lines_of E (120 ∷ 10 ∷ 10 ∷ 121 ∷ []) ≡ record { letter = E; text = codes "x" } ∷ record { letter = E; text = [] } ∷ record { letter = E; text = codes "y" } ∷ []
@@ -25,7 +25,7 @@ items_join_in_order : with_item stdio (lines_of E []) (with_item stdio (lines_of
 items_join_in_order = refl
 
 -- standard output "a\n", an item of the log stdio "s\n", standard error "b\n", and an item of the log l without a line
-abbrev four_items : List Part
+abbrev four_items : List LogLines
 four_items = with_item (codes "l") [] (with_item stdio (lines_of E (98 ∷ 10 ∷ [])) (with_item stdio (lines_of O (115 ∷ 10 ∷ [])) (with_item stdio (lines_of O (97 ∷ 10 ∷ [])) [])))
 
 named_item_joins_standard_output : blocks_under stdio four_items ≡ (record { letter = O; text = codes "a" } ∷ record { letter = O; text = codes "s" } ∷ record { letter = E; text = codes "b" } ∷ []) ∷ []

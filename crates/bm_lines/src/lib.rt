@@ -1,4 +1,4 @@
-//! Lines of command logs, the names of logs, and the parcels of lines that an update carries.
+//! Lines of command logs, the names of logs, and the batchs of lines that an update carries.
 //!
 //! A log of type `s` in the Buildbot manual is a list of lines, each behind a letter for the stream
 //! that it came from.
@@ -7,19 +7,19 @@
 mod block;
 mod content;
 mod letter;
+mod line_batch;
+mod line_batch_builder;
 mod log_name;
 mod name_table;
 mod one_line;
 mod one_or_many;
-mod parcel;
-mod parcel_builder;
 mod shared;
 mod text;
 
 pub use block::{Block, cut};
 pub use letter::Letter;
+pub use line_batch::{LineBatch, LogLines};
+pub use line_batch_builder::LineBatchBuilder;
 pub use log_name::{LogName, MOST_NAME_BYTES, STDIO};
 pub use name_table::{FEW_NAMES, NameTable};
-pub use parcel::{Parcel, Part};
-pub use parcel_builder::ParcelBuilder;
 pub use text::Text;

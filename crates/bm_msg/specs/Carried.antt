@@ -2,10 +2,10 @@
 use Rattle.std.specs.Prelude.{ℤ, List, [], ◌∷◌, Option, Some, None, fold}
 use Rattle.std.specs.Option.{option_or}
 use Rattle.bm_lines.specs.declared.letter.Letter.TheVariants.{O}
-use Rattle.bm_lines.specs.declared.parcel.Part.{Part}
+use Rattle.bm_lines.specs.declared.line_batch.Part.{Part}
 use Rattle.bm_lines.specs.Names.{stdio}
 use Rattle.bm_lines.specs.Lines.{lines_of}
-use Rattle.bm_lines.specs.Parcels.{with_item}
+use Rattle.bm_lines.specs.LineBatches.{with_item}
 use Rattle.bm_msg.specs.declared.field.Field.{Field}
 use Rattle.bm_msg.specs.declared.field.Field.TheVariants.{Text, Named, Rc}
 

@@ -10,7 +10,7 @@ use Rattle.bm_msg.specs.declared.fault.MsgError.{MsgError}
 use Rattle.bm_msg.specs.declared.fault.MsgError.TheVariants.{NotMap, NoSeq, NoOp, BadArgs}
 use Rattle.bm_msg.specs.declared.kind.Kind.{Kind}
 use Rattle.bm_msg.specs.declared.kind.Kind.TheVariants as kind
-use Rattle.bm_msg.specs.declared.items.Seen.{Seen}
+use Rattle.bm_msg.specs.declared.items.ReadItem.{ReadItem}
 use Rattle.bm_msg.specs.declared.field.Field.TheVariants.{Text, Named, Rc}
 use Rattle.bm_msg.specs.Items.{text_of, is_log_name, carried_by, fields_of}
 use Rattle.bm_msg.specs.Messages.{session_of, is_exception, result_of}
@@ -26,12 +26,12 @@ abbrev pub named_field : List ℕ → List ℕ → Option (List Field)
 named_field name s = if is_log_name name then Some (Named name s ∷ []) else None
 
 -- what an item tells, by texts that lie in the message
-abbrev pub seen : Seen → Option (List Field)
-seen (Seen.Text letter s) = Some (Text letter s.now ∷ [])
-seen (Seen.Named name s) = named_field name.now s.now
-seen (Seen.Rc z) = Some (Rc z ∷ [])
-seen Seen.Nothing = Some []
-seen Seen.Wrong = None
+abbrev pub seen : ReadItem → Option (List Field)
+seen (ReadItem.Text letter s) = Some (Text letter s.now ∷ [])
+seen (ReadItem.Named name s) = named_field name.now s.now
+seen (ReadItem.Rc z) = Some (Rc z ∷ [])
+seen ReadItem.Nothing = Some []
+seen ReadItem.Wrong = None
 
 abbrev pub kind_of : List ℕ → Kind
 kind_of op =

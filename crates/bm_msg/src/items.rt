@@ -15,7 +15,7 @@ use std::alloc::{AllocError, Allocator, Global};
 
 /// What an item tells, by texts that lie in the message.
 #[derive(Clone, Copy)]
-pub enum Seen<'a> {
+pub enum ReadItem<'a> {
     Text(Letter, &'a str),
     /// A name, which may be none of a log, and a text.
     Named(&'a str, &'a str),
@@ -46,41 +46,41 @@ fn text_of<A: Allocator>(value: &Value<A>) -> Option<&str>
     }
 }
 
-fn lettered<A: Allocator>(letter: Letter, value: &Value<A>) -> Seen<'_>
+fn lettered<A: Allocator>(letter: Letter, value: &Value<A>) -> ReadItem<'_>
     ensures { seen result ≡ lettered letter (tree value.now) }
 {
     match text_of(value) {
-        Some(text) => Seen::Text(letter, text),
-        None => Seen::Wrong,
+        Some(text) => ReadItem::Text(letter, text),
+        None => ReadItem::Wrong,
     }
 }
 
 /// An item of a named log: the name and the text.
-fn log_item<'a, A: Allocator>(name: &'a Value<A>, value: &'a Value<A>) -> Seen<'a>
+fn log_item<'a, A: Allocator>(name: &'a Value<A>, value: &'a Value<A>) -> ReadItem<'a>
     ensures { seen result ≡ log_item (tree name.now) (tree value.now) }
 {
     let Some(name) = str_of(name) else {
-        return Seen::Wrong;
+        return ReadItem::Wrong;
     };
     match text_of(value) {
-        Some(text) => Seen::Named(name, text),
-        None => Seen::Wrong,
+        Some(text) => ReadItem::Named(name, text),
+        None => ReadItem::Wrong,
     }
 }
 
-fn named<A: Allocator>(value: &Value<A>) -> Seen<'_>
+fn named<A: Allocator>(value: &Value<A>) -> ReadItem<'_>
     ensures { seen result ≡ named (tree value.now) }
 {
     let Value::Array(items) = value else {
-        return Seen::Wrong;
+        return ReadItem::Wrong;
     };
     match items.vec.as_slice() {
         [name, value, ..] => log_item(name, value),
-        _ => Seen::Wrong,
+        _ => ReadItem::Wrong,
     }
 }
 
-fn carried_by<'a, A: Allocator>(name: &str, value: &'a Value<A>) -> Seen<'a>
+fn carried_by<'a, A: Allocator>(name: &str, value: &'a Value<A>) -> ReadItem<'a>
     ensures { seen result ≡ carried_by name.now (tree value.now) }
 {
     match name {
@@ -89,32 +89,32 @@ fn carried_by<'a, A: Allocator>(name: &str, value: &'a Value<A>) -> Seen<'a>
         "header" => lettered(Letter::H, value),
         "log" => named(value),
         "rc" => match value {
-            Value::Int(n) => Seen::Rc(*n),
-            _ => Seen::Nothing,
+            Value::Int(n) => ReadItem::Rc(*n),
+            _ => ReadItem::Nothing,
         },
-        _ => Seen::Nothing,
+        _ => ReadItem::Nothing,
     }
 }
 
 /// An item of an update: its name and value.
-fn item_parts<'a, A: Allocator>(name: &Value<A>, value: &'a Value<A>) -> Seen<'a>
+fn item_parts<'a, A: Allocator>(name: &Value<A>, value: &'a Value<A>) -> ReadItem<'a>
     ensures { seen result ≡ item_parts (tree name.now) (tree value.now) }
 {
     match str_of(name) {
         Some(name) => carried_by(name, value),
-        None => Seen::Wrong,
+        None => ReadItem::Wrong,
     }
 }
 
-fn seen_in<A: Allocator>(item: &Value<A>) -> Seen<'_>
+fn seen_in<A: Allocator>(item: &Value<A>) -> ReadItem<'_>
     ensures { seen result ≡ item_fields (tree item.now) }
 {
     let Value::Array(parts) = item else {
-        return Seen::Wrong;
+        return ReadItem::Wrong;
     };
     let parts = parts.vec.as_slice();
     if parts.len() != 2 {
-        return Seen::Wrong;
+        return ReadItem::Wrong;
     }
     item_parts(&parts[0], &parts[1])
 }
@@ -124,9 +124,9 @@ fn is_wrong<A: Allocator>(item: &Value<A>) -> bool
     ensures { result ≡ is_none (item_fields (tree item.now)) }
 {
     match seen_in(item) {
-        Seen::Named(name, _) => !is_log_name(name),
-        Seen::Text(..) | Seen::Rc(_) | Seen::Nothing => false,
-        Seen::Wrong => true,
+        ReadItem::Named(name, _) => !is_log_name(name),
+        ReadItem::Text(..) | ReadItem::Rc(_) | ReadItem::Nothing => false,
+        ReadItem::Wrong => true,
     }
 }
 
@@ -154,16 +154,16 @@ fn own_named(alloc: Global, name: &str, text: &str) -> Result<Field, AllocError>
 }
 
 /// What an item carries, with texts of its own.
-fn own(alloc: Global, item: Seen) -> Result<Option<Field>, AllocError>
+fn own(alloc: Global, item: ReadItem) -> Result<Option<Field>, AllocError>
     requires { IsSome (seen item) }
     ensures { IfOk result (λ f. carries f ≡ seen item.entry) }
 {
     match item {
-        Seen::Text(letter, text) => Ok(Some(Field::Text(letter, Text::from_str(alloc, text)?))),
-        Seen::Named(name, text) => Ok(Some(own_named(alloc, name, text)?)),
-        Seen::Rc(code) => Ok(Some(Field::Rc(code))),
-        Seen::Nothing => Ok(None),
-        Seen::Wrong => unreachable!("of the kind that its name asks for"),
+        ReadItem::Text(letter, text) => Ok(Some(Field::Text(letter, Text::from_str(alloc, text)?))),
+        ReadItem::Named(name, text) => Ok(Some(own_named(alloc, name, text)?)),
+        ReadItem::Rc(code) => Ok(Some(Field::Rc(code))),
+        ReadItem::Nothing => Ok(None),
+        ReadItem::Wrong => unreachable!("of the kind that its name asks for"),
     }
 }
 
@@ -195,7 +195,7 @@ pub fn fields<A: Allocator>(alloc: Global, items: &Items<A>) -> Result<Option<Fi
 }
 
 /// What the item of an update that has just one tells.
-pub fn only_item<A: Allocator>(items: &Items<A>) -> Option<Seen<'_>>
+pub fn only_item<A: Allocator>(items: &Items<A>) -> Option<ReadItem<'_>>
     ensures some { IfSome result (λ s. seen s ≡ fields_of (items_tree items.now)) }
     ensures none { IfNone result ((only : Tree) → ¬ (items_tree items.now ≡ item only none)) }
 {

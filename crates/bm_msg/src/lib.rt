@@ -9,6 +9,7 @@
 mod fault;
 mod field;
 mod incoming;
+mod item_writing;
 mod items;
 mod keys;
 mod kind;

@@ -12,12 +12,15 @@ use crate::request::Request;
 use bm_lines::Text;
 use bm_value::{is_short, nests_within};
 
+/// How deep what stands in a message may nest: a message is a map, and takes one of the 32 levels.
+const INNER_DEPTH: u32 = 31;
+
 /// Whether a request's args nest no deeper than a map with them may.
 fn args_nest(request: &Request) -> bool
     ensures { IsTrue result ↔ (args_depth (asked request.now) ≤ 31) }
 {
     match request {
-        Request::StartCommand { args, .. } => nests_within(args, 31),
+        Request::StartCommand { args, .. } => nests_within(args, INNER_DEPTH),
         _ => true,
     }
 }
@@ -88,7 +91,7 @@ fn parts_nest(message: Outgoing) -> bool
 {
     match message {
         Outgoing::Request(message) => args_nest(&message.request),
-        Outgoing::Response(message) => nests_within(&message.result, 31),
+        Outgoing::Response(message) => nests_within(&message.result, INNER_DEPTH),
     }
 }
 

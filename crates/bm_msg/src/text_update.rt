@@ -8,7 +8,7 @@ ghost use Rattle.bm_msg.specs.Messages.{IsMessage};
 ghost use Rattle.bm_msg.specs.Reading.{items_at, seen};
 ghost use Rattle.bm_msg.specs.Updates.{says, IsTextUpdate};
 
-use crate::items::{Seen, only_item};
+use crate::items::{ReadItem, only_item};
 use crate::keys::{command_at, number_at, text_at};
 use bm_lines::Letter;
 use bm_value::Value;
@@ -24,7 +24,7 @@ pub struct TextUpdate<'a> {
 }
 
 /// The only item of an update.
-fn item_at<A: Allocator>(message: &Value<A>) -> Option<Seen<'_>>
+fn item_at<A: Allocator>(message: &Value<A>) -> Option<ReadItem<'_>>
     ensures some { IfSome result (λ s. seen s ≡ items_at (tree message.now)) }
     ensures none { IfNone result ((only : Tree)
         → ¬ (field (tree message.now) (codes "args") ≡ Some (array (item only none)))) }
@@ -49,12 +49,13 @@ pub fn read_text<A: Allocator>(message: &Value<A>) -> Option<TextUpdate<'_>>
     }
     let command = command_at(message)?;
     match item_at(message) {
-        Some(Seen::Text(letter, text)) => Some(TextUpdate {
+        Some(ReadItem::Text(letter, text)) => Some(TextUpdate {
             seq,
             command,
             letter,
             text,
         }),
-        Some(Seen::Named(..) | Seen::Rc(_) | Seen::Nothing | Seen::Wrong) | None => None,
+        Some(ReadItem::Named(..) | ReadItem::Rc(_) | ReadItem::Nothing | ReadItem::Wrong) | None =>
+            None,
     }
 }

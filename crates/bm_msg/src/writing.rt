@@ -4,19 +4,19 @@ ghost use Rattle.std.specs.Prelude.{◌≡◌, ◌<◌, ◌≤◌, ◌^◌, ◌�
 ghost use Rattle.std.specs.Option.{option_copied};
 ghost use Rattle.bm_value.specs.Decoding.{IsReadBack};
 ghost use Rattle.bm_value.specs.Limits.{IsShort};
-ghost use Rattle.bm_value.specs.Tree.{depth, str, int, array, dict};
-ghost use Rattle.bm_value.specs.View.{tree, trees_of, pairs_of, pair_tree};
+ghost use Rattle.bm_value.specs.Tree.{depth, str, int, dict};
+ghost use Rattle.bm_value.specs.View.{tree, pairs_of, pair_tree};
 ghost use Rattle.bm_value.specs.Writing.{written};
 ghost use Rattle.bm_msg.specs.Meaning.{asked, auth, start_command, response, request_of, response_of};
-ghost use Rattle.bm_msg.specs.Trees.{at, two, item_of, stream_of, op_of, session_key, fault_tree, command_key, keys_of, exception_key, tree_of, answer, answer_bytes};
+ghost use Rattle.bm_msg.specs.Trees.{at, op_of, session_key, fault_tree, command_key, keys_of, exception_key, tree_of, answer, answer_bytes};
 ghost use Rattle.bm_msg.specs.Limits.{outgoing_tree};
 
-use crate::field::{Field, Fields};
+use crate::item_writing::items;
 use crate::limits::{is_short_message, message_nests};
 use crate::message::{Numbered, Outgoing, Response};
 use crate::request::Request;
-use bm_lines::{Letter, Text};
-use bm_value::{EncodeError, Items, Num, Pair, Pairs, Text as Str, Value, encode};
+use bm_lines::Text;
+use bm_value::{EncodeError, Num, Pair, Pairs, Value, ValueText, encode};
 use std::alloc::{AllocError, Global};
 
 /// Appends a key and its value. After want of memory the value is gone.
@@ -47,60 +47,6 @@ fn first_keys(alloc: Global, seq: u64, op: &str) -> Result<Vec<Pair<Global>>, Al
     Ok(keys)
 }
 
-/// An array of two.
-fn two(
-    alloc: Global,
-    first: Value<Global>,
-    second: Value<Global>,
-) -> Result<Value<Global>, AllocError>
-    ensures { IfOk result (λ v. tree v ≡ two (tree first) (tree second)) }
-{
-    let mut vec = Vec::with_capacity(alloc, 2)?;
-    vec.push(first)?;
-    vec.push(second)?;
-    Ok(Value::Array(Items { vec }))
-}
-
-fn item(alloc: Global, field: &Field) -> Result<Value<Global>, AllocError>
-    ensures { IfOk result (λ v. tree v ≡ item_of field.now) }
-{
-    match field {
-        Field::Text(letter, said) => {
-            let name = match letter {
-                Letter::O => "stdout",
-                Letter::E => "stderr",
-                Letter::H => "header",
-            };
-            two(
-                alloc,
-                Value::from_str(alloc, name)?,
-                Value::from_str(alloc, said.as_str())?,
-            )
-        }
-        Field::Named(name, said) => {
-            let named = two(
-                alloc,
-                Value::from_str(alloc, name.as_str())?,
-                Value::from_str(alloc, said.as_str())?,
-            )?;
-            two(alloc, Value::from_str(alloc, "log")?, named)
-        }
-        Field::Rc(n) => two(alloc, Value::from_str(alloc, "rc")?, Value::Int(*n)),
-    }
-}
-
-/// The items of an update.
-fn items(alloc: Global, fields: &Fields) -> Result<Value<Global>, AllocError>
-    ensures { IfOk result (λ v. tree v ≡ array (trees_of (map item_of fields.now))) }
-{
-    let fields = fields.as_slice();
-    let mut vec = Vec::with_capacity(alloc, fields.len())?;
-    for field in fields {
-        vec.push(item(alloc, field)?)?;
-    }
-    Ok(Value::Array(Items { vec }))
-}
-
 fn command_key(alloc: Global, keys: &mut Vec<Pair<Global>>, command: u64) -> Result<(), AllocError>
     ensures { OnOk result (map pair_tree keys.new.items
         ≡ map pair_tree keys.old.items ++ command_key command ∷ []) }
@@ -110,7 +56,7 @@ fn command_key(alloc: Global, keys: &mut Vec<Pair<Global>>, command: u64) -> Res
         alloc,
         keys,
         "command_id",
-        Value::Str(Str::from_string(number)),
+        Value::Str(ValueText::from_string(number)),
     )
 }
 

@@ -3,14 +3,14 @@ use Rattle.std.proofs.Common.{◌≡◌, refl, ◌∙◌, ap, ℕ, true, false, 
 use Rattle.std.specs.Prelude.{slice_get, option_map, bytes_eq}
 use Rattle.std.proofs.lemmas.List.{append-nil}
 use Rattle.bm_lines.specs.Names.{Name, stdio}
-use Rattle.bm_lines.specs.Parcels.{blocks_under}
+use Rattle.bm_lines.specs.LineBatches.{blocks_under}
 use Rattle.bm_session.proofs.Pushed.{next, blocks-push}
 use Rattle.bm_session.proofs.Taken.{and-left, and-right}
 use Rattle.bm_session.proofs.Visible.{same-arms}
 use Rattle.bm_session.specs.declared.event.Event.{Event}
 use Rattle.bm_session.specs.declared.event.Event.TheVariants.{Up, In, Go, Stop, Cut, Down}
 use Rattle.bm_session.specs.declared.event.Body.TheVariants.{Answered}
-use Rattle.bm_session.specs.Events.{parcel_of}
+use Rattle.bm_session.specs.Events.{batch_of}
 use Rattle.bm_session.specs.Trace.{Trace, updates, blocks, joined}
 use Rattle.bm_work.specs.Stream.{Report, text, code, over}
 use Rattle.bm_world.specs.declared.step.Step.TheVariants.{Hear, Drain, Look}
@@ -19,19 +19,19 @@ use Rattle.bm_replay.specs.Laws.{OtherLogsAreEmpty}
 use Rattle.bm_replay.proofs.Acts.{hear-cases, drain-keeps}
 
 -- an event that carries nothing under the name
-empty-push : (t : Trace) (e : Event) (k : ℕ) (name : Name) → blocks_under name (parcel_of e) ≡ [] → blocks t k name ≡ [] → blocks (t ++ e ∷ []) k name ≡ []
+empty-push : (t : Trace) (e : Event) (k : ℕ) (name : Name) → blocks_under name (batch_of e) ≡ [] → blocks t k name ≡ [] → blocks (t ++ e ∷ []) k name ≡ []
 empty-push t e k name none old =
     blocks-push t e k name
     ∙ ap (λ bs. blocks t k name ++ cond (updates k (next t e)) bs []) none
     ∙ ap (λ bs. blocks t k name ++ bs) (same-arms (updates k (next t e)) [])
     ∙ append-nil (blocks t k name) ∙ old
 
-request-empty : (n : ℕ) (r : Report) (name : Name) → bytes_eq stdio name ≡ false → blocks_under name (parcel_of (as_heard n r)) ≡ []
+request-empty : (n : ℕ) (r : Report) (name : Name) → bytes_eq stdio name ≡ false → blocks_under name (batch_of (as_heard n r)) ≡ []
 request-empty n (text k letter t) name h = rw h refl
 request-empty n (code k z) name h = refl
 request-empty n (over k fault) name h = refl
 
-hears-empty : (s : Scene) (e : Event) (k : ℕ) (name : Name) → blocks_under name (parcel_of e) ≡ [] → blocks s.lane.trace k name ≡ [] → blocks (lane_after s.lane (Some (Hear e))).trace k name ≡ []
+hears-empty : (s : Scene) (e : Event) (k : ℕ) (name : Name) → blocks_under name (batch_of e) ≡ [] → blocks s.lane.trace k name ≡ [] → blocks (lane_after s.lane (Some (Hear e))).trace k name ≡ []
 hears-empty s e k name none old = hear-cases s.lane e (λ t. blocks t k name ≡ []) old (λ a. empty-push s.lane.trace e k name none old)
 
 delivers-empty : (s : Scene) (n k : ℕ) (name : Name) → bytes_eq stdio name ≡ false → blocks s.lane.trace k name ≡ [] → (o : Option Report)

@@ -10,8 +10,8 @@ use Rattle.bm_session.specs.declared.event.Event.TheVariants.{Up, In, Stop, Cut,
 use Rattle.bm_session.specs.declared.event.Body.TheVariants.{Answered}
 use Rattle.bm_lines.specs.Lines.{Line}
 use Rattle.bm_lines.specs.Names.{stdio}
-use Rattle.bm_lines.specs.Parcels.{blocks_under}
-use Rattle.bm_session.specs.Events.{is_go, is_down_event, is_complete_of, is_update_of, parcel_of}
+use Rattle.bm_lines.specs.LineBatches.{blocks_under}
+use Rattle.bm_session.specs.Events.{is_go, is_down_event, is_complete_of, is_update_of, batch_of}
 use mathlib.Core.List.{IsPrefix}
 use Rattle.bm_session.specs.Trace.{Trace, begins_session, starts, refuses, commands, ends_at, is_open, is_up, is_cut, is_new, is_fresh, log, joined, was_taken, refusal}
 use Rattle.bm_work.specs.Stream.{said}
@@ -30,7 +30,7 @@ taken-next t e h r = was_taken-push t e ∙ ap (λ b. b && is_none (refusal t e)
 pub log-stays : (t : Trace) (e : Event) (k : ℕ) → is_fresh (next t e) ≡ false → log (t ++ e ∷ []) k stdio ≡ log t k stdio
 log-stays t e k h =
     log-push t e k stdio
-    ∙ ap (λ b. log t k stdio ++ joined (cond (b && is_update_of k e && is_open t k) (blocks_under stdio (parcel_of e)) [])) h
+    ∙ ap (λ b. log t k stdio ++ joined (cond (b && is_update_of k e && is_open t k) (blocks_under stdio (batch_of e)) [])) h
     ∙ append-nil (log t k stdio)
 
 pub nothing-ends : (a d f q r : Bool) → d ≡ false → (f && q) ≡ false → r ≡ false → (a && (d || (f && q) || r)) ≡ false

@@ -12,8 +12,8 @@ use Rattle.bm_session.proofs.Visible.{same-arms}
 use Rattle.bm_session.specs.declared.event.Event.{Event}
 use Rattle.bm_lines.specs.Lines.{Line, lines_of}
 use Rattle.bm_lines.specs.Names.{stdio}
-use Rattle.bm_lines.specs.Parcels.{blocks_under}
-use Rattle.bm_session.specs.Events.{is_go, is_down_event, is_request, request_number, is_complete_of, is_update_of, parcel_of}
+use Rattle.bm_lines.specs.LineBatches.{blocks_under}
+use Rattle.bm_session.specs.Events.{is_go, is_down_event, is_request, request_number, is_complete_of, is_update_of, batch_of}
 use mathlib.Core.List.{IsPrefix}
 use Rattle.bm_session.specs.Trace.{Trace, begins_session, updates, starts, refuses, commands, ends_at, is_open, is_up, is_cut, is_new, is_new_number, is_fresh, log, joined, refusal}
 use Rattle.bm_work.specs.Stream.{Report, text, code, over, said}
@@ -193,6 +193,6 @@ takes-next f t w r g a s = record {
         stays : log (t ++ as_heard (requests_taken t) r ∷ []) k stdio ≡ log t k stdio
         stays =
             log-push t (as_heard (requests_taken t) r) k stdio
-            ∙ ap (λ b. log t k stdio ++ joined (cond (is_fresh (next t (as_heard (requests_taken t) r)) && is_update_of k (as_heard (requests_taken t) r) && b) (blocks_under stdio (parcel_of (as_heard (requests_taken t) r))) [])) (closed (is_open t k) refl)
-            ∙ ap (λ b. log t k stdio ++ joined (cond b (blocks_under stdio (parcel_of (as_heard (requests_taken t) r))) [])) (and-false (is_fresh (next t (as_heard (requests_taken t) r)) && is_update_of k (as_heard (requests_taken t) r)))
+            ∙ ap (λ b. log t k stdio ++ joined (cond (is_fresh (next t (as_heard (requests_taken t) r)) && is_update_of k (as_heard (requests_taken t) r) && b) (blocks_under stdio (batch_of (as_heard (requests_taken t) r))) [])) (closed (is_open t k) refl)
+            ∙ ap (λ b. log t k stdio ++ joined (cond b (blocks_under stdio (batch_of (as_heard (requests_taken t) r))) [])) (and-false (is_fresh (next t (as_heard (requests_taken t) r)) && is_update_of k (as_heard (requests_taken t) r)))
             ∙ append-nil (log t k stdio)

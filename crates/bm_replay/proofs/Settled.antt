@@ -8,14 +8,14 @@ use Rattle.std.proofs.lemmas.List.Concat.{flat_map-append}
 use Rattle.std.proofs.lemmas.List.Sums.{fold-append}
 use Rattle.bm_lines.specs.Lines.{Line}
 use Rattle.bm_lines.specs.Names.{stdio}
-use Rattle.bm_lines.specs.Parcels.{blocks_under}
+use Rattle.bm_lines.specs.LineBatches.{blocks_under}
 use Rattle.bm_session.proofs.Snoc.{and-false}
 use Rattle.bm_session.proofs.Pushed.{next, commands-push, log-push}
 use Rattle.bm_session.proofs.Taken.{and-left, and-right, none-from}
 use Rattle.bm_session.specs.declared.event.Event.{Event}
 use Rattle.bm_session.specs.declared.event.Event.TheVariants.{Up}
 use Rattle.bm_session.specs.declared.refusal.Refusal.{Refusal}
-use Rattle.bm_session.specs.Events.{is_go, is_update_of, parcel_of}
+use Rattle.bm_session.specs.Events.{is_go, is_update_of, batch_of}
 use Rattle.bm_session.specs.Trace.{Trace, begins_session, commands, is_fresh, is_cut, is_open, was_taken, joined, log, refusal}
 use Rattle.bm_work.specs.declared.sent.Finish.TheVariants.{Rc, Fault}
 use Rattle.bm_work.specs.Stream.{text, said}
@@ -39,8 +39,8 @@ record IsSettled (t : Trace) (k : ℕ) (ls : List Line) : Type 0 where
 closed-stays : (t : Trace) (e : Event) (k : ℕ) → is_open t k ≡ false → log (t ++ e ∷ []) k stdio ≡ log t k stdio
 closed-stays t e k h =
     log-push t e k stdio
-    ∙ ap (λ b. log t k stdio ++ joined (cond (is_fresh (next t e) && is_update_of k e && b) (blocks_under stdio (parcel_of e)) [])) h
-    ∙ ap (λ b. log t k stdio ++ joined (cond b (blocks_under stdio (parcel_of e)) [])) (and-false (is_fresh (next t e) && is_update_of k e))
+    ∙ ap (λ b. log t k stdio ++ joined (cond (is_fresh (next t e) && is_update_of k e && b) (blocks_under stdio (batch_of e)) [])) h
+    ∙ ap (λ b. log t k stdio ++ joined (cond b (blocks_under stdio (batch_of e)) [])) (and-false (is_fresh (next t e) && is_update_of k e))
     ∙ append-nil (log t k stdio)
 
 settled-push : (t : Trace) (e : Event) (k : ℕ) (ls : List Line) → was_taken t ≡ true → IsSettled t k ls → IsSettled (t ++ e ∷ []) k ls

@@ -5,7 +5,7 @@ use Rattle.std.specs.Option.{option_map_or, option_to_list}
 use Rattle.std.proofs.lemmas.Option.{slice_get_past}
 use Rattle.bm_lane.specs.Ends.{Watched}
 use Rattle.bm_board.specs.declared.refusal.BoardRefusal.TheVariants.{NoBuild}
-use Rattle.bm_board.specs.Job.{result_in}
+use Rattle.bm_board.specs.ScheduledBuild.{result_in}
 use Rattle.bm_board.specs.Board.{Standing}
 use Rattle.bm_roster.specs.Benches.{Benched, IsTaken}
 use Rattle.bm_roster.specs.Roster.{HasResult, IsOver}

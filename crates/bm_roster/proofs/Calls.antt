@@ -6,15 +6,15 @@ use Rattle.std.specs.Result.{is_ok}
 use Rattle.std.proofs.lemmas.Bool.{true≢false}
 use Rattle.std.proofs.lemmas.Option.{slice_get_within}
 use Rattle.bm_session.specs.declared.results.Results.{Results}
-use Rattle.bm_board.specs.declared.job.Phase.{Phase}
-use Rattle.bm_board.specs.declared.job.Phase.TheVariants.{Waiting, Running, Over}
-use Rattle.bm_board.specs.declared.job.Started.{Started}
+use Rattle.bm_board.specs.declared.scheduled_build.Phase.{Phase}
+use Rattle.bm_board.specs.declared.scheduled_build.Phase.TheVariants.{Waiting, Running, Over}
+use Rattle.bm_board.specs.declared.scheduled_build.Started.{Started}
 use Rattle.bm_board.specs.declared.steps.Next.{Next}
 use Rattle.bm_board.specs.declared.steps.Next.TheVariants.{Step, Ended}
-use Rattle.bm_board.specs.declared.worker.Worker.{Worker}
+use Rattle.bm_board.specs.declared.worker_slots.Worker.{Worker}
 use Rattle.bm_board.specs.declared.refusal.BoardRefusal.{BoardRefusal}
 use Rattle.bm_board.specs.declared.refusal.BoardRefusal.TheVariants.{NoBuild}
-use Rattle.bm_board.specs.Job.{Course, Outcome, answer_of, cancel, cancel_in, finish, finish_in, first_of, give_up, give_up_in, is_waiting, is_holding, phase_of, release, release_in, started}
+use Rattle.bm_board.specs.ScheduledBuild.{Course, Outcome, answer_of, cancel, cancel_in, finish, finish_in, first_of, give_up, give_up_in, is_waiting, is_holding, phase_of, release, release_in, started}
 use Rattle.bm_board.specs.Board.{Standing, board_after, has_place, is_free, on_build, start}
 use Rattle.bm_board.proofs.Starting.{chosen, started_holds, waiting_holds_none}
 use Rattle.bm_roster.specs.Counted.{IsCounted, IsOneMore, worker_of}

@@ -6,8 +6,8 @@ use Rattle.std.proofs.lemmas.Option.{slice_get_within, get_or_from_slice_get}
 use Rattle.std.proofs.lemmas.List.{length-set}
 use Rattle.std.proofs.lemmas.List.Sums.{count_by-le-length, sum_by-cons}
 use Rattle.std.proofs.Math.Seq.{map-set_same}
-use Rattle.bm_board.specs.declared.job.Phase.{Phase}
-use Rattle.bm_board.specs.Job.{Course, is_waiting, is_holding, waiting}
+use Rattle.bm_board.specs.declared.scheduled_build.Phase.{Phase}
+use Rattle.bm_board.specs.ScheduledBuild.{Course, is_waiting, is_holding, waiting}
 use Rattle.bm_board.specs.Board.{Standing, most_builds}
 use Rattle.bm_board.proofs.Places.{with_job}
 use Rattle.bm_board.proofs.Keeping.{count_by-set}

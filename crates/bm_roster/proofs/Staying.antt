@@ -4,11 +4,11 @@ use Rattle.std.specs.List.{slice_get}
 use Rattle.std.specs.Option.{option_map_or, is_some}
 use Rattle.std.proofs.lemmas.Bool.{cond-false, true≢false}
 use Rattle.bm_session.specs.declared.results.Results.{Results}
-use Rattle.bm_board.specs.declared.job.Phase.{Phase}
-use Rattle.bm_board.specs.declared.job.Phase.TheVariants.{Waiting, Running, Over}
+use Rattle.bm_board.specs.declared.scheduled_build.Phase.{Phase}
+use Rattle.bm_board.specs.declared.scheduled_build.Phase.TheVariants.{Waiting, Running, Over}
 use Rattle.bm_board.specs.declared.refusal.BoardRefusal.{BoardRefusal}
 use Rattle.bm_board.specs.declared.refusal.BoardRefusal.TheVariants.{NoBuild}
-use Rattle.bm_board.specs.Job.{Course, Outcome, job_after, is_waiting, result_in, finish, finish_in, cancel, cancel_in, release, release_in, give_up, give_up_in}
+use Rattle.bm_board.specs.ScheduledBuild.{Course, Outcome, job_after, is_waiting, result_in, finish, finish_in, cancel, cancel_in, release, release_in, give_up, give_up_in}
 use Rattle.bm_board.specs.Board.{Standing, board_after, on_build, start, result_on}
 use Rattle.bm_roster.specs.Roster.{after_step}
 use Rattle.bm_roster.specs.Laws.{ResultsStay}

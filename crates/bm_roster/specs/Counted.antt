@@ -3,7 +3,7 @@
 use Rattle.std.specs.Prelude.{◌≡◌, ◌≤◌, ◌+◌, ℕ, ◌==◌, if◌then◌else◌, List, length, map, count_by, slice_get, slice_index}
 use Rattle.std.specs.Option.{option_map_or}
 use Rattle.bm_board.specs.Board.{Standing, most_builds, occupied}
-use Rattle.bm_board.specs.Job.{waits_for}
+use Rattle.bm_board.specs.ScheduledBuild.{waits_for}
 
 -- of each build its worker, and of each worker how many builds wait for it and hold a slot of it
 pub record IsCounted (b : Standing) (owners waiting running : List ℕ) : Type 0 where

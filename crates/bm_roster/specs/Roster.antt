@@ -7,11 +7,11 @@ use Rattle.std.specs.Result.{is_ok}
 use Rattle.bm_session.specs.declared.results.Results.{Results}
 use Rattle.bm_board.specs.declared.plan.StepPlan.{StepPlan}
 use Rattle.bm_board.specs.declared.plan.Build.{Build}
-use Rattle.bm_board.specs.declared.job.Started.{Started}
+use Rattle.bm_board.specs.declared.scheduled_build.Started.{Started}
 use Rattle.bm_board.specs.declared.refusal.BoardRefusal.{BoardRefusal}
 use Rattle.bm_roster.specs.Benches.{Benched}
 use Rattle.bm_roster.specs.Counted.{worker_of}
-use Rattle.bm_board.specs.Job.{answer_of, cancel, finish, give_up, release, waits_for}
+use Rattle.bm_board.specs.ScheduledBuild.{answer_of, cancel, finish, give_up, release, waits_for}
 use Rattle.bm_board.specs.Board.{Standing, board_after, occupies, on_build, start, result_on}
 
 -- its board, the viewers that no build has, and whether memory was wanting for the last start

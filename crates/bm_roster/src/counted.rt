@@ -1,7 +1,7 @@
 //! A board, and what its builds want of each worker.
 ghost use Rattle.std.specs.Prelude.{◌≡◌, ◌⊎◌, ◌<◌, ◌≤◌, ◌+◌, ◌^◌, All, IfErr, IfOk, IsOk, OnErr, OnOk, Err, Some, length, position, slice_index};
 ghost use Rattle.bm_board.specs.Board.{add_refusal, on_build, opening, result_on, start, with_build, with_ready};
-ghost use Rattle.bm_board.specs.Job.{answer_of, cancel, give_up, waits_for};
+ghost use Rattle.bm_board.specs.ScheduledBuild.{answer_of, cancel, give_up, waits_for};
 ghost use Rattle.bm_roster.specs.Roster.{CanStart, IsStarted, after_cancel, after_end, after_giving_up, has_build, is_wanted};
 ghost use Rattle.bm_roster.specs.Counted.{IsOneMore, worker_of};
 

@@ -3,7 +3,7 @@ ghost use Rattle.std.specs.Prelude.{◌≡◌, ◌⊎◌, ◌<◌, ◌≤◌, �
 ghost use Rattle.bm_roster.specs.Roster.{AreResults, CanStart, IsOver, IsStarted, LacksResult, after_end, after_cancel, after_giving_up, can_start, has_build, has_viewer, is_wanted, on_board, with_board};
 ghost use Rattle.bm_roster.specs.Benches.{IsGiven, IsTaken};
 ghost use Rattle.bm_roster.specs.Cancels.{met_by};
-ghost use Rattle.bm_board.specs.Job.{answer_of, cancel, waits_for};
+ghost use Rattle.bm_board.specs.ScheduledBuild.{answer_of, cancel, waits_for};
 ghost use Rattle.bm_board.specs.Board.{add_refusal, on_build, opening, result_on, with_build, with_ready};
 
 use crate::bench::Bench;

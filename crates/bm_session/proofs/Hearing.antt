@@ -24,9 +24,9 @@ use Rattle.bm_session.specs.declared.reply.Reply.TheVariants.{Answer}
 use Rattle.bm_session.specs.declared.results.Results.{Results}
 use Rattle.bm_session.specs.declared.item.Item.TheVariants.{End}
 use Rattle.bm_session.specs.declared.seen.Seen.{Seen}
-use Rattle.bm_session.specs.declared.table.Open.{Open}
+use Rattle.bm_session.specs.declared.open.Open.{Open}
 use Rattle.bm_session.specs.declared.table.Table.{Table}
-use Rattle.bm_lines.specs.declared.parcel.Part.{Part}
+use Rattle.bm_lines.specs.declared.line_batch.LogLines.{LogLines}
 use Rattle.bm_session.specs.Events.{is_fault, is_request, is_stop_of, rc_of}
 use Rattle.bm_session.specs.Seen.{verdict_in}
 use Rattle.bm_session.specs.Ranges.{HoldsAlso}
@@ -35,11 +35,11 @@ use Rattle.bm_session.specs.Table.{IsTable, start_order, open_entry, outcome_fro
 
 -- An exit code
 
-entry-Update : (t : Trace) (n j : ℕ) (parcel : List Part) (z : ℤ) (k : ℕ) → is_new t n ≡ true → is_open t k ≡ true
-    → with_told j (result_of_rc (Some z)) (open_entry t k) ≡ open_entry (t ++ In n (Update j parcel (Some z)) ∷ []) k
-entry-Update t n j parcel z k new o =
-    sym (entry-push t (In n (Update j parcel (Some z))) k (open-is-started t k o)
-    ∙ ap (λ b. entry k (start_order t k) b (result_of_rc (option_or (cond (updates k (next t (In n (Update j parcel (Some z))))) (Some z) None) (last_rc t k)))) (or-false (list_any (is_stop_of k) t))
+entry-Update : (t : Trace) (n j : ℕ) (batch : List LogLines) (z : ℤ) (k : ℕ) → is_new t n ≡ true → is_open t k ≡ true
+    → with_told j (result_of_rc (Some z)) (open_entry t k) ≡ open_entry (t ++ In n (Update j batch (Some z)) ∷ []) k
+entry-Update t n j batch z k new o =
+    sym (entry-push t (In n (Update j batch (Some z))) k (open-is-started t k o)
+    ∙ ap (λ b. entry k (start_order t k) b (result_of_rc (option_or (cond (updates k (next t (In n (Update j batch (Some z))))) (Some z) None) (last_rc t k)))) (or-false (list_any (is_stop_of k) t))
     ∙ ap (λ b. entry k (start_order t k) (list_any (is_stop_of k) t) (result_of_rc (option_or (cond (b && (j == k) && is_open t k) (Some z) None) (last_rc t k)))) new
     ∙ ap (λ b. entry k (start_order t k) (list_any (is_stop_of k) t) (result_of_rc (option_or (cond ((j == k) && b) (Some z) None) (last_rc t k)))) o
     ∙ ap (λ b. entry k (start_order t k) (list_any (is_stop_of k) t) (result_of_rc (option_or (cond b (Some z) None) (last_rc t k)))) (and-true (j == k))
@@ -49,18 +49,18 @@ entry-Update t n j parcel z k new o =
     go true = refl
     go false = refl
 
-pub heard-code : (tb tb' : Table) (t : Trace) (n j : ℕ) (parcel : List Part) (z : ℤ) → IsTable tb t → is_new t n ≡ true
-    → tb'.opened.items ≡ map (with_told j (result_of_rc (Some z))) tb.opened.items → tb'.outcomes.items ≡ tb.outcomes.items → IsHeard tb' t (In n (Update j parcel (Some z)))
-heard-code tb tb' t n j parcel z is new e-open e-outcomes = record {
+pub heard-code : (tb tb' : Table) (t : Trace) (n j : ℕ) (batch : List LogLines) (z : ℤ) → IsTable tb t → is_new t n ≡ true
+    → tb'.opened.items ≡ map (with_told j (result_of_rc (Some z))) tb.opened.items → tb'.outcomes.items ≡ tb.outcomes.items → IsHeard tb' t (In n (Update j batch (Some z)))
+heard-code tb tb' t n j batch z is new e-open e-outcomes = record {
   listed = e-open
       ∙ ap (map (with_told j (result_of_rc (Some z)))) is.listed
       ∙ map-map (open_entry t) (with_told j (result_of_rc (Some z))) (open_commands t)
-      ∙ map-open t (λ k. with_told j (result_of_rc (Some z)) (open_entry t k)) (open_entry (t ++ In n (Update j parcel (Some z)) ∷ [])) (λ k o. entry-Update t n j parcel z k new o)
-      ∙ sym (ap (map (open_entry (t ++ In n (Update j parcel (Some z)) ∷ []))) (open_commands-keep t (In n (Update j parcel (Some z))) refl (λ k o. ends-nothing t n (Update j parcel (Some z)) k refl)));
-  counted = ap length e-outcomes ∙ counted-keep tb t (In n (Update j parcel (Some z))) is refl;
+      ∙ map-open t (λ k. with_told j (result_of_rc (Some z)) (open_entry t k)) (open_entry (t ++ In n (Update j batch (Some z)) ∷ [])) (λ k o. entry-Update t n j batch z k new o)
+      ∙ sym (ap (map (open_entry (t ++ In n (Update j batch (Some z)) ∷ []))) (open_commands-keep t (In n (Update j batch (Some z))) refl (λ k o. ends-nothing t n (Update j batch (Some z)) k refl)));
+  counted = ap length e-outcomes ∙ counted-keep tb t (In n (Update j batch (Some z))) is refl;
   ended = λ k l.
-      ap (λ os. outcome_from (get_or os k None) (is_open (t ++ In n (Update j parcel (Some z)) ∷ []) k)) e-outcomes
-      ∙ ended-keep tb t (In n (Update j parcel (Some z))) is refl (λ k o. ends-nothing t n (Update j parcel (Some z)) k refl) k l;
+      ap (λ os. outcome_from (get_or os k None) (is_open (t ++ In n (Update j batch (Some z)) ∷ []) k)) e-outcomes
+      ∙ ended-keep tb t (In n (Update j batch (Some z))) is refl (λ k o. ends-nothing t n (Update j batch (Some z)) k refl) k l;
 }
 
 -- An end
@@ -229,8 +229,8 @@ found-entry t None x e = cc
 found-entry t (Some k) x e = (k, refl, cc)
 
 item-ended : (t : Trace) (n : ℕ) (body : Body) (k : ℕ) → ended_by t (In n body) ≡ Some k → item t (In n body) ≡ Some (End k (result_at k (next t (In n body))))
-item-ended t n (Update j parcel rc) k e =
-    let no_end : None ≡ option_map (open_entry t) (ended_by t (In n (Update j parcel rc))) = ended-none t n (Update j parcel rc) refl in
+item-ended t n (Update j batch rc) k e =
+    let no_end : None ≡ option_map (open_entry t) (ended_by t (In n (Update j batch rc))) = ended-none t n (Update j batch rc) refl in
     let clash : None ≡ Some (open_entry t k) = no_end ∙ ap (option_map (open_entry t)) e in
     cc
 item-ended t n body k e = ap (option_map (λ j. End j (result_at j (next t (In n body))))) e
@@ -340,12 +340,12 @@ pub record IsFresh (tb tb' : Table) (n : ℕ) (v : Verdict) : Type 0 where
   pub new : verdict_in tb.seen.ranges n ≡ None
   pub holds : HoldsAlso tb.seen.ranges tb'.seen.ranges n v
 
-pub taken-code : (tb tb' : Table) (t : Trace) (n j : ℕ) (parcel : List Part) (z : ℤ) (v : Verdict) → IsTable tb t → is_up t ≡ true → IsFresh tb tb' n v → v ≡ verdict t (In n (Update j parcel (Some z)))
-    → tb'.link ≡ tb.link → tb'.orders ≡ tb.orders → tb'.outcomes ≡ tb.outcomes → tb'.opened.items ≡ map (with_told j (result_of_rc (Some z))) tb.opened.items → IsTable tb' (t ++ In n (Update j parcel (Some z)) ∷ [])
-taken-code tb tb' t n j parcel z v is up fresh e e-link e-orders e-outcomes e-open =
-    table-In tb tb' t n (Update j parcel (Some z)) is e-link e-orders
-    (heard-code tb tb' t n j parcel z is (fresh-new tb t n is up fresh.new) e-open (ap (λ o. o.items) e-outcomes))
-    (had-insert tb tb'.seen.ranges t n (Update j parcel (Some z)) v is up refl fresh.new e fresh.holds)
+pub taken-code : (tb tb' : Table) (t : Trace) (n j : ℕ) (batch : List LogLines) (z : ℤ) (v : Verdict) → IsTable tb t → is_up t ≡ true → IsFresh tb tb' n v → v ≡ verdict t (In n (Update j batch (Some z)))
+    → tb'.link ≡ tb.link → tb'.orders ≡ tb.orders → tb'.outcomes ≡ tb.outcomes → tb'.opened.items ≡ map (with_told j (result_of_rc (Some z))) tb.opened.items → IsTable tb' (t ++ In n (Update j batch (Some z)) ∷ [])
+taken-code tb tb' t n j batch z v is up fresh e e-link e-orders e-outcomes e-open =
+    table-In tb tb' t n (Update j batch (Some z)) is e-link e-orders
+    (heard-code tb tb' t n j batch z is (fresh-new tb t n is up fresh.new) e-open (ap (λ o. o.items) e-outcomes))
+    (had-insert tb tb'.seen.ranges t n (Update j batch (Some z)) v is up refl fresh.new e fresh.holds)
 
 pub taken-complete : (tb tb' : Table) (t : Trace) (n j : ℕ) (f : Bool) (v : Verdict) (x : Open) → IsTable tb t → is_up t ≡ true → IsFresh tb tb' n v → v ≡ verdict t (In n (Complete j f))
     → find (λ (o : Open). j == o.command) tb.opened.items ≡ Some x → IsClosed tb tb' x f → IsTable tb' (t ++ In n (Complete j f) ∷ [])

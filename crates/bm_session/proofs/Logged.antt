@@ -6,7 +6,7 @@ use Rattle.std.proofs.Common.{arith}
 use Rattle.std.proofs.lemmas.List.{append-nil, length-take-le, take_more, take-append-drop}
 use Rattle.bm_lines.specs.Lines.{Line}
 use Rattle.bm_lines.specs.Names.{Name}
-use Rattle.bm_lines.specs.Parcels.{blocks_under}
+use Rattle.bm_lines.specs.LineBatches.{blocks_under}
 use Rattle.bm_session.proofs.Pushed.{next, added, blocks-push, log-push}
 use Rattle.bm_session.proofs.Taking.{orders_le-length}
 use Rattle.bm_session.proofs.Taken.{and-left, and-right, none-from, was_taken-push}
@@ -14,7 +14,7 @@ use Rattle.bm_session.specs.declared.event.Event.{Event}
 use Rattle.bm_session.specs.declared.event.Event.TheVariants.{In}
 use Rattle.bm_session.specs.declared.event.Body.TheVariants.{Update}
 use Rattle.bm_session.specs.declared.table.Table.{Table}
-use Rattle.bm_session.specs.Events.{is_update_of, parcel_of}
+use Rattle.bm_session.specs.Events.{is_update_of, batch_of}
 use Rattle.bm_session.specs.Trace.{Trace, is_empty, joined, is_new, is_open, orders, updates, blocks, log, refusal, was_taken}
 use Rattle.bm_session.specs.Table.{IsTable, counts}
 
@@ -34,12 +34,12 @@ log_more t i x k name l e = ap (λ u. log u k name) (take-next t i x l e) ∙ lo
 
 -- what an event adds to a log, by whether it counts
 abbrev pub carried_if : Bool → ℕ → Name → Event → List (List Line)
-carried_if b k name e = cond b (cond (is_update_of k e) (blocks_under name (parcel_of e)) []) []
+carried_if b k name e = cond b (cond (is_update_of k e) (blocks_under name (batch_of e)) []) []
 
 added-if : (t : Trace) (k : ℕ) (name : Name) (e : Event) → added t k name e ≡ carried_if (counts t e) k name e
-added-if t k name (In n (Update j parcel rc)) = go (j == k) refl
+added-if t k name (In n (Update j batch rc)) = go (j == k) refl
   where
-    gather : (b c : Bool) → cond ((b && true) && c) (blocks_under name parcel) [] ≡ cond (b && c) (blocks_under name parcel) []
+    gather : (b c : Bool) → cond ((b && true) && c) (blocks_under name batch) [] ≡ cond (b && c) (blocks_under name batch) []
     gather true c = refl
     gather false c = refl
 
@@ -47,21 +47,21 @@ added-if t k name (In n (Update j parcel rc)) = go (j == k) refl
     empty true = refl
     empty false = refl
 
-    none : (b c d : Bool) → cond ((b && false) && c) (blocks_under name parcel) [] ≡ cond (b && d) [] []
+    none : (b c d : Bool) → cond ((b && false) && c) (blocks_under name batch) [] ≡ cond (b && d) [] []
     none true c d = empty d
     none false c d = refl
 
-    go : (b : Bool) → (j == k) ≡ b → cond ((is_new t n && (j == k)) && is_open t k) (blocks_under name parcel) [] ≡ cond (is_new t n && is_open t j) (cond (j == k) (blocks_under name parcel) []) []
+    go : (b : Bool) → (j == k) ≡ b → cond ((is_new t n && (j == k)) && is_open t k) (blocks_under name batch) [] ≡ cond (is_new t n && is_open t j) (cond (j == k) (blocks_under name batch) []) []
     go true e =
         let at : k ≡ j = grind (arith, nat_tests) in
-        ap (λ x. cond ((is_new t n && x) && is_open t k) (blocks_under name parcel) []) e
+        ap (λ x. cond ((is_new t n && x) && is_open t k) (blocks_under name batch) []) e
         ∙ gather (is_new t n) (is_open t k)
-        ∙ ap (λ x. cond (is_new t n && is_open t x) (blocks_under name parcel) []) at
-        ∙ ap (λ x. cond (is_new t n && is_open t j) (cond x (blocks_under name parcel) []) []) (sym e)
+        ∙ ap (λ x. cond (is_new t n && is_open t x) (blocks_under name batch) []) at
+        ∙ ap (λ x. cond (is_new t n && is_open t j) (cond x (blocks_under name batch) []) []) (sym e)
     go false e =
-        ap (λ x. cond ((is_new t n && x) && is_open t k) (blocks_under name parcel) []) e
+        ap (λ x. cond ((is_new t n && x) && is_open t k) (blocks_under name batch) []) e
         ∙ none (is_new t n) (is_open t k) (is_open t j)
-        ∙ ap (λ x. cond (is_new t n && is_open t j) (cond x (blocks_under name parcel) []) []) (sym e)
+        ∙ ap (λ x. cond (is_new t n && is_open t j) (cond x (blocks_under name batch) []) []) (sym e)
 added-if t k name e = collapse (updates k (next t e))
   where
     collapse : (b : Bool) → ◌≡◌ {A = List (List Line)} (cond b [] []) []

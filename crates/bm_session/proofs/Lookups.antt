@@ -10,7 +10,7 @@ use Rattle.std.proofs.lemmas.List.Folds.{find-append}
 use Rattle.bm_session.proofs.Snoc.{find-push, filter-push, and-false, and-true}
 use Rattle.bm_session.proofs.Taken.{not-started, IsNothing}
 use Rattle.bm_session.proofs.Listed.{find-map}
-use Rattle.bm_session.specs.declared.table.Open.{Open}
+use Rattle.bm_session.specs.declared.open.Open.{Open}
 use Rattle.bm_session.specs.declared.table.Table.{Table}
 use Rattle.bm_session.specs.Trace.{Trace, below, commands, ending, is_open, open_commands, outcome}
 use Rattle.bm_session.specs.Table.{IsTable, open_entry}

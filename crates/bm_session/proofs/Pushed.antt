@@ -10,9 +10,9 @@ use Rattle.std.proofs.lemmas.List.Sums.{fold-append}
 use Rattle.bm_session.proofs.Snoc.{after_last-push, list_any-push, count_by-push, find-push, filter-push, filter_map-push}
 use Rattle.bm_session.specs.declared.event.Event.{Event}
 use Rattle.bm_lines.specs.Lines.{Line}
-use Rattle.bm_session.specs.Events.{is_up_event, is_cut_event, is_interruption, is_border, is_go, is_order, is_request, parcel_of, rc_of}
+use Rattle.bm_session.specs.Events.{is_up_event, is_cut_event, is_interruption, is_border, is_go, is_order, is_request, batch_of, rc_of}
 use Rattle.bm_lines.specs.Names.{Name}
-use Rattle.bm_lines.specs.Parcels.{blocks_under}
+use Rattle.bm_lines.specs.LineBatches.{blocks_under}
 use Rattle.bm_session.specs.Trace.{joined, blocks, Trace, Moment, moments, moments_after, begins_session, session, is_up, is_cut, commands, orders, is_new, starts, was_order, ends_at, ending, updates, last_rc, log, items, item, first_with}
 
 -- the place at which e comes next
@@ -75,15 +75,15 @@ items-push t e = rw (moments-push t e) (filter_map-push (λ m. item m.past m.eve
 
 -- the blocks that e adds to a log where it comes next
 abbrev pub added : Trace → ℕ → Name → Event → List (List Line)
-added t k name e = cond (updates k (next t e)) (blocks_under name (parcel_of e)) []
+added t k name e = cond (updates k (next t e)) (blocks_under name (batch_of e)) []
 
 pub blocks-push : (t : Trace) (e : Event) (k : ℕ) (name : Name) → blocks (t ++ e ∷ []) k name ≡ blocks t k name ++ added t k name e
 blocks-push t e k name =
-    rw (moments-push t e, filter-push (updates k) (moments t) (next t e), flat_map-append (λ m. blocks_under name (parcel_of m.event)) (filter (updates k) (moments t)) (cond (updates k (next t e)) (next t e ∷ []) []))
+    rw (moments-push t e, filter-push (updates k) (moments t) (next t e), flat_map-append (λ m. blocks_under name (batch_of m.event)) (filter (updates k) (moments t)) (cond (updates k (next t e)) (next t e ∷ []) []))
     (ap (λ ls. blocks t k name ++ ls) (one (updates k (next t e))))
   where
-    one : (b : Bool) → flat_map (λ m. blocks_under name (parcel_of m.event)) (cond b (next t e ∷ []) []) ≡ cond b (blocks_under name (parcel_of e)) []
-    one true = append-nil (blocks_under name (parcel_of e))
+    one : (b : Bool) → flat_map (λ m. blocks_under name (batch_of m.event)) (cond b (next t e ∷ []) []) ≡ cond b (blocks_under name (batch_of e)) []
+    one true = append-nil (blocks_under name (batch_of e))
     one false = refl
 
 pub log-push : (t : Trace) (e : Event) (k : ℕ) (name : Name) → log (t ++ e ∷ []) k name ≡ log t k name ++ joined (added t k name e)

@@ -3,7 +3,7 @@ use Rattle.std.specs.Prelude.{◌≡◌, refl, ℕ, pos, Bool, true, false, List
 use Rattle.std.proofs.Common.{arith}
 use Rattle.bm_lines.specs.Lines.{Line, lines_of}
 use Rattle.bm_lines.specs.Names.{Name, stdio}
-use Rattle.bm_lines.specs.Parcels.{with_item}
+use Rattle.bm_lines.specs.LineBatches.{with_item}
 use Rattle.bm_lines.specs.declared.letter.Letter.TheVariants.{O, E, H}
 use Rattle.bm_session.specs.declared.event.Event.{Event}
 use Rattle.bm_session.specs.declared.event.Event.TheVariants.{Up, In, Go, Stop, Cut, Down}

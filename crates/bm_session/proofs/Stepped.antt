@@ -13,7 +13,7 @@ use Rattle.bm_session.specs.declared.event.Event.TheVariants.{Up, In, Go, Stop, 
 use Rattle.bm_session.specs.declared.event.Body.{Body}
 use Rattle.bm_session.specs.declared.event.Body.TheVariants.{Complete, Answered}
 use Rattle.bm_session.specs.declared.results.Results.{Results}
-use Rattle.bm_session.specs.declared.table.Open.{Open}
+use Rattle.bm_session.specs.declared.open.Open.{Open}
 use Rattle.bm_session.specs.declared.table.Table.{Table}
 use Rattle.bm_session.specs.Events.{is_interruption, is_up_event, is_go, is_stop_of, is_request, is_update_of, rc_of}
 use Rattle.bm_session.specs.Trace.{Trace, Moment, session, commands, is_up, is_cut, is_new, is_fresh, was_order, ends_at, ending, is_open, open_commands, ended_by, updates, last_rc, result_of_rc, first_with, verdict, seen, outcome, result_at, begins_session}

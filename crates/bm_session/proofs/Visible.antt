@@ -13,7 +13,7 @@ use Rattle.bm_session.specs.declared.event.Body.TheVariants.{Auth, Update}
 use Rattle.bm_session.specs.declared.item.Item.{Item}
 use Rattle.bm_session.specs.declared.item.Item.TheVariants.{Lines}
 use Rattle.bm_lines.specs.Names.{Name}
-use Rattle.bm_lines.specs.Parcels.{blocks_under}
+use Rattle.bm_lines.specs.LineBatches.{blocks_under}
 use mathlib.Core.List.{IsPrefix}
 use Rattle.bm_session.specs.Trace.{joined, Trace, Moment, moments, log, updates, items, item, item_if, productive, prefixes, visible, is_fresh, is_open}
 
@@ -64,14 +64,14 @@ same-arms true x = refl
 same-arms false x = refl
 
 pub unproductive : (t : Trace) (e : Event) (k : ℕ) (name : Name) → item t e ≡ None → added t k name e ≡ []
-unproductive t (In n (Update j parcel rc)) k name h = go (j == k) refl
+unproductive t (In n (Update j batch rc)) k name h = go (j == k) refl
   where
-    go : (b : Bool) → (j == k) ≡ b → cond (is_fresh (next t (In n (Update j parcel rc))) && (j == k) && is_open t k) (blocks_under name parcel) [] ≡ []
+    go : (b : Bool) → (j == k) ≡ b → cond (is_fresh (next t (In n (Update j batch rc))) && (j == k) && is_open t k) (blocks_under name batch) [] ≡ []
     go true e =
         let same : j ≡ k = eqb-true j k e in
-        let none : updates j (next t (In n (Update j parcel rc))) ≡ false = no-lines (updates j (next t (In n (Update j parcel rc)))) (Lines j parcel) h in
-        let none' : updates k (next t (In n (Update j parcel rc))) ≡ false = subst (λ i. updates i (next t (In n (Update j parcel rc))) ≡ false) same none in
-        ap (λ b. cond b (blocks_under name parcel) []) none'
+        let none : updates j (next t (In n (Update j batch rc))) ≡ false = no-lines (updates j (next t (In n (Update j batch rc)))) (Lines j batch) h in
+        let none' : updates k (next t (In n (Update j batch rc))) ≡ false = subst (λ i. updates i (next t (In n (Update j batch rc))) ≡ false) same none in
+        ap (λ b. cond b (blocks_under name batch) []) none'
     go false e = rw (e, and-false)
 unproductive t Up k name h = refl
 unproductive t Go k name h = same-arms (updates k (next t Go)) []

@@ -3,7 +3,7 @@ use Rattle.std.specs.Prelude.{ℕ, ℤ, Bool, true, false, ◌==◌, List, [], O
 use Rattle.bm_session.specs.declared.event.Event.{Event}
 use Rattle.bm_session.specs.declared.event.Event.TheVariants.{Up, In, Go, Stop, Cut, Down}
 use Rattle.bm_session.specs.declared.event.Body.TheVariants.{Update, Complete, Answered}
-use Rattle.bm_lines.specs.declared.parcel.Part.{Part}
+use Rattle.bm_lines.specs.declared.line_batch.LogLines.{LogLines}
 
 abbrev pub is_up_event : Event → Bool
 is_up_event Up = true
@@ -70,7 +70,7 @@ is_complete_of k (In m (Complete j f)) = j == k
 is_complete_of k _ = false
 
 abbrev pub is_update_of : ℕ → Event → Bool
-is_update_of k (In m (Update j parcel rc)) = j == k
+is_update_of k (In m (Update j batch rc)) = j == k
 is_update_of k _ = false
 
 -- a complete with a fault, or the refusal of an order
@@ -80,11 +80,11 @@ is_fault (In m (Answered true)) = true
 is_fault _ = false
 
 -- the lines that an update carries, by the name of their log
-abbrev pub parcel_of : Event → List Part
-parcel_of (In m (Update j parcel rc)) = parcel
-parcel_of _ = []
+abbrev pub batch_of : Event → List LogLines
+batch_of (In m (Update j batch rc)) = batch
+batch_of _ = []
 
 -- the exit code that an update carries
 abbrev pub rc_of : Event → Option ℤ
-rc_of (In m (Update j parcel rc)) = rc
+rc_of (In m (Update j batch rc)) = rc
 rc_of _ = None

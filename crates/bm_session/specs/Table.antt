@@ -9,7 +9,7 @@ use Rattle.bm_session.specs.declared.results.Results.{Results}
 use Rattle.bm_session.specs.declared.results.Results.TheVariants.{Cancelled, Exception, Retry}
 use Rattle.bm_session.specs.declared.table.Link.{Link}
 use Rattle.bm_session.specs.declared.table.Link.TheVariants.{Up, Cut}
-use Rattle.bm_session.specs.declared.table.Open.{Open}
+use Rattle.bm_session.specs.declared.open.Open.{Open}
 use Rattle.bm_session.specs.declared.table.Table.{Table}
 use Rattle.bm_session.specs.Events.{is_stop_of}
 use Rattle.bm_session.specs.Session.{Lane, IsLane}
@@ -35,7 +35,7 @@ asks _ = true
 
 -- a fresh update of a command that is open, where it comes next
 abbrev pub counts : Trace → Event → Bool
-counts t (In n (Update k parcel rc)) = is_new t n && is_open t k
+counts t (In n (Update k batch rc)) = is_new t n && is_open t k
 counts t e = false
 
 -- what is kept of an open command

@@ -1,7 +1,7 @@
 -- What a trace means: the list of a lane's events, in the order in which they were taken.
 use Rattle.std.specs.Prelude.{ℕ, zero, suc, ℤ, pos, Bool, true, false, not, ◌&&◌, ◌||◌, ◌==◌, nat_lt, nat_le, if◌then◌else◌, List, [], ◌∷◌, ◌++◌, length, take, drop, map, Option, Some, None, option_map, unwrap_or, is_none, fold, find, bytes_eq, filter, count_by, flat_map, filter_map}
 use Rattle.std.specs.List.{list_any, list_all, after_last}
-use Rattle.bm_session.specs.Events.{is_up_event, is_down_event, is_cut_event, is_interruption, is_border, is_go, is_order, is_stop_of, is_request, request_number, is_complete_of, is_update_of, is_fault, is_answer_to, parcel_of, rc_of}
+use Rattle.bm_session.specs.Events.{is_up_event, is_down_event, is_cut_event, is_interruption, is_border, is_go, is_order, is_stop_of, is_request, request_number, is_complete_of, is_update_of, is_fault, is_answer_to, batch_of, rc_of}
 use Rattle.bm_session.specs.declared.event.Event.{Event}
 use Rattle.bm_session.specs.declared.event.Event.TheVariants.{Up, In, Go, Stop, Cut, Down}
 use Rattle.bm_session.specs.declared.event.Body.TheVariants.{Auth, Update, Complete, BadArgs, Answered}
@@ -16,7 +16,7 @@ use Rattle.bm_session.specs.declared.results.Results.TheVariants.{Success, Failu
 use Rattle.bm_session.specs.declared.refusal.Refusal.{Refusal}
 use Rattle.bm_session.specs.declared.refusal.Refusal.TheVariants.{NotUp, AlreadyUp, TooManyOpen, NoSuchCommand, Full}
 use Rattle.bm_lines.specs.Lines.{Line}
-use Rattle.bm_lines.specs.Parcels.{blocks_under}
+use Rattle.bm_lines.specs.LineBatches.{blocks_under}
 use Rattle.bm_lines.specs.Names.{Name, stdio}
 
 abbrev pub Trace : Type 0
@@ -141,7 +141,7 @@ updates k m = is_fresh m && is_update_of k m.event && is_open m.past k
 -- the blocks that these updates carried under a name, in order
 abbrev pub blocks : Trace → ℕ → Name → List (List Line)
 blocks t k name =
-    flat_map (λ m. blocks_under name (parcel_of m.event)) (filter (updates k) (moments t))
+    flat_map (λ m. blocks_under name (batch_of m.event)) (filter (updates k) (moments t))
 
 -- the log of command k under a name: the lines of these blocks
 abbrev pub log : Trace → ℕ → Name → List Line
@@ -180,7 +180,7 @@ outcome t k = option_map (result_at k) (ending t k)
 
 -- the verdict on a fresh request where it comes next
 abbrev pub verdict : Trace → Event → Verdict
-verdict t (In n (Update k parcel rc)) = if is_open t k then Done else NoCommand
+verdict t (In n (Update k batch rc)) = if is_open t k then Done else NoCommand
 verdict t (In n (Complete k fault)) = if is_open t k then Done else NoCommand
 verdict t (In n Auth) = AuthAgain
 verdict t (In n BadArgs) = VerdictBadArgs
@@ -222,8 +222,8 @@ item t Go = Some (Open (commands t))
 item t (Stop k) = None
 item t Cut = None
 item t Down = item_if (not (is_empty (open_commands t))) Gone
-item t (In n (Update k parcel rc)) =
-    item_if (updates k (record { past = t; event = In n (Update k parcel rc) })) (Lines k parcel)
+item t (In n (Update k batch rc)) =
+    item_if (updates k (record { past = t; event = In n (Update k batch rc) })) (Lines k batch)
 item t (In n body) =
     option_map (λ k. End k (result_at k (record { past = t; event = In n body })))
     (ended_by t (In n body))

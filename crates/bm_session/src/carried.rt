@@ -3,13 +3,13 @@ ghost use Rattle.std.specs.Prelude.{◌≡◌, IfOk};
 ghost use Rattle.std.specs.Option.{option_or};
 ghost use Rattle.bm_msg.specs.Carried.{carried, last_rc as last_rc_of, with_field, exit_code_of};
 
-use bm_lines::{Letter, LogName, Parcel, ParcelBuilder};
+use bm_lines::{Letter, LineBatch, LineBatchBuilder, LogName};
 use bm_msg::{Field, Fields};
 use bm_value::Num;
 use std::alloc::{AllocError, Global};
 
 /// Adds what the item carries.
-fn add_field(builder: &mut ParcelBuilder, field: Field) -> Result<(), AllocError>
+fn add_field(builder: &mut LineBatchBuilder, field: Field) -> Result<(), AllocError>
     ensures { IfOk result (λ u. builder.new ≡ with_field builder.old field) }
 {
     match field {
@@ -21,14 +21,14 @@ fn add_field(builder: &mut ParcelBuilder, field: Field) -> Result<(), AllocError
 
 /// The lines that the items carry, by the name of their log.
 #[tactic(auto, using(crate::proofs::Fields::carried_more))]
-pub fn parcel(alloc: Global, fields: Fields) -> Result<Parcel, AllocError>
-    ensures { IfOk result (λ parcel. parcel ≡ carried fields) }
+pub fn batch(alloc: Global, fields: Fields) -> Result<LineBatch, AllocError>
+    ensures { IfOk result (λ batch. batch ≡ carried fields) }
 {
-    let mut builder = ParcelBuilder::new(alloc);
+    let mut builder = LineBatchBuilder::new(alloc);
     for field in fields.into_vec() {
         add_field(&mut builder, field)?;
     }
-    Ok(builder.into_parcel())
+    Ok(builder.into_batch())
 }
 
 /// The exit code of the item, or the one before it.

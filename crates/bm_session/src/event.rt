@@ -9,7 +9,7 @@ ghost use Rattle.bm_msg.specs.Updates.{says};
 ghost use Rattle.bm_session.specs.Heard.{body_of, event_of, faulty_as, IsEvent, IsNoEvent};
 
 use crate::carried;
-use bm_lines::{LogName, Parcel};
+use bm_lines::{LineBatch, LogName};
 use bm_msg::{Message, MsgError, Numbered, Request, Response, TextUpdate, read, read_text};
 use bm_value::{Num, Value};
 use std::alloc::{AllocError, Allocator, Global};
@@ -93,10 +93,10 @@ impl Event {
     fn of_text(alloc: Global, update: TextUpdate<'_>) -> Result<Event, AllocError>
         ensures { IfOk result (λ event. event ≡ event_of (says update.entry)) }
     {
-        let parcel = Parcel::of_str(alloc, LogName::stdio(), update.letter, update.text)?;
+        let batch = LineBatch::of_str(alloc, LogName::stdio(), update.letter, update.text)?;
         let body = Body::Update {
             command: update.command,
-            parcel,
+            batch,
             rc: None,
         };
         Ok(Event::In(update.seq, body))
@@ -132,7 +132,7 @@ pub enum Body {
     /// Lines of a command's logs, and the last exit code that the message told.
     Update {
         command: u64,
-        parcel: Parcel,
+        batch: LineBatch,
         rc: Option<Num>,
     },
     /// The end of a command. A fault is an end without an exit code.
@@ -157,13 +157,9 @@ impl Body {
     {
         Ok(match self {
             Body::Auth => Body::Auth,
-            Body::Update {
-                command,
-                parcel,
-                rc,
-            } => Body::Update {
+            Body::Update { command, batch, rc } => Body::Update {
                 command: *command,
-                parcel: parcel.copy()?,
+                batch: batch.copy()?,
                 rc: *rc,
             },
             Body::Complete { command, fault } => Body::Complete {
@@ -184,12 +180,8 @@ impl Body {
             Request::Auth { .. } => Ok(Body::Auth),
             Request::Update { command, fields } => {
                 let rc = carried::last_rc(fields.as_slice());
-                let parcel = carried::parcel(alloc, fields)?;
-                Ok(Body::Update {
-                    command,
-                    parcel,
-                    rc,
-                })
+                let batch = carried::batch(alloc, fields)?;
+                Ok(Body::Update { command, batch, rc })
             }
             Request::Complete { command, fault } => Ok(Body::Complete {
                 command,

@@ -3,7 +3,7 @@
 ghost use Rattle.std.specs.Prelude.{◌≡◌, IfOk};
 
 use crate::results::Results;
-use bm_lines::Parcel;
+use bm_lines::LineBatch;
 use std::alloc::AllocError;
 
 /// What an event does to the logs.
@@ -12,7 +12,7 @@ pub enum Item {
     /// The command's logs are there.
     Open(u64),
     /// Lines of the command's logs, by name.
-    Lines(u64, Parcel),
+    Lines(u64, LineBatch),
     /// The command ended.
     End(u64, Results),
     /// The session was given up: each open command ended with `Retry`.
@@ -26,7 +26,7 @@ impl Item {
     {
         Ok(match self {
             Item::Open(command) => Item::Open(*command),
-            Item::Lines(command, parcel) => Item::Lines(*command, parcel.copy()?),
+            Item::Lines(command, batch) => Item::Lines(*command, batch.copy()?),
             Item::End(command, result) => Item::End(*command, *result),
             Item::Gone => Item::Gone,
         })

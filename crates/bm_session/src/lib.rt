@@ -9,6 +9,7 @@ mod event;
 mod item;
 pub mod laws;
 mod log;
+mod open;
 mod plan;
 mod ranges;
 mod refusal;
@@ -18,6 +19,7 @@ mod run;
 mod seen;
 mod session;
 mod table;
+mod table_taking;
 
 pub use event::{Body, Event};
 pub use item::Item;

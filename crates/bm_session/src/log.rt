@@ -1,20 +1,20 @@
 //! The logs of a trace, by one walk.
 ghost use Rattle.std.specs.Prelude.{◌≡◌, ◌++◌, ◌||◌, true, not, if◌then◌else◌, IfOk, OnOk, []};
-ghost use Rattle.bm_lines.specs.Parcels.{blocks_under};
-ghost use Rattle.bm_session.specs.Events.{is_update_of, parcel_of};
+ghost use Rattle.bm_lines.specs.LineBatches.{blocks_under};
+ghost use Rattle.bm_session.specs.Events.{is_update_of, batch_of};
 ghost use Rattle.bm_session.specs.Trace.{blocks, log as log_of, joined, is_empty, was_taken};
 
 use crate::event::{Body, Event};
 use crate::table::Table;
-use bm_lines::{Block, Parcel};
+use bm_lines::{Block, LineBatch};
 use std::alloc::{AllocError, Global};
 
-/// Whether the parcel has a part with the name.
-fn has_part(parcel: &Parcel, name: &str) -> bool
-    ensures { result ≡ not (is_empty (blocks_under name.now parcel.now)) }
+/// Whether the batch has a part with the name.
+fn has_part(batch: &LineBatch, name: &str) -> bool
+    ensures { result ≡ not (is_empty (blocks_under name.now batch.now)) }
 {
     let mut found = false;
-    for part in parcel.parts() {
+    for part in batch.parts() {
         if part.name.is(name) {
             found = true;
         }
@@ -22,11 +22,11 @@ fn has_part(parcel: &Parcel, name: &str) -> bool
     found
 }
 
-/// Appends the lines of the parcel's part with the name, if it has one.
-fn append_part(log: &mut Block, parcel: &Parcel, name: &str) -> Result<(), AllocError>
-    ensures { OnOk result (log.new ≡ log.old ++ joined (blocks_under name.now parcel.now)) }
+/// Appends the lines of the batch's part with the name, if it has one.
+fn append_part(log: &mut Block, batch: &LineBatch, name: &str) -> Result<(), AllocError>
+    ensures { OnOk result (log.new ≡ log.old ++ joined (blocks_under name.now batch.now)) }
 {
-    for part in parcel.parts() {
+    for part in batch.parts() {
         if part.name.is(name) {
             log.extend(&part.block)?;
         }
@@ -37,7 +37,7 @@ fn append_part(log: &mut Block, parcel: &Parcel, name: &str) -> Result<(), Alloc
 /// Whether the log had a block, or has one where the event, if it counts, adds one.
 fn found_after(found: bool, counts: bool, event: &Event, command: u64, name: &str) -> bool
     ensures { result ≡ (found || not (is_empty (if counts
-        then (if is_update_of command event.now then blocks_under name.now (parcel_of event.now)
+        then (if is_update_of command event.now then blocks_under name.now (batch_of event.now)
         else []) else []))) }
 {
     if found || !counts {
@@ -48,10 +48,10 @@ fn found_after(found: bool, counts: bool, event: &Event, command: u64, name: &st
             _,
             Body::Update {
                 command: k,
-                parcel,
+                batch,
                 ..
             },
-        ) => *k == command && has_part(parcel, name),
+        ) => *k == command && has_part(batch, name),
         _ => false,
     }
 }
@@ -65,7 +65,7 @@ fn append_added(
     name: &str,
 ) -> Result<(), AllocError>
     ensures { OnOk result (log.new ≡ log.old ++ joined (if counts
-        then (if is_update_of command event.now then blocks_under name.now (parcel_of event.now)
+        then (if is_update_of command event.now then blocks_under name.now (batch_of event.now)
         else []) else [])) }
 {
     if !counts {
@@ -76,12 +76,12 @@ fn append_added(
             _,
             Body::Update {
                 command: k,
-                parcel,
+                batch,
                 ..
             },
         ) => {
             if *k == command {
-                append_part(log, parcel, name)
+                append_part(log, batch, name)
             } else {
                 Ok(())
             }

@@ -1,20 +1,17 @@
 //! What a session keeps of its trace.
 
-ghost use Rattle.std.specs.Prelude.{◌≡◌, ◌==◌, ◌||◌, ◌&&◌, ◌≤◌, ◌<◌, ◌+◌, ◌^◌, ◌∷◌, ◌++◌, [], slice_set, ℕ, true, false, not, List, length, map, filter, find, option_map, is_some, if◌then◌else◌, Some, None, IfOk, IsOk, OnOk, vec_len, vec_capacity};
-ghost use Rattle.std.specs.List.{list_any};
-ghost use Rattle.bm_session.specs.Events.{is_fault as is_fault_event};
-ghost use Rattle.bm_session.specs.Trace.{Trace, is_up as up_of, is_cut as cut_of, commands as commands_of, is_open as is_open_in, is_new as is_new_in, ended_by as ended_by_of, outcome as outcome_of, verdict as verdict_of, answer as answer_of, reply as reply_of, refusal as refusal_of, item as item_of, result_of_rc, was_taken};
-ghost use Rattle.bm_session.specs.declared.table.Open.{Open};
-ghost use Rattle.bm_session.specs.Seen.{verdict_in};
-ghost use Rattle.bm_session.specs.Table.{IsTable, IsTableUp, counts as counts_in, is_link_cut, table_room, asks, open_entry, with_stop, with_told, ends_as as ends_as_lem};
+ghost use Rattle.std.specs.Prelude.{◌≡◌, ◌&&◌, ◌≤◌, ◌<◌, [], ℕ, true, false, length, option_map, if◌then◌else◌, Some, None, IfOk, IsOk, OnOk, vec_capacity};
+ghost use Rattle.bm_session.specs.Trace.{Trace, is_up as up_of, is_cut as cut_of, commands as commands_of, is_open as is_open_in, is_new as is_new_in, ended_by as ended_by_of, outcome as outcome_of, verdict as verdict_of, answer as answer_of, reply as reply_of, refusal as refusal_of, item as item_of};
+ghost use Rattle.bm_session.specs.declared.open.Open.{Open};
+ghost use Rattle.bm_session.specs.Table.{IsTable, counts as counts_in, table_room, open_entry};
 
 use crate::event::{Body, Event};
 use crate::item::Item;
+use crate::open::{Open, is_fault, with_command, with_order};
 use crate::ranges::Ranges;
 use crate::refusal::Refusal;
 use crate::reply::{Reply, Verdict};
 use crate::results::Results;
-use bm_value::Num;
 use std::alloc::{AllocError, Global};
 
 /// So many commands of a lane may be open.
@@ -29,121 +26,6 @@ pub enum Link {
     Down,
     Up,
     Cut,
-}
-
-/// An open command.
-#[derive(Clone, Copy)]
-pub struct Open {
-    pub command: u64,
-    /// The number of the order that started it.
-    pub order: u64,
-    /// Whether a stop of it was ordered.
-    pub stopped: bool,
-    /// What its last exit code says.
-    pub told: Results,
-}
-
-impl Open {
-    /// The entry after a stop of the command.
-    fn after_stop(&self, command: u64) -> Open
-        ensures { result ≡ with_stop command self.now }
-    {
-        Open {
-            stopped: self.stopped || command == self.command,
-            ..*self
-        }
-    }
-
-    /// The entry after an exit code of the command.
-    fn after_told(&self, command: u64, told: Results) -> Open
-        ensures { result ≡ with_told command told self.now }
-    {
-        if command == self.command {
-            Open { told, ..*self }
-        } else {
-            *self
-        }
-    }
-
-    /// How the command ends, by a fault or by a complete.
-    pub fn ends_as(&self, fault: bool) -> Results
-        ensures { result ≡ ends_as_lem self.now fault }
-    {
-        if self.stopped {
-            Results::Cancelled
-        } else if fault {
-            Results::Exception
-        } else {
-            self.told
-        }
-    }
-}
-
-/// Whether the message is a complete with a fault, or the refusal of an order.
-fn is_fault(body: &Body) -> bool
-    ensures { (n : ℕ) → result ≡ is_fault_event (Event.In n body.now) }
-{
-    match body {
-        Body::Complete { fault, .. } | Body::Answered { fault } => *fault,
-        _ => false,
-    }
-}
-
-/// What an exit code says.
-fn result_of_code(code: Num) -> Results
-    ensures { result ≡ result_of_rc (Some code) }
-{
-    if code.value() == 0 {
-        Results::Success
-    } else {
-        Results::Failure
-    }
-}
-
-/// The command, if it is open.
-fn with_command(listed: &[Open], command: u64) -> Option<Open>
-    ensures { result ≡ find (λ (o : Open). command == o.command) listed.now }
-{
-    for entry in listed {
-        if command == entry.command {
-            return Some(*entry);
-        }
-    }
-    None
-}
-
-/// The open command that the order started, if there is one.
-fn with_order(listed: &[Open], order: u64) -> Option<Open>
-    ensures { result ≡ find (λ (o : Open). o.order == order) listed.now }
-{
-    for entry in listed {
-        if entry.order == order {
-            return Some(*entry);
-        }
-    }
-    None
-}
-
-/// Notes a stop of the command.
-fn note_stop(listed: &mut Vec<Open>, command: u64)
-    ensures items { listed.new.items ≡ map (with_stop command) listed.old.items }
-    ensures capacity { vec_capacity listed.new ≡ vec_capacity listed.old }
-{
-    for i in 0..listed.len() {
-        let entry = listed[i].after_stop(command);
-        listed[i] = entry;
-    }
-}
-
-/// Notes what the command's last exit code says.
-fn note_told(listed: &mut Vec<Open>, command: u64, told: Results)
-    ensures items { listed.new.items ≡ map (with_told command told) listed.old.items }
-    ensures capacity { vec_capacity listed.new ≡ vec_capacity listed.old }
-{
-    for i in 0..listed.len() {
-        let entry = listed[i].after_told(command, told);
-        listed[i] = entry;
-    }
 }
 
 /// What a session keeps of its trace, so that it needn't read it again.
@@ -192,7 +74,7 @@ impl Table {
     }
 
     /// Whether the event is a fresh update of a command that is open.
-    fn counts(&self, event: &Event) -> bool
+    pub(crate) fn counts(&self, event: &Event) -> bool
         ensures { (t : Trace) → IsTable self.now t → refusal_of t event.now ≡ None
             → result ≡ counts_in t event.now }
     {
@@ -217,7 +99,7 @@ impl Table {
     }
 
     /// The verdict on a fresh request.
-    fn verdict(&self, body: &Body) -> Verdict
+    pub(crate) fn verdict(&self, body: &Body) -> Verdict
         ensures { (t : Trace) (n : ℕ) → IsTable self.now t
             → result ≡ verdict_of t (Event.In n body.now) }
     {
@@ -373,16 +255,9 @@ impl Table {
             } else {
                 Some(Item::Gone)
             }),
-            Event::In(
-                n,
-                Body::Update {
-                    command,
-                    parcel,
-                    ..
-                },
-            ) => {
+            Event::In(n, Body::Update { command, batch, .. }) => {
                 if self.updates(*n, *command) {
-                    Ok(Some(Item::Lines(*command, parcel.copy()?)))
+                    Ok(Some(Item::Lines(*command, batch.copy()?)))
                 } else {
                     Ok(None)
                 }
@@ -404,198 +279,5 @@ impl Table {
     {
         self.outcomes.reserve(additional)?;
         self.seen.reserve(additional)
-    }
-
-    /// Takes the event, which isn't refused, into the table.
-    pub fn take(&mut self, event: &Event)
-        requires known { (t : Trace) × IsTable self.old t × (refusal_of t event.now ≡ None) }
-        requires orders { self.old.orders < 2 ^ 63 }
-        requires places { 4 ≤ vec_capacity self.old.opened }
-        requires room { 0 < table_room self.old }
-        ensures table { (t : Trace) → IsTable self.old t → was_taken t ≡ true
-            → refusal_of t event.now ≡ None → IsTable self.new (t ++ event.now ∷ []) }
-        ensures places { 4 ≤ vec_capacity self.new.opened }
-        ensures room { table_room self.old ≤ table_room self.new + 1 }
-    {
-        match event {
-            Event::Up => self.take_up(),
-            Event::Cut => self.take_cut(),
-            Event::Down => self.take_down(),
-            Event::Go => self.take_go(),
-            Event::Stop(command) => self.take_stop(*command),
-            Event::In(number, body) => self.take_in(*number, body),
-        }
-    }
-
-    /// Takes the next event of a trace that was taken, and tells whether it counts for a log.
-    pub fn follow(&mut self, event: &Event) -> Result<bool, AllocError>
-        requires known { (t : Trace) × IsTable self.old t × (refusal_of t event.now ≡ None) }
-        requires orders { self.old.orders < 2 ^ 63 }
-        requires places { 4 ≤ vec_capacity self.old.opened }
-        ensures counts { IfOk result (λ b. (t : Trace) → IsTable self.old t
-            → refusal_of t event.now ≡ None → b ≡ counts_in t event.now) }
-        ensures table { OnOk result ((t : Trace) → IsTable self.old t → was_taken t ≡ true
-            → refusal_of t event.now ≡ None → IsTable self.new (t ++ event.now ∷ [])) }
-        ensures places { 4 ≤ vec_capacity self.new.opened }
-    {
-        self.reserve(1)?;
-        let counts = self.counts(event);
-        self.take(event);
-        Ok(counts)
-    }
-
-    fn orders_after_up(&self) -> u64
-        ensures { result ≡ (if is_link_cut self.now.link then self.now.orders else 0) }
-    {
-        match self.link {
-            Link::Cut => self.orders,
-            Link::Down | Link::Up => 0,
-        }
-    }
-
-    /// A session that was cut is resumed; else one begins.
-    fn take_up(&mut self)
-        ensures table { (t : Trace) → IsTable self.old t → refusal_of t Event.Up ≡ None
-            → IsTable self.new (t ++ Event.Up ∷ []) }
-        ensures places { vec_capacity self.new.opened ≡ vec_capacity self.old.opened }
-        ensures room { table_room self.old ≤ table_room self.new }
-    {
-        self.orders = self.orders_after_up();
-        self.link = Link::Up;
-    }
-
-    /// The commands stay open, and the numbers known.
-    fn take_cut(&mut self)
-        ensures table { (t : Trace) → IsTable self.old t → refusal_of t Event.Cut ≡ None
-            → IsTable self.new (t ++ Event.Cut ∷ []) }
-        ensures places { vec_capacity self.new.opened ≡ vec_capacity self.old.opened }
-        ensures room { table_room self.old ≤ table_room self.new }
-    {
-        self.link = Link::Cut;
-    }
-
-    /// Every open command ends, and the session's numbers are forgotten.
-    fn take_down(&mut self)
-        ensures table { (t : Trace) → IsTable self.old t → IsTable self.new (t ++ Event.Down ∷ []) }
-        ensures places { vec_capacity self.new.opened ≡ vec_capacity self.old.opened }
-        ensures room { table_room self.old ≤ table_room self.new }
-    {
-        self.link = Link::Down;
-        self.opened.clear();
-        self.seen.clear();
-    }
-
-    fn take_go(&mut self)
-        requires orders { self.old.orders < 2 ^ 63 }
-        requires places { 4 ≤ vec_capacity self.old.opened }
-        requires room { 0 < table_room self.old }
-        ensures table { (t : Trace) → IsTable self.old t → was_taken t ≡ true
-            → refusal_of t Event.Go ≡ None → IsTable self.new (t ++ Event.Go ∷ []) }
-        ensures places { 4 ≤ vec_capacity self.new.opened }
-        ensures room { table_room self.old ≤ table_room self.new + 1 }
-    {
-        let entry = Open {
-            command: self.outcomes.len() as u64,
-            order: self.orders,
-            stopped: false,
-            told: Results::Exception,
-        };
-        let _ = self.opened.push(entry);
-        let _ = self.outcomes.push(None);
-        self.orders += 1;
-    }
-
-    fn take_stop(&mut self, command: u64)
-        requires { self.old.orders < 2 ^ 63 }
-        ensures table { (t : Trace) → IsTable self.old t
-            → refusal_of t (Event.Stop command) ≡ None
-            → IsTable self.new (t ++ Event.Stop command ∷ []) }
-        ensures places { vec_capacity self.new.opened ≡ vec_capacity self.old.opened }
-        ensures room { table_room self.old ≤ table_room self.new }
-    {
-        note_stop(&mut self.opened, command);
-        self.orders += 1;
-    }
-
-    /// Takes a message of the worker. The number of a request that is fresh is kept with its
-    /// verdict, and a repeat changes nothing.
-    fn take_in(&mut self, number: u64, body: &Body)
-        requires known { IsTableUp self.old }
-        requires room { 0 < table_room self.old }
-        ensures table { (t : Trace) → IsTable self.old t → was_taken t ≡ true → up_of t ≡ true
-            → IsTable self.new (t ++ Event.In number body.now ∷ []) }
-        ensures places { vec_capacity self.new.opened ≡ vec_capacity self.old.opened }
-        ensures room { table_room self.old ≤ table_room self.new + 1 }
-    {
-        match body {
-            Body::Answered { fault } => {
-                if *fault {
-                    self.take_refusal(number);
-                }
-            }
-            _ => {
-                if self.seen.verdict(number).is_none() {
-                    self.take_request(number, body);
-                }
-            }
-        }
-    }
-
-    /// Takes the refusal of an order: the command that the order started ends, if it is open.
-    fn take_refusal(&mut self, number: u64)
-        requires { IsTableUp self.old }
-        ensures table { (t : Trace) → IsTable self.old t → was_taken t ≡ true → up_of t ≡ true
-            → IsTable self.new (t ++ Event.In number (Body.Answered true) ∷ []) }
-        ensures places { vec_capacity self.new.opened ≡ vec_capacity self.old.opened }
-        ensures room { table_room self.new ≡ table_room self.old }
-    {
-        if let Some(entry) = with_order(self.opened.as_slice(), number) {
-            self.end(entry, true);
-        }
-    }
-
-    /// Takes a fresh request.
-    fn take_request(&mut self, number: u64, body: &Body)
-        requires known { IsTableUp self.old }
-        requires room { 0 < table_room self.old }
-        requires asks { asks body.now ≡ true }
-        requires fresh { verdict_in self.old.seen.ranges number ≡ None }
-        ensures table { (t : Trace) → IsTable self.old t → up_of t ≡ true
-            → IsTable self.new (t ++ Event.In number body.now ∷ []) }
-        ensures places { vec_capacity self.new.opened ≡ vec_capacity self.old.opened }
-        ensures room { table_room self.old ≤ table_room self.new + 1 }
-    {
-        let verdict = self.verdict(body);
-        self.seen.insert(number, verdict);
-        match body {
-            Body::Update { command, rc, .. } => {
-                if let Some(rc) = rc {
-                    note_told(&mut self.opened, *command, result_of_code(*rc));
-                }
-            }
-            Body::Complete { command, fault } => {
-                if let Some(entry) = with_command(self.opened.as_slice(), *command) {
-                    self.end(entry, *fault);
-                }
-            }
-            _ => {}
-        }
-    }
-
-    /// Ends the open command.
-    fn end(&mut self, entry: Open, fault: bool)
-        requires { entry.command < length self.old.outcomes.items }
-        ensures listed { self.new.opened.items ≡ filter
-            (λ (o : Open). not (entry.command == o.command)) self.old.opened.items }
-        ensures ended { self.new.outcomes.items
-            ≡ slice_set self.old.outcomes.items entry.command (Some (ends_as_lem entry fault)) }
-        ensures link { self.new.link ≡ self.old.link }
-        ensures orders { self.new.orders ≡ self.old.orders }
-        ensures seen { self.new.seen ≡ self.old.seen }
-        ensures places { vec_capacity self.new.opened ≡ vec_capacity self.old.opened }
-        ensures room { table_room self.new ≡ table_room self.old }
-    {
-        self.outcomes[entry.command as usize] = Some(entry.ends_as(fault));
-        self.opened.retain(|other| entry.command != other.command);
     }
 }

@@ -22,11 +22,11 @@ use Rattle.bm_session.specs.declared.results.Results.TheVariants.{Retry}
 use Rattle.bm_lines.specs.Lines.{Line}
 use mathlib.Core.Path.{fun_ext}
 use Rattle.bm_lines.specs.Names.{Name}
-use Rattle.bm_lines.specs.Parcels.{blocks_under}
-use Rattle.bm_lines.specs.declared.parcel.Part.{Part}
+use Rattle.bm_lines.specs.LineBatches.{blocks_under}
+use Rattle.bm_lines.specs.declared.line_batch.LogLines.{LogLines}
 use mathlib.Core.List.{IsPrefix}
 use Rattle.bm_session.specs.Trace.{Trace, Moment, commands, was_order, ends_at, ending, is_open, open_commands, blocks, outcome, updates, is_fresh, below, is_empty, item, item_if, items, ended_by, result_at, was_taken, refusal, visible, productive}
-use Rattle.bm_store.specs.Book.{Logs, no_logs, with_parcel, with_end, change_at, after_item, book, logs_of, logs}
+use Rattle.bm_store.specs.Book.{Logs, no_logs, with_batch, with_end, change_at, after_item, book, logs_of, logs}
 use Rattle.bm_store.specs.Laws.{BooksHaveTheLogs, VisibleBooksHaveTheLogs}
 
 -- lists over 0, 1, .. below n
@@ -203,46 +203,46 @@ step-Down t = go (is_empty (open_commands t)) refl
 -- an update
 
 -- the blocks of each name, and more
-abbrev more_blocks : (Name → List (List Line)) → List Part → Name → List (List Line)
-more_blocks f parcel name = f name ++ blocks_under name parcel
+abbrev more_blocks : (Name → List (List Line)) → List LogLines → Name → List (List Line)
+more_blocks f batch name = f name ++ blocks_under name batch
 
-with_parcel-open : (t : Trace) (k : ℕ) (parcel : List Part) → ending t k ≡ None → with_parcel parcel (logs_of t k) ≡ record { blocks = more_blocks (blocks t k) parcel; ended = None }
-with_parcel-open t k parcel h = ap (λ o. with_parcel parcel (record { blocks = blocks t k; ended = option_map (result_at k) o })) h
+with_batch-open : (t : Trace) (k : ℕ) (batch : List LogLines) → ending t k ≡ None → with_batch batch (logs_of t k) ≡ record { blocks = more_blocks (blocks t k) batch; ended = None }
+with_batch-open t k batch h = ap (λ o. with_batch batch (record { blocks = blocks t k; ended = option_map (result_at k) o })) h
 
-step-Update : (t : Trace) (n j : ℕ) (parcel : List Part) (rc : Option ℤ) → after_some (logs t) (item t (In n (Update j parcel rc))) ≡ logs (t ++ In n (Update j parcel rc) ∷ [])
-step-Update t n j parcel rc = go (updates j (next t e)) refl
+step-Update : (t : Trace) (n j : ℕ) (batch : List LogLines) (rc : Option ℤ) → after_some (logs t) (item t (In n (Update j batch rc))) ≡ logs (t ++ In n (Update j batch rc) ∷ [])
+step-Update t n j batch rc = go (updates j (next t e)) refl
   where
     e : Event
-    e = In n (Update j parcel rc)
+    e = In n (Update j batch rc)
 
-    same : commands (t ++ In n (Update j parcel rc) ∷ []) ≡ commands t
-    same = commands-push t (In n (Update j parcel rc)) ∙ omega arith
+    same : commands (t ++ In n (Update j batch rc) ∷ []) ≡ commands t
+    same = commands-push t (In n (Update j batch rc)) ∙ omega arith
 
     no-ending : (a f : Bool) → (a && ((f && false) || false)) ≡ false
     no-ending true true = refl
     no-ending true false = refl
     no-ending false f = refl
 
-    stays : (k : ℕ) → ends_at k (next t (In n (Update j parcel rc))) ≡ false
-    stays k = no-ending (nat_lt k (commands t)) (is_fresh (next t (In n (Update j parcel rc))))
+    stays : (k : ℕ) → ends_at k (next t (In n (Update j batch rc))) ≡ false
+    stays k = no-ending (nat_lt k (commands t)) (is_fresh (next t (In n (Update j batch rc))))
 
-    go : (b : Bool) → updates j (next t (In n (Update j parcel rc))) ≡ b → after_some (logs t) (item_if b (Lines j parcel)) ≡ logs (t ++ In n (Update j parcel rc) ∷ [])
-    go false h = same-logs t (In n (Update j parcel rc)) same (λ k l. logs_of-same t (In n (Update j parcel rc)) k (λ name. unproductive t (In n (Update j parcel rc)) k name (ap (λ b. item_if b (Lines j parcel)) h)) (λ _. stays k))
+    go : (b : Bool) → updates j (next t (In n (Update j batch rc))) ≡ b → after_some (logs t) (item_if b (Lines j batch)) ≡ logs (t ++ In n (Update j batch rc) ∷ [])
+    go false h = same-logs t (In n (Update j batch rc)) same (λ k l. logs_of-same t (In n (Update j batch rc)) k (λ name. unproductive t (In n (Update j batch rc)) k name (ap (λ b. item_if b (Lines j batch)) h)) (λ _. stays k))
     go true h =
-        let runs : is_open t j ≡ true = and-right (is_fresh (next t (In n (Update j parcel rc))) && (j == j)) (is_open t j) h in
+        let runs : is_open t j ≡ true = and-right (is_fresh (next t (In n (Update j batch rc))) && (j == j)) (is_open t j) h in
         let inside : j < commands t = open-is-started t j runs in
         let none : ending t j ≡ None = none-when (ending t j) (sym (open-when t j inside) ∙ runs) in
-        let ls : blocks (t ++ In n (Update j parcel rc) ∷ []) j ≡ more_blocks (blocks t j) parcel = fun_ext (λ name. blocks-push t (In n (Update j parcel rc)) j name ∙ ap (λ b. blocks t j name ++ cond b (blocks_under name parcel) []) h) in
-        let end : outcome (t ++ In n (Update j parcel rc) ∷ []) j ≡ None = ended-push t (In n (Update j parcel rc)) j ∙ ap (λ o. option_map (result_at j) (option_or o (cond (ends_at j (next t (In n (Update j parcel rc)))) (Some (next t (In n (Update j parcel rc)))) None))) none ∙ ap (λ b. option_map (result_at j) (cond b (Some (next t (In n (Update j parcel rc)))) None)) (stays j) in
-        let new : logs_of (t ++ In n (Update j parcel rc) ∷ []) j ≡ record { blocks = more_blocks (blocks t j) parcel; ended = None } = ap (λ l. record { blocks = l; ended = outcome (t ++ In n (Update j parcel rc) ∷ []) j }) ls ∙ ap (λ r. record { blocks = more_blocks (blocks t j) parcel; ended = r }) end in
-        change-below j (commands t) (with_parcel parcel) (logs_of t) (logs_of (t ++ In n (Update j parcel rc) ∷ [])) inside (new ∙ sym (with_parcel-open t j parcel none))
-        (λ k l ne. logs_of-same t (In n (Update j parcel rc)) k (other k ne) (λ _. stays k))
-        ∙ ap (λ c. map (logs_of (t ++ In n (Update j parcel rc) ∷ [])) (below c)) (sym same)
+        let ls : blocks (t ++ In n (Update j batch rc) ∷ []) j ≡ more_blocks (blocks t j) batch = fun_ext (λ name. blocks-push t (In n (Update j batch rc)) j name ∙ ap (λ b. blocks t j name ++ cond b (blocks_under name batch) []) h) in
+        let end : outcome (t ++ In n (Update j batch rc) ∷ []) j ≡ None = ended-push t (In n (Update j batch rc)) j ∙ ap (λ o. option_map (result_at j) (option_or o (cond (ends_at j (next t (In n (Update j batch rc)))) (Some (next t (In n (Update j batch rc)))) None))) none ∙ ap (λ b. option_map (result_at j) (cond b (Some (next t (In n (Update j batch rc)))) None)) (stays j) in
+        let new : logs_of (t ++ In n (Update j batch rc) ∷ []) j ≡ record { blocks = more_blocks (blocks t j) batch; ended = None } = ap (λ l. record { blocks = l; ended = outcome (t ++ In n (Update j batch rc) ∷ []) j }) ls ∙ ap (λ r. record { blocks = more_blocks (blocks t j) batch; ended = r }) end in
+        change-below j (commands t) (with_batch batch) (logs_of t) (logs_of (t ++ In n (Update j batch rc) ∷ [])) inside (new ∙ sym (with_batch-open t j batch none))
+        (λ k l ne. logs_of-same t (In n (Update j batch rc)) k (other k ne) (λ _. stays k))
+        ∙ ap (λ c. map (logs_of (t ++ In n (Update j batch rc) ∷ [])) (below c)) (sym same)
       where
-        other : (k : ℕ) → (k ≡ j → ⊥) → (name : Name) → added t k name (In n (Update j parcel rc)) ≡ []
+        other : (k : ℕ) → (k ≡ j → ⊥) → (name : Name) → added t k name (In n (Update j batch rc)) ≡ []
         other k ne name =
             let differs : (j == k) ≡ false = grind (arith, nat_tests) in
-            ap (λ b. cond (is_fresh (next t (In n (Update j parcel rc))) && b && is_open t k) (blocks_under name parcel) []) differs ∙ ap (λ b. cond (b && is_open t k) (blocks_under name parcel) []) (and-false (is_fresh (next t (In n (Update j parcel rc)))))
+            ap (λ b. cond (is_fresh (next t (In n (Update j batch rc))) && b && is_open t k) (blocks_under name batch) []) differs ∙ ap (λ b. cond (b && is_open t k) (blocks_under name batch) []) (and-false (is_fresh (next t (In n (Update j batch rc)))))
 
 -- an event that ends one open command at most
 
@@ -294,7 +294,7 @@ one-Complete t n c fault i j h g =
     sym (eqb-true c i a) ∙ eqb-true c j b
 
 step-In : (t : Trace) (n : ℕ) (body : Body) → IsSound t → after_some (logs t) (item t (In n body)) ≡ logs (t ++ In n body ∷ [])
-step-In t n (Update j parcel rc) s = step-Update t n j parcel rc
+step-In t n (Update j batch rc) s = step-Update t n j batch rc
 step-In t n (Complete c fault) s =
     step-End t (In n (Complete c fault)) (commands-push t (In n (Complete c fault)) ∙ omega arith) (λ k name. same-arms (updates k (next t (In n (Complete c fault)))) [])
     (λ i j hi hj ei ej. one-Complete t n c fault i j ei ej)

@@ -6,13 +6,13 @@ use Rattle.std.proofs.lemmas.List.Sums.{fold-append}
 use mathlib.Core.List.{IsPrefix}
 use Rattle.bm_lines.specs.Lines.{Line}
 use Rattle.bm_lines.specs.Names.{Name}
-use Rattle.bm_lines.specs.Parcels.{blocks_under}
-use Rattle.bm_lines.specs.declared.parcel.Part.{Part}
+use Rattle.bm_lines.specs.LineBatches.{blocks_under}
+use Rattle.bm_lines.specs.declared.line_batch.LogLines.{LogLines}
 use Rattle.bm_session.specs.declared.item.Item.{Item}
 use Rattle.bm_session.specs.declared.item.Item.TheVariants.{Open, Lines, End, Gone}
 use Rattle.bm_session.specs.declared.results.Results.{Results}
 use Rattle.bm_session.specs.declared.results.Results.TheVariants.{Retry}
-use Rattle.bm_store.specs.Book.{Logs, no_logs, with_parcel, with_end, change_at, after_item, book, blocks_in}
+use Rattle.bm_store.specs.Book.{Logs, no_logs, with_batch, with_end, change_at, after_item, book, blocks_in}
 use Rattle.bm_store.specs.Laws.{LogsGrow}
 
 same : (bs : List (List Line)) → IsPrefix bs bs
@@ -22,11 +22,11 @@ same bs = ([], append-nil bs)
 abbrev Grows : (Logs → Logs) → Type 0
 Grows f = (l : Logs) (name : Name) → IsPrefix (l.blocks name) ((f l).blocks name)
 
-with_parcel-grows : (parcel : List Part) → Grows (with_parcel parcel)
-with_parcel-grows parcel l name = go (is_none l.ended)
+with_batch-grows : (batch : List LogLines) → Grows (with_batch batch)
+with_batch-grows batch l name = go (is_none l.ended)
   where
-    go : (b : Bool) → IsPrefix (l.blocks name) ((cond b (record { blocks = λ n. l.blocks n ++ blocks_under n parcel; ended = None }) l).blocks name)
-    go true = (blocks_under name parcel, refl)
+    go : (b : Bool) → IsPrefix (l.blocks name) ((cond b (record { blocks = λ n. l.blocks n ++ blocks_under n batch; ended = None }) l).blocks name)
+    go true = (blocks_under name batch, refl)
     go false = same (l.blocks name)
 
 with_end-grows : (r : Results) → Grows (with_end r)
@@ -60,7 +60,7 @@ item-grows ls (Open j) k name = go (j == length ls)
     go : (b : Bool) → IsPrefix (blocks_in ls k name) (blocks_in (cond b (ls ++ no_logs ∷ []) ls) k name)
     go true = open-grows ls k name
     go false = same (blocks_in ls k name)
-item-grows ls (Lines j parcel) k name = change-grows (with_parcel parcel) (with_parcel-grows parcel) j ls k name
+item-grows ls (Lines j batch) k name = change-grows (with_batch batch) (with_batch-grows batch) j ls k name
 item-grows ls (End j r) k name = change-grows (with_end r) (with_end-grows r) j ls k name
 item-grows ls Gone k name = map-grows (with_end Retry) (with_end-grows Retry) ls k name
 

@@ -4,28 +4,28 @@ use Rattle.std.specs.Prelude.{◌==◌, map, is_none, bytes_eq, slice_get, optio
 use Rattle.std.proofs.lemmas.List.{length-map, map-append}
 use mathlib.Core.Path.{fun_ext}
 use Rattle.bm_lines.specs.Names.{Name, stdio}
-use Rattle.bm_lines.specs.Parcels.{blocks_under}
+use Rattle.bm_lines.specs.LineBatches.{blocks_under}
 use Rattle.bm_lines.specs.Lines.{Line}
-use Rattle.bm_lines.specs.declared.parcel.Part.{Part}
+use Rattle.bm_lines.specs.declared.line_batch.LogLines.{LogLines}
 use Rattle.bm_session.proofs.Taken.{and-left, and-right}
 use Rattle.bm_session.specs.Trace.{is_empty, joined, slice}
 use Rattle.bm_session.specs.declared.item.Item.TheVariants.{Open, Lines, End, Gone}
 use Rattle.bm_session.specs.declared.results.Results.{Results}
 use Rattle.bm_session.specs.declared.results.Results.TheVariants.{Retry}
-use Rattle.bm_store.specs.Book.{Logs, no_logs, with_parcel, with_end, change_at, is_there, placed, placed_log, placed_in, chunk_log, chunk_in}
+use Rattle.bm_store.specs.Book.{Logs, no_logs, with_batch, with_end, change_at, is_there, placed, placed_log, placed_in, chunk_log, chunk_in}
 use Rattle.bm_store.specs.Placing.{block_at}
 use Rattle.bm_store.specs.declared.placed.Placed.{Placed}
 use Rattle.bm_store.proofs.Places.{block_at-placed}
-use Rattle.bm_store.specs.Kept.{Named, Kept, blocks_of, logs_kept, logs_in, with_parts, have_blocks, nothing_kept, kept_with_parcel, kept_with_end}
+use Rattle.bm_store.specs.Kept.{Named, Kept, blocks_of, logs_kept, logs_in, with_parts, have_blocks, nothing_kept, kept_with_batch, kept_with_end}
 use Rattle.bm_store.specs.Laws.{KeptBooksMeanLogs}
 use Rattle.bm_store.proofs.Shelves.{blocks_of-parts, some-block}
 
-kept-parcel : (parcel : List Part) (c : Kept) → logs_kept (kept_with_parcel parcel c) ≡ with_parcel parcel (logs_kept c)
-kept-parcel parcel c = go (is_none c.ended)
+kept-batch : (batch : List LogLines) (c : Kept) → logs_kept (kept_with_batch batch c) ≡ with_batch batch (logs_kept c)
+kept-batch batch c = go (is_none c.ended)
   where
-    go : (b : Bool) → logs_kept (cond b (record { named = with_parts parcel c.named; ended = None }) c)
-        ≡ cond b (record { blocks = λ name. blocks_of c.named name ++ blocks_under name parcel; ended = None }) (logs_kept c)
-    go true = ap (λ (bs : Name → List (List Line)). record { blocks = bs; ended = None }) (fun_ext (λ name. blocks_of-parts parcel c.named name))
+    go : (b : Bool) → logs_kept (cond b (record { named = with_parts batch c.named; ended = None }) c)
+        ≡ cond b (record { blocks = λ name. blocks_of c.named name ++ blocks_under name batch; ended = None }) (logs_kept c)
+    go true = ap (λ (bs : Name → List (List Line)). record { blocks = bs; ended = None }) (fun_ext (λ name. blocks_of-parts batch c.named name))
     go false = refl
 
 kept-end : (r : Results) (c : Kept) → logs_kept (kept_with_end r c) ≡ with_end r (logs_kept c)
@@ -51,7 +51,7 @@ kept_books_mean_logs cs (Open k) = go (k == length cs) ∙ ap (λ n. cond (k == 
     go : (b : Bool) → logs_in (cond b (cs ++ nothing_kept ∷ []) cs) ≡ cond b (logs_in cs ++ no_logs ∷ []) (logs_in cs)
     go true = map-append logs_kept cs (nothing_kept ∷ [])
     go false = refl
-kept_books_mean_logs cs (Lines k parcel) = change-map logs_kept (kept_with_parcel parcel) (with_parcel parcel) (kept-parcel parcel) k cs
+kept_books_mean_logs cs (Lines k batch) = change-map logs_kept (kept_with_batch batch) (with_batch batch) (kept-batch batch) k cs
 kept_books_mean_logs cs (End k r) = change-map logs_kept (kept_with_end r) (with_end r) (kept-end r) k cs
 kept_books_mean_logs cs Gone = map-change logs_kept (kept_with_end Retry) (with_end Retry) (kept-end Retry) cs
 

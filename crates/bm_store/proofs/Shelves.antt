@@ -9,9 +9,9 @@ use Rattle.std.proofs.lemmas.List.Sums.{fold-append}
 use Rattle.std.proofs.lemmas.Slice.Eq.{bytes_eq-Decides}
 use Rattle.std.proofs.lemmas.Bool.Decides.{nat_tests}
 use Rattle.bm_lines.specs.Names.{Name}
-use Rattle.bm_lines.specs.Parcels.{blocks_under}
+use Rattle.bm_lines.specs.LineBatches.{blocks_under}
 use Rattle.bm_lines.specs.Lines.{Line}
-use Rattle.bm_lines.specs.declared.parcel.Part.{Part}
+use Rattle.bm_lines.specs.declared.line_batch.LogLines.{LogLines}
 use Rattle.bm_session.proofs.Taken.{and-left, and-right}
 use Rattle.bm_store.specs.Kept.{Named, blocks_of, with_block, with_parts, without_block, have_blocks}
 
@@ -151,15 +151,15 @@ have-with (x ∷ xs) name block h = go (bytes_eq x.name name) (have-with xs name
         ap (λ b. b && have_blocks xs) some ∙ and-right _ _ h
     go false rest = ap (λ b. b && have_blocks (with_block name block xs)) (and-left _ _ h) ∙ rest
 
-pub have-parts : (ps : List Part) (ls : List Named) → have_blocks ls ≡ true → have_blocks (with_parts ps ls) ≡ true
+pub have-parts : (ps : List LogLines) (ls : List Named) → have_blocks ls ≡ true → have_blocks (with_parts ps ls) ≡ true
 have-parts [] ls h = h
 have-parts (p ∷ ps) ls h = have-parts ps (with_block p.name p.block ls) (have-with ls p.name p.block h)
 
-pub with_parts-push : (ps : List Part) (p : Part) (ls : List Named) → with_parts (ps ++ p ∷ []) ls ≡ with_block p.name p.block (with_parts ps ls)
-with_parts-push ps p ls = fold-append (λ xs (p : Part). with_block p.name p.block xs) ls ps (p ∷ [])
+pub with_parts-push : (ps : List LogLines) (p : LogLines) (ls : List Named) → with_parts (ps ++ p ∷ []) ls ≡ with_block p.name p.block (with_parts ps ls)
+with_parts-push ps p ls = fold-append (λ xs (p : LogLines). with_block p.name p.block xs) ls ps (p ∷ [])
 
 -- one part taken back
-pub part-back : (ps : List Part) (p d : Part) (n left : ℕ) (name : Name) (base now after : List Named) → have_blocks base ≡ true → left ≡ n + 1 → n < length ps → p ≡ get_or ps n d → name ≡ p.name
+pub part-back : (ps : List LogLines) (p d : LogLines) (n left : ℕ) (name : Name) (base now after : List Named) → have_blocks base ≡ true → left ≡ n + 1 → n < length ps → p ≡ get_or ps n d → name ≡ p.name
     → now ≡ with_parts (take left ps) base → after ≡ without_block name now → after ≡ with_parts (take n ps) base
 part-back ps p d n left name base now after h e inside at named was is =
     let next : left ≡ suc n = omega arith in
@@ -168,7 +168,7 @@ part-back ps p d n left name base now after h e inside at named was is =
     is ∙ ap (λ m. without_block m now) named ∙ ap (without_block p.name) before ∙ without-with (with_parts (take n ps) base) p.name p.block (have-parts (take n ps) base h)
 
 -- a call that adds all parts or none leaves a block in each log
-pub have-either : {T E : Type 0} (r : Result T E) (ps : List Part) (old new : List Named) → OnOk r (new ≡ with_parts ps old) → OnErr r (have_blocks old ≡ true → new ≡ old) → have_blocks old ≡ true → have_blocks new ≡ true
+pub have-either : {T E : Type 0} (r : Result T E) (ps : List LogLines) (old new : List Named) → OnOk r (new ≡ with_parts ps old) → OnErr r (have_blocks old ≡ true → new ≡ old) → have_blocks old ≡ true → have_blocks new ≡ true
 have-either (Ok x) ps old new ok err h = ap have_blocks ok ∙ have-parts ps old h
 have-either (Err e) ps old new ok err h = ap have_blocks (err h) ∙ h
 
@@ -200,14 +200,14 @@ blocks_of-with (x ∷ xs) name block other = go (bytes_eq x.name name) refl (blo
         arms false f true g = refl
         arms false f false g = refl
 
--- and after the parts of a parcel
-pub blocks_of-parts : (ps : List Part) (ls : List Named) (name : Name) → blocks_of (with_parts ps ls) name ≡ blocks_of ls name ++ blocks_under name ps
+-- and after the parts of a batch
+pub blocks_of-parts : (ps : List LogLines) (ls : List Named) (name : Name) → blocks_of (with_parts ps ls) name ≡ blocks_of ls name ++ blocks_under name ps
 blocks_of-parts [] ls name = sym (append-nil (blocks_of ls name))
 blocks_of-parts (p ∷ ps) ls name =
     blocks_of-parts ps (with_block p.name p.block ls) name
     ∙ ap (λ bs. bs ++ blocks_under name ps) (blocks_of-with ls p.name p.block name)
     ∙ go (bytes_eq p.name name)
   where
-    go : (b : Bool) → cond b (blocks_of ls name ++ p.block ∷ []) (blocks_of ls name) ++ blocks_under name ps ≡ blocks_of ls name ++ map (λ (q : Part). q.block) (cond b (p ∷ filter (λ (q : Part). bytes_eq q.name name) ps) (filter (λ (q : Part). bytes_eq q.name name) ps))
+    go : (b : Bool) → cond b (blocks_of ls name ++ p.block ∷ []) (blocks_of ls name) ++ blocks_under name ps ≡ blocks_of ls name ++ map (λ (q : LogLines). q.block) (cond b (p ∷ filter (λ (q : LogLines). bytes_eq q.name name) ps) (filter (λ (q : LogLines). bytes_eq q.name name) ps))
     go true = append_assoc (blocks_of ls name) (p.block ∷ []) (blocks_under name ps)
     go false = refl

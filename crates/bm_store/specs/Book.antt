@@ -3,8 +3,8 @@ use Rattle.std.specs.Prelude.{ℕ, zero, suc, ◌==◌, ◌+◌, ◌-◌, ◌^�
 use Rattle.std.specs.List.{sum_by}
 use Rattle.bm_lines.specs.Names.{Name, stdio}
 use Rattle.bm_lines.specs.Lines.{Line, content_of}
-use Rattle.bm_lines.specs.Parcels.{blocks_under}
-use Rattle.bm_lines.specs.declared.parcel.Part.{Part}
+use Rattle.bm_lines.specs.LineBatches.{blocks_under}
+use Rattle.bm_lines.specs.declared.line_batch.LogLines.{LogLines}
 use Rattle.bm_session.specs.declared.item.Item.{Item}
 use Rattle.bm_session.specs.declared.item.Item.TheVariants.{Open, Lines, End, Gone}
 use Rattle.bm_session.specs.declared.results.Results.{Results}
@@ -23,11 +23,11 @@ pub record Logs : Type 0 where
 abbrev pub no_logs : Logs
 no_logs = record { blocks = λ _. []; ended = None }
 
--- with a parcel more, where the command is open
-abbrev pub with_parcel : List Part → Logs → Logs
-with_parcel parcel l =
+-- with a batch more, where the command is open
+abbrev pub with_batch : List LogLines → Logs → Logs
+with_batch batch l =
     if is_none l.ended
-    then record { blocks = λ name. l.blocks name ++ blocks_under name parcel; ended = None }
+    then record { blocks = λ name. l.blocks name ++ blocks_under name batch; ended = None }
     else l
 
 -- ended, where the command is open
@@ -43,7 +43,7 @@ change_at (suc k) f (x ∷ xs) = x ∷ change_at k f xs
 -- the logs of each command, after one item more
 abbrev pub after_item : List Logs → Item → List Logs
 after_item book (Open k) = if k == length book then book ++ no_logs ∷ [] else book
-after_item book (Lines k parcel) = change_at k (with_parcel parcel) book
+after_item book (Lines k batch) = change_at k (with_batch batch) book
 after_item book (End k r) = change_at k (with_end r) book
 after_item book Gone = map (with_end Retry) book
 

@@ -2,7 +2,7 @@
 use Rattle.std.specs.Prelude.{Bool, true, ◌&&◌, nat_le, ◌-◌, ◌==◌, is_none, List, [], ◌∷◌, ◌++◌, length, take, map, fold, Option, Some, None, bytes_eq, if◌then◌else◌}
 use Rattle.bm_lines.specs.Names.{Name}
 use Rattle.bm_lines.specs.Lines.{Line}
-use Rattle.bm_lines.specs.declared.parcel.Part.{Part}
+use Rattle.bm_lines.specs.declared.line_batch.LogLines.{LogLines}
 use Rattle.bm_session.specs.declared.item.Item.{Item}
 use Rattle.bm_session.specs.declared.item.Item.TheVariants.{Open, Lines, End, Gone}
 use Rattle.bm_session.specs.declared.results.Results.{Results}
@@ -43,8 +43,8 @@ with_block name block (l ∷ ls) =
     else l ∷ with_block name block ls
 
 -- and with the blocks of parts, in order
-abbrev pub with_parts : List Part → List Named → List Named
-with_parts ps ls = fold (λ xs (p : Part). with_block p.name p.block xs) ls ps
+abbrev pub with_parts : List LogLines → List Named → List Named
+with_parts ps ls = fold (λ xs (p : LogLines). with_block p.name p.block xs) ls ps
 
 -- the logs without the last block under a name
 abbrev pub without_block : Name → List Named → List Named
@@ -64,10 +64,10 @@ have_blocks (l ∷ ls) = nat_le 1 (length l.blocks) && have_blocks ls
 abbrev pub nothing_kept : Kept
 nothing_kept = record { named = []; ended = None }
 
--- with a parcel more, where the command is open
-abbrev pub kept_with_parcel : List Part → Kept → Kept
-kept_with_parcel parcel c =
-    if is_none c.ended then record { named = with_parts parcel c.named; ended = None } else c
+-- with a batch more, where the command is open
+abbrev pub kept_with_batch : List LogLines → Kept → Kept
+kept_with_batch batch c =
+    if is_none c.ended then record { named = with_parts batch c.named; ended = None } else c
 
 -- ended, where the command is open
 abbrev pub kept_with_end : Results → Kept → Kept
@@ -76,6 +76,6 @@ kept_with_end r c = if is_none c.ended then record { named = c.named; ended = So
 -- each command, after one item more
 abbrev pub kept_after : List Kept → Item → List Kept
 kept_after cs (Open k) = if k == length cs then cs ++ nothing_kept ∷ [] else cs
-kept_after cs (Lines k parcel) = change_at k (kept_with_parcel parcel) cs
+kept_after cs (Lines k batch) = change_at k (kept_with_batch batch) cs
 kept_after cs (End k r) = change_at k (kept_with_end r) cs
 kept_after cs Gone = map (kept_with_end Retry) cs

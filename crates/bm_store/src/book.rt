@@ -4,14 +4,14 @@ ghost use Rattle.std.specs.Prelude.{◌≡◌, [], length, map, slice_get, Ok, E
 ghost use Rattle.std.specs.Option.{option_copied};
 ghost use Rattle.bm_store.specs.Book.{change_at, after_item, placed_in, chunk_in, state_in, stdio_lines_in};
 ghost use Rattle.bm_store.specs.Portions.{LooksAt, LooksAtPortion};
-ghost use Rattle.bm_store.specs.Kept.{logs_in, kept_after, kept_with_parcel, kept_with_end};
+ghost use Rattle.bm_store.specs.Kept.{logs_in, kept_after, kept_with_batch, kept_with_end};
 
 use crate::chunk::{Chunk, LogState, ViewRefusal};
 use crate::command_logs::CommandLogs;
 use crate::gather::lines;
 use crate::placed::Placed;
 use crate::portion::{Portion, gather_portion};
-use bm_lines::Parcel;
+use bm_lines::LineBatch;
 use bm_session::{Item, Results};
 use std::alloc::{AllocError, Global};
 use std::marker::Model;
@@ -33,15 +33,15 @@ impl Model for Book {
     ghost view = { λ b. b.commands.items };
 }
 
-/// Adds a parcel to the logs of the command at a place, where there is one and it is open.
-fn add_at(commands: &mut [CommandLogs], place: u64, parcel: &Parcel) -> Result<(), AllocError>
+/// Adds a batch to the logs of the command at a place, where there is one and it is open.
+fn add_at(commands: &mut [CommandLogs], place: u64, batch: &LineBatch) -> Result<(), AllocError>
     ensures ok { OnOk result (commands.new
-        ≡ change_at place (kept_with_parcel parcel.now) commands.old) }
+        ≡ change_at place (kept_with_batch batch.now) commands.old) }
     ensures err { OnErr result (commands.new ≡ commands.old) }
 {
     let place = place as usize;
     if place < commands.len() {
-        commands[place].add(parcel)?;
+        commands[place].add(batch)?;
     }
     Ok(())
 }
@@ -101,7 +101,7 @@ impl Book {
                     self.commands.push(CommandLogs::new(alloc))?;
                 }
             }
-            Item::Lines(k, parcel) => add_at(self.commands.as_mut_slice(), *k, parcel)?,
+            Item::Lines(k, batch) => add_at(self.commands.as_mut_slice(), *k, batch)?,
             Item::End(k, results) => end_at(self.commands.as_mut_slice(), *k, *results),
             Item::Gone => end_all(self.commands.as_mut_slice(), Results::Retry),
         }

@@ -6,12 +6,12 @@ ghost use Rattle.bm_lines.specs.Names.{stdio};
 ghost use Rattle.bm_lines.specs.Places.{HasPlaces, HasPlacesIfAny};
 ghost use Rattle.bm_session.specs.Trace.{joined};
 ghost use Rattle.bm_store.specs.Book.{is_there, placed_log, state_log};
-ghost use Rattle.bm_store.specs.Kept.{Named, names_kept, blocks_of, logs_kept, with_block, with_parts, without_block, have_blocks, nothing_kept, kept_with_parcel, kept_with_end};
+ghost use Rattle.bm_store.specs.Kept.{Named, names_kept, blocks_of, logs_kept, with_block, with_parts, without_block, have_blocks, nothing_kept, kept_with_batch, kept_with_end};
 
 use crate::chunk::LogState;
 use crate::named_log::NamedLog;
 use crate::placed::Placed;
-use bm_lines::{FEW_NAMES, LogName, NameTable, Parcel, Part, STDIO};
+use bm_lines::{FEW_NAMES, LineBatch, LogLines, LogName, NameTable, STDIO};
 use bm_session::Results;
 use std::alloc::{AllocError, Global};
 use std::marker::Model;
@@ -74,7 +74,7 @@ fn known<'a>(places: &Option<NameTable>, logs: &'a [NamedLog], name: &str) -> Op
 }
 
 /// Adds the block of a part under its name.
-fn add(logs: &mut Vec<NamedLog>, part: &Part) -> Result<(), AllocError>
+fn add(logs: &mut Vec<NamedLog>, part: &LogLines) -> Result<(), AllocError>
     ensures ok { OnOk result (logs.new.items
         ≡ with_block part.now.name part.now.block logs.old.items) }
     ensures err { OnErr result (logs.new.items ≡ logs.old.items) }
@@ -84,7 +84,7 @@ fn add(logs: &mut Vec<NamedLog>, part: &Part) -> Result<(), AllocError>
 }
 
 /// Adds the block of a part to the log at a place, or as a new log.
-fn add_at(logs: &mut Vec<NamedLog>, place: Option<usize>, part: &Part) -> Result<(), AllocError>
+fn add_at(logs: &mut Vec<NamedLog>, place: Option<usize>, part: &LogLines) -> Result<(), AllocError>
     requires { place ≡ position (λ l. bytes_eq l.name part.now.name) logs.old.items }
     ensures ok { OnOk result (logs.new.items
         ≡ with_block part.now.name part.now.block logs.old.items) }
@@ -117,7 +117,7 @@ fn remove_last(logs: &mut Vec<NamedLog>, name: &LogName)
 }
 
 /// Undoes the adding of parts, the last one first.
-fn take_back(logs: &mut Vec<NamedLog>, parts: &[Part])
+fn take_back(logs: &mut Vec<NamedLog>, parts: &[LogLines])
     ensures { (base : List Named) → have_blocks base ≡ true
         → logs.old.items ≡ with_parts parts.now base → logs.new.items ≡ base }
 {
@@ -129,7 +129,7 @@ fn take_back(logs: &mut Vec<NamedLog>, parts: &[Part])
 }
 
 /// Adds the blocks of all parts, or of none.
-fn add_all(logs: &mut Vec<NamedLog>, parts: &[Part]) -> Result<(), AllocError>
+fn add_all(logs: &mut Vec<NamedLog>, parts: &[LogLines]) -> Result<(), AllocError>
     ensures ok { OnOk result (logs.new.items ≡ with_parts parts.now logs.old.items) }
     ensures err { OnErr result (have_blocks logs.old.items ≡ true
         → logs.new.items ≡ logs.old.items) }
@@ -147,7 +147,7 @@ fn add_all(logs: &mut Vec<NamedLog>, parts: &[Part]) -> Result<(), AllocError>
 fn add_by_table(
     logs: &mut Vec<NamedLog>,
     places: NameTable,
-    part: &Part,
+    part: &LogLines,
 ) -> Result<NameTable, AllocError>
     requires { HasPlaces places (names_kept logs.old.items) }
     ensures ok { OnOk result (logs.new.items
@@ -172,7 +172,7 @@ fn add_by_table(
 fn add_all_by_table(
     logs: &mut Vec<NamedLog>,
     places: NameTable,
-    parts: &[Part],
+    parts: &[LogLines],
 ) -> Result<NameTable, AllocError>
     requires { HasPlaces places (names_kept logs.old.items) }
     ensures ok { OnOk result (logs.new.items ≡ with_parts parts.now logs.old.items) }
@@ -264,15 +264,15 @@ impl CommandLogs {
         }
     }
 
-    /// Adds the blocks of a parcel, where the command is open.
-    pub fn add(&mut self, parcel: &Parcel) -> Result<(), AllocError>
-        ensures ok { OnOk result (self.new ≡ kept_with_parcel parcel.now self.old) }
+    /// Adds the blocks of a batch, where the command is open.
+    pub fn add(&mut self, batch: &LineBatch) -> Result<(), AllocError>
+        ensures ok { OnOk result (self.new ≡ kept_with_batch batch.now self.old) }
         ensures err { OnErr result (self.new ≡ self.old) }
     {
         if self.ended.is_some() {
             return Ok(());
         }
-        let parts = parcel.parts();
+        let parts = batch.parts();
         if self.places.is_none() && self.named.len() < FEW_NAMES && parts.len() < FEW_NAMES {
             return add_all(&mut self.named, parts);
         }
@@ -282,9 +282,9 @@ impl CommandLogs {
     /// Adds the blocks of parts to an open command by a table, where walks would take long.
     ///
     /// After want of memory there is no table; the next call makes it.
-    fn add_by_table(&mut self, parts: &[Part]) -> Result<(), AllocError>
+    fn add_by_table(&mut self, parts: &[LogLines]) -> Result<(), AllocError>
         requires { self.old.ended ≡ None }
-        ensures ok { OnOk result (self.new ≡ kept_with_parcel parts.now self.old) }
+        ensures ok { OnOk result (self.new ≡ kept_with_batch parts.now self.old) }
         ensures err { OnErr result (self.new ≡ self.old) }
     {
         let places = match self.places.take() {

@@ -4,14 +4,17 @@ ghost use Rattle.std.specs.Prelude.{◌≡◌, IfOk};
 ghost use Rattle.bm_value.specs.View.{tree, items_tree, pair_tree, pairs_tree};
 
 use crate::bytes::Bytes;
-use crate::text::Text;
 use crate::value::{Items, Pair, Pairs, Value};
+use crate::value_text::ValueText;
 use std::alloc::{AllocError, Allocator};
 
-fn text<A: Allocator, B: Allocator + Copy>(alloc: B, text: &Text<A>) -> Result<Text<B>, AllocError>
+fn text<A: Allocator, B: Allocator + Copy>(
+    alloc: B,
+    text: &ValueText<A>,
+) -> Result<ValueText<B>, AllocError>
     ensures { IfOk result (λ t. t ≡ text.now) }
 {
-    Text::from_str(alloc, text.as_str())
+    ValueText::from_str(alloc, text.as_str())
 }
 
 fn bytes<A: Allocator, B: Allocator>(alloc: B, bytes: &Bytes<A>) -> Result<Bytes<B>, AllocError>

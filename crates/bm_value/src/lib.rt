@@ -17,8 +17,8 @@ mod lookup;
 mod num;
 mod reader;
 mod row;
-mod text;
 mod value;
+mod value_text;
 mod writing;
 
 pub use bytes::Bytes;
@@ -26,6 +26,6 @@ pub use decoding::{decode, decode_whole};
 pub use fault::{DecodeError, EncodeError};
 pub use limits::{MAX_DEPTH, is_short, nests_within};
 pub use num::Num;
-pub use text::Text;
 pub use value::{Items, Pair, Pairs, Value};
+pub use value_text::ValueText;
 pub use writing::{encode, put_str};

@@ -10,8 +10,8 @@ use crate::bytes::Bytes;
 use crate::fault::DecodeError;
 use crate::num::Num;
 use crate::row::{Plain, Row, Size, Wide, row_of};
-use crate::text::Text;
 use crate::value::{Items, Pair, Pairs, Value};
+use crate::value_text::ValueText;
 use std::alloc::Allocator;
 use std::str::from_utf8;
 
@@ -104,13 +104,13 @@ impl<'a, A: Allocator + Copy> Reader<'a, A> {
     }
 
     #[tactic(auto, using(crate::proofs::Utf8::utf8_tests), unfolding(crate::specs::Reading::text_at))]
-    fn text(&mut self, size: Size) -> Result<Text<A>, DecodeError>
+    fn text(&mut self, size: Size) -> Result<ValueText<A>, DecodeError>
         ensures { Gives (λ x. (x, self.new.rest.now)) result (text_at size self.old.rest.now) }
     {
         let n = self.length(size)?;
         let bytes = self.bytes(n)?;
         match from_utf8(bytes) {
-            Ok(text) => Ok(Text::from_str(self.alloc, text)?),
+            Ok(text) => Ok(ValueText::from_str(self.alloc, text)?),
             Err(_) => Err(DecodeError::BadUtf8),
         }
     }

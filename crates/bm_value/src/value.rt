@@ -6,7 +6,7 @@ ghost use Rattle.bm_value.specs.View.{tree};
 
 use crate::bytes::Bytes;
 use crate::num::Num;
-use crate::text::Text;
+use crate::value_text::ValueText;
 use std::alloc::{AllocError, Allocator, Global};
 
 /// A MessagePack value, whose parts lie in the allocator `A`.
@@ -20,7 +20,7 @@ pub enum Value<A: Allocator = Global> {
     Bits32(u32),
     /// A float of 64 bits, as its bits.
     Bits64(u64),
-    Str(Text<A>),
+    Str(ValueText<A>),
     Bin(Bytes<A>),
     Array(Items<A>),
     Map(Pairs<A>),
@@ -33,7 +33,7 @@ impl<A: Allocator + Copy> Value<A> {
     pub fn from_str(alloc: A, text: &str) -> Result<Value<A>, AllocError>
         ensures { IfOk result (λ v. tree v ≡ str text.now) }
     {
-        Ok(Value::Str(Text::from_str(alloc, text)?))
+        Ok(Value::Str(ValueText::from_str(alloc, text)?))
     }
 }
 

@@ -10,8 +10,8 @@ use Rattle.bm_work.specs.declared.act.WorkRefusal.TheVariants.{NoSuchCommand, Wi
 use Rattle.bm_work.specs.Stream.{Report, stream, stream_from}
 use Rattle.bm_work.specs.Core.{Core, IsKept, Rise, numbers, next_number, unanswered_requests, awaits, refusal, has_room, runs, with_reports, without_command, new_core, heard_request, heard_bad, start_answer, started_by, runs_among, answer_among}
 use Rattle.bm_msg.specs.Meaning.{Asked, start_command}
-use Rattle.bm_work.specs.declared.answer.Answer.{Answer}
-use Rattle.bm_work.specs.declared.answer.Answer.TheVariants.{Done, BadArguments, NoSuchCommandName, AlreadyRuns, TooManyCommands}
+use Rattle.bm_work.specs.declared.worker_answer.WorkerAnswer.{WorkerAnswer}
+use Rattle.bm_work.specs.declared.worker_answer.WorkerAnswer.TheVariants.{Done, BadArguments, NoSuchCommandName, AlreadyRuns, TooManyCommands}
 use Rattle.bm_work.specs.Answers.{is_done}
 use Rattle.bm_work.specs.Argv.{argv_of}
 use Rattle.bm_work.proofs.Streams.{length-stream_from}
@@ -174,7 +174,7 @@ few-started : (running : List ℕ) (asked : Asked) → length running ≤ 4 → 
 few-started running (start_command k name args) h = few-start running k name (argv_of args) h
 few-started running asked h = rw (append-nil running) h
 
-pub heard_request-is_kept : (c : Core) (n next : ℕ) (requests : List Sent) (asked : Asked) (first : Option Answer) → IsKept c next requests → IsKept (heard_request c n asked first).core next requests
+pub heard_request-is_kept : (c : Core) (n next : ℕ) (requests : List Sent) (asked : Asked) (first : Option WorkerAnswer) → IsKept c next requests → IsKept (heard_request c n asked first).core next requests
 heard_request-is_kept c n next requests asked (Some first) h = h
 heard_request-is_kept c n next requests asked None h =
     record {
@@ -189,7 +189,7 @@ heard_request-is_kept c n next requests asked None h =
       requests = h.requests;
     }
 
-pub heard_bad-is_kept : (c : Core) (n next : ℕ) (requests : List Sent) (first : Option Answer) → IsKept c next requests → IsKept (heard_bad c n first).core next requests
+pub heard_bad-is_kept : (c : Core) (n next : ℕ) (requests : List Sent) (first : Option WorkerAnswer) → IsKept c next requests → IsKept (heard_bad c n first).core next requests
 heard_bad-is_kept c n next requests (Some first) h = h
 heard_bad-is_kept c n next requests None h =
     record {

@@ -2,7 +2,7 @@
 use denote.Param.Send.{IsSend, sendable}
 use Rattle.std.proofs.Crossing.{crosses}
 use Rattle.std.proofs.MapsCrossing as maps
-use Rattle.bm_work.specs.contracts.answers.Answers as answers
+use Rattle.bm_work.specs.contracts.reply_cache.ReplyCache as answers
 use Rattle.bm_work.specs.contracts.history.History as history
 use Rattle.bm_work.specs.contracts.sent.Sent as sent
 use Rattle.bm_work.specs.contracts.worker.Worker as worker

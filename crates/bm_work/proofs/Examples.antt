@@ -5,7 +5,7 @@ use Rattle.std.specs.Fmt as numerals
 use Rattle.bm_value.specs.Writing as writing
 use Rattle.bm_value.specs.Tree.{str, int, array, dict, none, item, no_pairs, pair}
 use Rattle.bm_lines.specs.declared.letter.Letter.TheVariants.{O, E}
-use Rattle.bm_work.specs.declared.answer.Answer.TheVariants.{Done, NoSuchCommand}
+use Rattle.bm_work.specs.declared.worker_answer.WorkerAnswer.TheVariants.{Done, NoSuchCommand}
 use Rattle.bm_work.specs.Argv.{argv_of}
 use Rattle.bm_work.specs.Replies.{reply}
 use Rattle.bm_work.specs.Stream.{text, code, over, asked_by, request_bytes, said}

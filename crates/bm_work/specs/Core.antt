@@ -9,8 +9,8 @@ use Rattle.bm_work.specs.Argv.{argv_of}
 use Rattle.bm_work.specs.Answers.{is_done}
 use Rattle.bm_work.specs.Replies.{reply}
 use Rattle.bm_work.specs.Stream.{Report, stream, without_answer}
-use Rattle.bm_work.specs.declared.answer.Answer.{Answer}
-use Rattle.bm_work.specs.declared.answer.Answer.TheVariants as answer
+use Rattle.bm_work.specs.declared.worker_answer.WorkerAnswer.{WorkerAnswer}
+use Rattle.bm_work.specs.declared.worker_answer.WorkerAnswer.TheVariants as answer
 use Rattle.bm_work.specs.declared.sent.Sent.{Sent}
 use Rattle.bm_work.specs.declared.act.WorkAct.{WorkAct}
 use Rattle.bm_work.specs.declared.act.WorkAct.TheVariants.{Run, Interrupt, Print, Info, Shutdown, Answered, Nothing}
@@ -23,7 +23,7 @@ pub record Core : Type 0 where
   pub running : List ℕ
   pub reports : List Report
   pub answered : List ℕ
-  pub answers : FinMap nat_cmp Answer
+  pub answers : FinMap nat_cmp WorkerAnswer
 
 abbrev pub new_core : Core
 new_core = record { running = []; reports = []; answered = []; answers = empty }
@@ -45,7 +45,7 @@ abbrev pub runs_among : List ℕ → ℕ → Bool
 runs_among running k = list_any (λ j. j == k) running
 
 -- the answer to a start of command k with these words, tested in this order
-abbrev pub start_answer : List ℕ → ℕ → List ℕ → Option (List (List ℕ)) → Answer
+abbrev pub start_answer : List ℕ → ℕ → List ℕ → Option (List (List ℕ)) → WorkerAnswer
 start_answer running k name argv =
     if not (bytes_eq name (codes "shell")) then answer.NoSuchCommandName else
     if is_none argv then answer.BadArguments else
@@ -54,7 +54,7 @@ start_answer running k name argv =
     answer.Done
 
 -- the answer to a request that comes for the first time, while these commands run
-abbrev pub answer_among : List ℕ → Asked → Answer
+abbrev pub answer_among : List ℕ → Asked → WorkerAnswer
 answer_among running (start_command k name args) = start_answer running k name (argv_of args)
 answer_among running (interrupt_command k why) = if runs_among running k then answer.Done
     else answer.NoSuchCommand
@@ -67,7 +67,7 @@ answer_among running _ = answer.NoSuchOperation
 abbrev pub runs : Core → ℕ → Bool
 runs c k = runs_among c.running k
 
-abbrev pub answer_to : Core → Asked → Answer
+abbrev pub answer_to : Core → Asked → WorkerAnswer
 answer_to c asked = answer_among c.running asked
 
 -- the words of a request to start a command
@@ -81,7 +81,7 @@ run k (Some argv) = Run k argv
 run k None = Nothing
 
 -- what is to be done for a request that comes for the first time and has this answer
-abbrev pub act_of : Asked → Answer → WorkAct
+abbrev pub act_of : Asked → WorkerAnswer → WorkAct
 act_of (start_command k name args) a = if is_done a then run k (argv_of args) else Nothing
 act_of (interrupt_command k why) a = if is_done a then Interrupt k else Nothing
 act_of (print message) a = Print message
@@ -90,7 +90,7 @@ act_of shutdown a = Shutdown
 act_of asked a = Nothing
 
 -- the command that it starts
-abbrev pub started_by : Asked → Answer → List ℕ
+abbrev pub started_by : Asked → WorkerAnswer → List ℕ
 started_by (start_command k name args) a = if is_done a then k ∷ [] else []
 started_by asked a = []
 
@@ -101,7 +101,7 @@ pub record Hearing : Type 0 where
   pub core : Core
 
 -- request n, which comes for the first time, gets this answer
-abbrev pub first_heard : Core → ℕ → Answer → WorkAct → List ℕ → Hearing
+abbrev pub first_heard : Core → ℕ → WorkerAnswer → WorkAct → List ℕ → Hearing
 first_heard c n a act started =
     record {
       act = act;
@@ -116,16 +116,16 @@ first_heard c n a act started =
     }
 
 -- A repeat, whatever it carries, gets the first one's answer and leads to nothing else.
-abbrev pub repeated : Core → ℕ → Answer → Hearing
+abbrev pub repeated : Core → ℕ → WorkerAnswer → Hearing
 repeated c n first = record { act = Nothing; reply = Some (reply n first); core = c }
 
-abbrev pub heard_request : Core → ℕ → Asked → Option Answer → Hearing
+abbrev pub heard_request : Core → ℕ → Asked → Option WorkerAnswer → Hearing
 heard_request c n asked (Some first) = repeated c n first
 heard_request c n asked None = let a = answer_to c asked in
     first_heard c n a (act_of asked a) (started_by asked a)
 
 -- request n, whose keys are missing or of another kind
-abbrev pub heard_bad : Core → ℕ → Option Answer → Hearing
+abbrev pub heard_bad : Core → ℕ → Option WorkerAnswer → Hearing
 heard_bad c n (Some first) = repeated c n first
 heard_bad c n None = first_heard c n answer.BadArguments Nothing []
 

@@ -6,8 +6,8 @@ ghost use Rattle.bm_msg.specs.Meaning.{asked};
 ghost use Rattle.bm_work.specs.Core.{runs_among, start_answer, answer_among, words_in, act_of, started_by};
 
 use crate::act::WorkAct;
-use crate::answer::Answer;
 use crate::argv::Argv;
+use crate::worker_answer::WorkerAnswer;
 use bm_msg::{Request, Response};
 use bm_value::Value;
 use std::alloc::{AllocError, Global};
@@ -26,7 +26,7 @@ pub(crate) fn judge(
     alloc: Global,
     running: &[u64],
     request: &Request,
-) -> Result<(Answer, Option<Argv>), AllocError>
+) -> Result<(WorkerAnswer, Option<Argv>), AllocError>
     ensures answer { IfOk result (λ r. r.0 ≡ answer_among running.now (asked request.now)) }
     ensures argv { IfOk result (λ r. r.1 ≡ words_in (asked request.now)) }
 {
@@ -42,37 +42,37 @@ pub(crate) fn judge(
         }
         Request::InterruptCommand { command, .. } => {
             if runs(running, *command) {
-                Answer::Done
+                WorkerAnswer::Done
             } else {
-                Answer::NoSuchCommand
+                WorkerAnswer::NoSuchCommand
             }
         }
-        Request::Print { .. } | Request::Keepalive | Request::Shutdown => Answer::Done,
-        Request::GetWorkerInfo => Answer::Info,
-        _ => Answer::NoSuchOperation,
+        Request::Print { .. } | Request::Keepalive | Request::Shutdown => WorkerAnswer::Done,
+        Request::GetWorkerInfo => WorkerAnswer::Info,
+        _ => WorkerAnswer::NoSuchOperation,
     };
     Ok((answer, None))
 }
 
 /// The answer to a start of the command with these words.
-fn start(running: &[u64], command: u64, name: &str, argv: &Option<Argv>) -> Answer
+fn start(running: &[u64], command: u64, name: &str, argv: &Option<Argv>) -> WorkerAnswer
     ensures { result ≡ start_answer running.now command name.now argv.now }
 {
     if name != "shell" {
-        Answer::NoSuchCommandName
+        WorkerAnswer::NoSuchCommandName
     } else if argv.is_none() {
-        Answer::BadArguments
+        WorkerAnswer::BadArguments
     } else if runs(running, command) {
-        Answer::AlreadyRuns
+        WorkerAnswer::AlreadyRuns
     } else if running.len() >= COMMANDS {
-        Answer::TooManyCommands
+        WorkerAnswer::TooManyCommands
     } else {
-        Answer::Done
+        WorkerAnswer::Done
     }
 }
 
 /// What is to be done for the request, where this is its answer.
-pub(crate) fn act(request: Request, answer: Answer, argv: Option<Argv>) -> WorkAct
+pub(crate) fn act(request: Request, answer: WorkerAnswer, argv: Option<Argv>) -> WorkAct
     requires { argv ≡ words_in (asked request) }
     ensures { result ≡ act_of (asked request) answer }
 {
@@ -96,7 +96,7 @@ pub(crate) fn act(request: Request, answer: Answer, argv: Option<Argv>) -> WorkA
 }
 
 /// The command that the request starts, where this is its answer.
-pub(crate) fn started(request: &Request, answer: Answer) -> Option<u64>
+pub(crate) fn started(request: &Request, answer: WorkerAnswer) -> Option<u64>
     ensures { option_to_list result ≡ started_by (asked request.now) answer }
 {
     match request {

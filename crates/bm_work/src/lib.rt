@@ -3,21 +3,21 @@
 #![tactic(auto)]
 
 mod act;
-mod answer;
-mod answers;
 mod argv;
 mod assembler;
 mod hearing;
 mod history;
 pub mod laws;
+mod reply_cache;
 mod sent;
 mod text_update;
 mod wire;
 mod worker;
+mod worker_answer;
 
 pub use act::{WorkAct, WorkRefusal};
-pub use answer::Answer;
 pub use argv::Argv;
 pub use assembler::Assembler;
 pub use sent::{Finish, Sent};
 pub use worker::Worker;
+pub use worker_answer::WorkerAnswer;

@@ -8,8 +8,8 @@ ghost use Rattle.bm_value.specs.Limits.{IsShort};
 ghost use Rattle.bm_work.specs.Stream.{request_bytes};
 ghost use Rattle.bm_work.specs.Replies.{reply as reply_of};
 
-use crate::answer::{Answer, info};
 use crate::sent::Sent;
+use crate::worker_answer::{WorkerAnswer, info};
 use bm_msg::{Numbered, Request, Response, write_answer, write_request, write_response};
 use bm_value::{Bytes, EncodeError};
 use std::alloc::{AllocError, Global};
@@ -35,12 +35,12 @@ pub(crate) fn numbered(alloc: Global, seq: u64, request: Request) -> Result<Sent
 
 /// The bytes of the response to the request with that number.
 #[tactic(auto, unfolding(crate::specs::Replies::reply, bm_msg::specs::Trees::answer_bytes))]
-pub(crate) fn reply(alloc: Global, seq: u64, answer: Answer) -> Result<Vec<u8>, AllocError>
+pub(crate) fn reply(alloc: Global, seq: u64, answer: WorkerAnswer) -> Result<Vec<u8>, AllocError>
     requires { seq < 2 ^ 63 }
     ensures { IfOk result (λ v. v.items ≡ reply_of seq answer) }
 {
     match answer {
-        Answer::Info => told(alloc, seq),
+        WorkerAnswer::Info => told(alloc, seq),
         _ => write_answer(alloc, seq, answer.exception()),
     }
 }
@@ -49,7 +49,7 @@ pub(crate) fn reply(alloc: Global, seq: u64, answer: Answer) -> Result<Vec<u8>, 
 #[tactic(auto, using(crate::proofs::Sizes::sizes), unfolding(crate::specs::Replies::reply))]
 fn told(alloc: Global, seq: u64) -> Result<Vec<u8>, AllocError>
     requires { seq < 2 ^ 63 }
-    ensures { IfOk result (λ v. v.items ≡ reply_of seq Answer.Info) }
+    ensures { IfOk result (λ v. v.items ≡ reply_of seq WorkerAnswer.Info) }
 {
     let response = Response {
         seq,

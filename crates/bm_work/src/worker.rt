@@ -10,12 +10,12 @@ ghost use Rattle.bm_msg.specs.Meaning.{meaning, asked, request};
 ghost use Rattle.bm_work.specs.Core.{bytes_of, heard, heard_request, bad_request, new_core, runs, refusal as refusal_of, next_number, unanswered_requests, with_reports, without_command, freed, awaits, Rise, numbers};
 
 use crate::act::{WorkAct, WorkRefusal};
-use crate::answer::Answer;
-use crate::answers::Answers;
 use crate::hearing::{act, judge, runs, started};
 use crate::history::{History, Note};
+use crate::reply_cache::ReplyCache;
 use crate::sent::{Finish, Sent, copies, ending, said};
 use crate::wire::reply;
+use crate::worker_answer::WorkerAnswer;
 use bm_lines::Letter;
 use bm_msg::{Message, NUMBER_LIMIT, Numbered};
 use std::alloc::{AllocError, Global};
@@ -31,14 +31,14 @@ pub struct Worker {
     running: Vec<u64>,
     next: u64,
     unanswered: Vec<Sent>,
-    answers: Answers,
+    answers: ReplyCache,
     history: History,
 }
 
 impl Model for Worker {
     ghost use Rattle.std.specs.Coded.{codes};
     ghost use Rattle.bm_work.specs.Core.{Core, IsKept};
-    ghost use Rattle.bm_work.specs.contracts.answers.Answers as kept_answers;
+    ghost use Rattle.bm_work.specs.contracts.reply_cache.ReplyCache as kept_answers;
 
     ghost Value = { Core };
 
@@ -69,7 +69,7 @@ impl Worker {
             running: Vec::new(alloc),
             next: 0,
             unanswered: Vec::new(alloc),
-            answers: Answers::new(alloc),
+            answers: ReplyCache::new(alloc),
             history: History::new(),
         }
     }
@@ -128,8 +128,8 @@ impl Worker {
         if let Some(first) = self.answers.get(seq) {
             return Ok((WorkAct::Nothing, Some(reply(alloc, seq, first)?)));
         }
-        let bytes = reply(alloc, seq, Answer::BadArguments)?;
-        self.answers.insert(seq, Answer::BadArguments)?;
+        let bytes = reply(alloc, seq, WorkerAnswer::BadArguments)?;
+        self.answers.insert(seq, WorkerAnswer::BadArguments)?;
         Ok((WorkAct::Nothing, Some(bytes)))
     }
 

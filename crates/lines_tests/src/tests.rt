@@ -3,16 +3,16 @@
 mod many_names;
 mod memory;
 
-use bm_lines::{Block, Letter, LogName, Parcel, ParcelBuilder, STDIO, Text, cut};
+use bm_lines::{Block, Letter, LineBatch, LineBatchBuilder, LogName, STDIO, Text, cut};
 use std::alloc::{AllocError, Global};
 use std::test::Fail;
 
 /// A log's name, and a text under it.
 type Item = (&'static str, Letter, &'static str);
 
-/// Whether the parcel has one part, with the content.
-fn has_one(parcel: &Parcel, want: &str) -> bool {
-    match parcel.parts() {
+/// Whether the batch has one part, with the content.
+fn has_one(batch: &LineBatch, want: &str) -> bool {
+    match batch.parts() {
         [part] => part.block.content() == want,
         _ => false,
     }
@@ -21,7 +21,7 @@ fn has_one(parcel: &Parcel, want: &str) -> bool {
 /// Whether a builder takes the text under the name.
 fn takes(
     alloc: Global,
-    builder: &mut ParcelBuilder,
+    builder: &mut LineBatchBuilder,
     name: &LogName,
     letter: Letter,
     text: &str,
@@ -45,14 +45,14 @@ fn is_added(alloc: Global, letter: Letter, text: &str, want: &str) -> bool {
 }
 
 fn is_built(alloc: Global, letter: Letter, text: &str, want: &str) -> bool {
-    let mut builder = ParcelBuilder::new(alloc);
+    let mut builder = LineBatchBuilder::new(alloc);
     let is_taken = takes(alloc, &mut builder, &LogName::stdio(), letter, text);
-    is_taken && has_one(&builder.into_parcel(), want)
+    is_taken && has_one(&builder.into_batch(), want)
 }
 
-fn is_in_a_parcel(alloc: Global, letter: Letter, text: &str, want: &str) -> bool {
-    match Parcel::of_str(alloc, LogName::stdio(), letter, text) {
-        Ok(parcel) => has_one(&parcel, want),
+fn is_in_a_batch(alloc: Global, letter: Letter, text: &str, want: &str) -> bool {
+    match LineBatch::of_str(alloc, LogName::stdio(), letter, text) {
+        Ok(batch) => has_one(&batch, want),
         Err(_) => false,
     }
 }
@@ -62,7 +62,7 @@ fn is_cut(alloc: Global, letter: Letter, text: &str, want: &str) -> bool {
     is_cut_alone(alloc, letter, text, want)
         && is_added(alloc, letter, text, want)
         && is_built(alloc, letter, text, want)
-        && is_in_a_parcel(alloc, letter, text, want)
+        && is_in_a_batch(alloc, letter, text, want)
 }
 
 #[test]
@@ -202,54 +202,54 @@ fn copies_of_names_are_equal(rt: HostRuntime) {
     assert!(rt; LogName::stdio().as_str() == STDIO && STDIO == "stdio");
 }
 
-/// Whether the parcel takes the item.
-fn adds(alloc: Global, parcel: &mut Parcel, (name, letter, text): &Item) -> bool {
+/// Whether the batch takes the item.
+fn adds(alloc: Global, batch: &mut LineBatch, (name, letter, text): &Item) -> bool {
     match LogName::new(alloc, name) {
-        Ok(Some(name)) => parcel.add(&name, *letter, text).is_ok(),
+        Ok(Some(name)) => batch.add(&name, *letter, text).is_ok(),
         _ => false,
     }
 }
 
-/// Whether the parcel has the content under the name.
-fn has_part(parcel: &Parcel, name: &str, want: &str) -> bool {
-    match parcel.of(name) {
+/// Whether the batch has the content under the name.
+fn has_part(batch: &LineBatch, name: &str, want: &str) -> bool {
+    match batch.of(name) {
         Some(block) => block.content() == want,
         None => false,
     }
 }
 
-/// Whether the parcel has the content under each name, and no other part.
-fn has(parcel: &Parcel, wants: &[(&str, &str)]) -> bool {
+/// Whether the batch has the content under each name, and no other part.
+fn has(batch: &LineBatch, wants: &[(&str, &str)]) -> bool {
     for (name, want) in wants {
-        if !has_part(parcel, name, want) {
+        if !has_part(batch, name, want) {
             return false;
         }
     }
-    parcel.parts().len() == wants.len()
+    batch.parts().len() == wants.len()
 }
 
-/// The parcel of the items.
-fn parcel_of(alloc: Global, items: &[Item]) -> Option<Parcel> {
-    let mut parcel = Parcel::new(alloc);
+/// The batch of the items.
+fn batch_of(alloc: Global, items: &[Item]) -> Option<LineBatch> {
+    let mut batch = LineBatch::new(alloc);
     for item in items {
-        if !adds(alloc, &mut parcel, item) {
+        if !adds(alloc, &mut batch, item) {
             return None;
         }
     }
-    Some(parcel)
+    Some(batch)
 }
 
 /// Whether an item joins those of its name, and the copy that was made before stays as it is.
-fn joins_apart(alloc: Global, parcel: &mut Parcel, copy: &Parcel) -> bool {
-    adds(alloc, parcel, &("stdio", Letter::E, "b\n"))
-        && has(parcel, &[("stdio", "oa\nos\neb\n"), ("l", "")])
-        && parcel.of("m").is_none()
+fn joins_apart(alloc: Global, batch: &mut LineBatch, copy: &LineBatch) -> bool {
+    adds(alloc, batch, &("stdio", Letter::E, "b\n"))
+        && has(batch, &[("stdio", "oa\nos\neb\n"), ("l", "")])
+        && batch.of("m").is_none()
         && has(copy, &[("stdio", "oa\nos\n"), ("l", "")])
 }
 
-fn joins(alloc: Global, parcel: &mut Parcel) -> bool {
-    match parcel.copy() {
-        Ok(copy) => joins_apart(alloc, parcel, &copy),
+fn joins(alloc: Global, batch: &mut LineBatch) -> bool {
+    match batch.copy() {
+        Ok(copy) => joins_apart(alloc, batch, &copy),
         Err(_) => false,
     }
 }
@@ -261,32 +261,32 @@ fn items_join_under_their_names(rt: HostRuntime) -> Result<(), Fail> {
         ("l", Letter::O, ""),
         ("stdio", Letter::O, "s\n"),
     ];
-    let mut parcel = parcel_of(rt.alloc(), &ITEMS).ok_or("no parcel")?;
-    assert!(rt; joins(rt.alloc(), &mut parcel));
+    let mut batch = batch_of(rt.alloc(), &ITEMS).ok_or("no batch")?;
+    assert!(rt; joins(rt.alloc(), &mut batch));
     Ok(())
 }
 
-fn builds(alloc: Global, builder: &mut ParcelBuilder, (name, letter, text): &Item) -> bool {
+fn builds(alloc: Global, builder: &mut LineBatchBuilder, (name, letter, text): &Item) -> bool {
     match LogName::new(alloc, name) {
         Ok(Some(name)) => takes(alloc, builder, &name, *letter, text),
         _ => false,
     }
 }
 
-/// The parcel of the items, whose texts a builder is given.
-fn built_of(alloc: Global, items: &[Item]) -> Option<Parcel> {
-    let mut builder = ParcelBuilder::new(alloc);
+/// The batch of the items, whose texts a builder is given.
+fn built_of(alloc: Global, items: &[Item]) -> Option<LineBatch> {
+    let mut builder = LineBatchBuilder::new(alloc);
     for item in items {
         if !builds(alloc, &mut builder, item) {
             return None;
         }
     }
-    Some(builder.into_parcel())
+    Some(builder.into_batch())
 }
 
-fn is_made(parcel: Option<Parcel>, wants: &[(&str, &str)]) -> bool {
-    match parcel {
-        Some(parcel) => has(&parcel, wants),
+fn is_made(batch: Option<LineBatch>, wants: &[(&str, &str)]) -> bool {
+    match batch {
+        Some(batch) => has(&batch, wants),
         None => false,
     }
 }
@@ -306,30 +306,30 @@ fn given_texts_join_under_their_names(rt: HostRuntime) {
         ("m", "ob\noc\n"),
     ];
     assert!(rt; is_made(built_of(rt.alloc(), &ITEMS), &WANTS));
-    assert!(rt; is_made(parcel_of(rt.alloc(), &ITEMS), &WANTS));
+    assert!(rt; is_made(batch_of(rt.alloc(), &ITEMS), &WANTS));
 }
 
-fn is_copied_empty(parcel: &Parcel) -> bool {
-    match parcel.copy() {
+fn is_copied_empty(batch: &LineBatch) -> bool {
+    match batch.copy() {
         Ok(copy) => copy.parts().is_empty(),
         Err(_) => false,
     }
 }
 
-/// Whether the copy of a parcel of one part keeps it alone when the parcel gets another.
-fn is_kept_by_a_copy(alloc: Global, parcel: &mut Parcel) -> bool {
-    match parcel.copy() {
+/// Whether the copy of a batch of one part keeps it alone when the batch gets another.
+fn is_kept_by_a_copy(alloc: Global, batch: &mut LineBatch) -> bool {
+    match batch.copy() {
         Ok(copy) => {
-            adds(alloc, parcel, &("l", Letter::O, "b")) && has(&copy, &[("stdio", "ea\n")])
+            adds(alloc, batch, &("l", Letter::O, "b")) && has(&copy, &[("stdio", "ea\n")])
         }
         Err(_) => false,
     }
 }
 
 #[test]
-fn a_copied_parcel_keeps_its_parts(rt: HostRuntime) {
-    let mut parcel = Parcel::new(rt.alloc());
-    assert!(rt; is_copied_empty(&parcel));
-    assert!(rt; adds(rt.alloc(), &mut parcel, &("stdio", Letter::E, "a\n")));
-    assert!(rt; parcel.of("l").is_none() && is_kept_by_a_copy(rt.alloc(), &mut parcel));
+fn a_copied_batch_keeps_its_parts(rt: HostRuntime) {
+    let mut batch = LineBatch::new(rt.alloc());
+    assert!(rt; is_copied_empty(&batch));
+    assert!(rt; adds(rt.alloc(), &mut batch, &("stdio", Letter::E, "a\n")));
+    assert!(rt; batch.of("l").is_none() && is_kept_by_a_copy(rt.alloc(), &mut batch));
 }

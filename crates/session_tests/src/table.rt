@@ -2,7 +2,7 @@
 
 use self::Script::*;
 use crate::tests::{heard, new_session};
-use bm_lines::Parcel;
+use bm_lines::LineBatch;
 use bm_session::Verdict::{Done, NoCommand};
 use bm_session::*;
 use std::alloc::{AllocError, Global};
@@ -10,10 +10,10 @@ use std::process::Abort;
 
 /// An update of the command without lines.
 fn update(alloc: Global, command: u64) -> Body {
-    let parcel = Parcel::new(alloc);
+    let batch = LineBatch::new(alloc);
     Body::Update {
         command,
-        parcel,
+        batch,
         rc: None,
     }
 }

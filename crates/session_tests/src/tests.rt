@@ -7,7 +7,7 @@ mod rows;
 pub(crate) mod script;
 mod texts;
 
-use bm_lines::{Block, Parcel};
+use bm_lines::{Block, LineBatch};
 use bm_session::*;
 use script::{Ask, Gives, Script, event, given};
 use std::alloc::{AllocError, Global};
@@ -258,9 +258,9 @@ fn withdrawn_event_comes_back(rt: HostRuntime) -> Result<(), AllocError> {
     Ok(())
 }
 
-/// Whether the parcel has these lines under the name `l`.
-fn are_lines(parcel: &Parcel, lines: &str) -> bool {
-    match parcel.of("l") {
+/// Whether the batch has these lines under the name `l`.
+fn are_lines(batch: &LineBatch, lines: &str) -> bool {
+    match batch.of("l") {
         Some(block) => is_text(block, Some(lines)),
         None => false,
     }
@@ -269,7 +269,7 @@ fn are_lines(parcel: &Parcel, lines: &str) -> bool {
 /// Whether the item has these lines of command 0.
 fn is_item(item: &Item, lines: &str) -> bool {
     match item {
-        Item::Lines(0, parcel) => are_lines(parcel, lines),
+        Item::Lines(0, batch) => are_lines(batch, lines),
         _ => false,
     }
 }
@@ -298,23 +298,23 @@ fn is_copied_ran(ran: &Ran, lines: &str) -> bool {
     }
 }
 
-/// Whether a parcel has these lines after copies of what a run did with it, and of the item.
-fn is_copied_parcel(parcel: Parcel, lines: &str) -> bool {
-    let ran = Ran::Done(Reply::Silent, Some(Item::Lines(0, parcel)));
+/// Whether a batch has these lines after copies of what a run did with it, and of the item.
+fn is_copied_batch(batch: LineBatch, lines: &str) -> bool {
+    let ran = Ran::Done(Reply::Silent, Some(Item::Lines(0, batch)));
     then_drop(is_copied_ran(&ran, lines), ran)
 }
 
-/// The parcel of update 3 of command 0.
-fn parcel_of(event: Event) -> Option<Parcel> {
+/// The batch of update 3 of command 0.
+fn batch_of(event: Event) -> Option<LineBatch> {
     match event {
         Event::In(
             3,
             Body::Update {
                 command: 0,
-                parcel,
+                batch,
                 rc: None,
             },
-        ) => Some(parcel),
+        ) => Some(batch),
         other => {
             drop(other);
             None
@@ -325,8 +325,8 @@ fn parcel_of(event: Event) -> Option<Parcel> {
 /// Whether the event is update 3 of command 0 with these lines, also after copies of what comes of
 /// it.
 fn is_update(event: Event, lines: &str) -> bool {
-    match parcel_of(event) {
-        Some(parcel) => is_copied_parcel(parcel, lines),
+    match batch_of(event) {
+        Some(batch) => is_copied_batch(batch, lines),
         None => false,
     }
 }

@@ -2,26 +2,26 @@
 ghost use Rattle.std.specs.Prelude.{◌≡◌};
 
 use bm_lane::{Blank, Drained, Ends, ReaderEnd, WriterEnd, Yard};
-use bm_lines::{Letter, LogName, Parcel};
+use bm_lines::{Letter, LogName, LineBatch};
 use bm_session::{Body, Event};
 use std::alloc::Global;
 use std::sync::Wait;
 
-// Whether the parcel takes a text under that name.
-fn takes(parcel: &mut Parcel, alloc: Global, name: &str, text: &str) -> bool {
+// Whether the batch takes a text under that name.
+fn takes(batch: &mut LineBatch, alloc: Global, name: &str, text: &str) -> bool {
     match LogName::new(alloc, name) {
-        Ok(Some(name)) => parcel.add(&name, Letter::O, text).is_ok(),
+        Ok(Some(name)) => batch.add(&name, Letter::O, text).is_ok(),
         _ => false,
     }
 }
 
 // An update of a command by a text of its log under a name.
 fn update(alloc: Global, seq: u64, command: u64, name: &str, text: &str) -> Option<Event> {
-    let mut parcel = Parcel::new(alloc);
-    let is_taken = takes(&mut parcel, alloc, name, text);
+    let mut batch = LineBatch::new(alloc);
+    let is_taken = takes(&mut batch, alloc, name, text);
     let update = Body::Update {
         command,
-        parcel,
+        batch,
         rc: None,
     };
     is_taken.then_some(Event::In(seq, update))

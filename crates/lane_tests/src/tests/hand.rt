@@ -2,7 +2,7 @@
 ghost use Rattle.std.specs.Prelude.{◌≡◌, ◌<◌, ◌≤◌};
 
 use bm_lane::*;
-use bm_lines::{Letter, LogName, Parcel};
+use bm_lines::{Letter, LogName, LineBatch};
 use bm_session::{Body, Event, Refusal, Reply, Results};
 use bm_store::{Book, Chunk, LogState, ViewRefusal};
 use std::alloc::{AllocError, Global};
@@ -11,21 +11,21 @@ use std::sync::Wait;
 /// How often a call is made where one request for memory is refused.
 pub const TRIES: usize = 2;
 
-// Whether the parcel takes a text for the log with that name.
-fn takes(parcel: &mut Parcel, alloc: Global, name: &str, text: &str) -> bool {
+// Whether the batch takes a text for the log with that name.
+fn takes(batch: &mut LineBatch, alloc: Global, name: &str, text: &str) -> bool {
     match LogName::new(alloc, name) {
-        Ok(Some(name)) => parcel.add(&name, Letter::O, text).is_ok(),
+        Ok(Some(name)) => batch.add(&name, Letter::O, text).is_ok(),
         _ => false,
     }
 }
 
-fn try_parcel(alloc: Global, parts: &[(&str, &str)]) -> Option<Parcel> {
-    let mut parcel = Parcel::new(alloc);
+fn try_batch(alloc: Global, parts: &[(&str, &str)]) -> Option<LineBatch> {
+    let mut batch = LineBatch::new(alloc);
     let mut is_whole = true;
     for (name, text) in parts {
-        is_whole = is_whole && takes(&mut parcel, alloc, name, text);
+        is_whole = is_whole && takes(&mut batch, alloc, name, text);
     }
-    is_whole.then_some(parcel)
+    is_whole.then_some(batch)
 }
 
 /// The request with this number, which updates command 0 by a text of standard output.
@@ -36,10 +36,10 @@ pub fn update(alloc: Global, seq: u64, text: &str) -> Result<Event, AllocError> 
 /// The request with this number, which updates command 0 by a text for each of these logs.
 pub fn update_logs(alloc: Global, seq: u64, parts: &[(&str, &str)]) -> Result<Event, AllocError> {
     for _ in 0..TRIES {
-        if let Some(parcel) = try_parcel(alloc, parts) {
+        if let Some(batch) = try_batch(alloc, parts) {
             let update = Body::Update {
                 command: 0,
-                parcel,
+                batch,
                 rc: None,
             };
             return Ok(Event::In(seq, update));

@@ -1,7 +1,7 @@
-//! A parcel of many names, put together with a table of them.
+//! A batch of many names, put together with a table of them.
 
 use super::{has_part, takes};
-use bm_lines::{Letter, LogName, Parcel, ParcelBuilder};
+use bm_lines::{Letter, LineBatch, LineBatchBuilder, LogName};
 use std::alloc::Global;
 
 const NAMES: u32 = 1000;
@@ -18,86 +18,86 @@ fn numbered(alloc: Global, number: u32) -> Option<LogName> {
 }
 
 /// Whether the part at the place has the name, and what was said under it.
-fn is_at(parcel: &Parcel, place: u32, name: &LogName, said: &str) -> bool {
-    match parcel.parts().get(place as usize) {
+fn is_at(batch: &LineBatch, place: u32, name: &LogName, said: &str) -> bool {
+    match batch.parts().get(place as usize) {
         Some(part) => {
             part.name.is_same(name)
                 && part.block.content() == said
-                && has_part(parcel, name.as_str(), said)
+                && has_part(batch, name.as_str(), said)
         }
         None => false,
     }
 }
 
 /// Whether the part at the place has its name, and what was said under it.
-fn has_place(alloc: Global, parcel: &Parcel, place: u32, said: &str) -> bool {
+fn has_place(alloc: Global, batch: &LineBatch, place: u32, said: &str) -> bool {
     match numbered(alloc, number_at(place)) {
-        Some(name) => is_at(parcel, place, &name, said),
+        Some(name) => is_at(batch, place, &name, said),
         None => false,
     }
 }
 
 /// Whether the parts are those of all names, in their order, each with what was said.
-fn is_whole(alloc: Global, parcel: &Parcel, said: &str) -> bool {
+fn is_whole(alloc: Global, batch: &LineBatch, said: &str) -> bool {
     for place in 0..NAMES {
-        if !has_place(alloc, parcel, place, said) {
+        if !has_place(alloc, batch, place, said) {
             return false;
         }
     }
-    parcel.parts().len() == NAMES as usize && parcel.of("a").is_none()
+    batch.parts().len() == NAMES as usize && batch.of("a").is_none()
 }
 
 /// Whether the builder takes a line under the name at the place.
-fn takes_at(alloc: Global, builder: &mut ParcelBuilder, place: u32) -> bool {
+fn takes_at(alloc: Global, builder: &mut LineBatchBuilder, place: u32) -> bool {
     match numbered(alloc, number_at(place)) {
         Some(name) => takes(alloc, builder, &name, Letter::O, "a"),
         None => false,
     }
 }
 
-/// The parcel of all names, each with one line.
-fn of_all(alloc: Global) -> Option<Parcel> {
-    let mut builder = ParcelBuilder::new(alloc);
+/// The batch of all names, each with one line.
+fn of_all(alloc: Global) -> Option<LineBatch> {
+    let mut builder = LineBatchBuilder::new(alloc);
     for place in 0..NAMES {
         if !takes_at(alloc, &mut builder, place) {
             return None;
         }
     }
-    Some(builder.into_parcel())
+    Some(builder.into_batch())
 }
 
-/// Whether the parcel takes a line more under the name.
-fn takes_more(alloc: Global, parcel: &mut Parcel, number: u32) -> bool {
+/// Whether the batch takes a line more under the name.
+fn takes_more(alloc: Global, batch: &mut LineBatch, number: u32) -> bool {
     match numbered(alloc, number) {
-        Some(name) => parcel.add(&name, Letter::E, "b").is_ok(),
+        Some(name) => batch.add(&name, Letter::E, "b").is_ok(),
         None => false,
     }
 }
 
-/// Whether the parcel takes a line more under each name, and then has it.
-fn grows(alloc: Global, parcel: &mut Parcel) -> bool {
+/// Whether the batch takes a line more under each name, and then has it.
+fn grows(alloc: Global, batch: &mut LineBatch) -> bool {
     for number in 0..NAMES {
-        if !takes_more(alloc, parcel, number) {
+        if !takes_more(alloc, batch, number) {
             return false;
         }
     }
-    is_whole(alloc, parcel, "oa\neb\n")
+    is_whole(alloc, batch, "oa\neb\n")
 }
 
-fn has_a_copy_that_grows(alloc: Global, parcel: &Parcel) -> bool {
-    match parcel.copy() {
+fn has_a_copy_that_grows(alloc: Global, batch: &LineBatch) -> bool {
+    match batch.copy() {
         Ok(mut copy) => grows(alloc, &mut copy),
         Err(_) => false,
     }
 }
 
-/// Whether the parcel of all names is whole, and stays so while a copy grows.
+/// Whether the batch of all names is whole, and stays so while a copy grows.
 fn keeps_places(alloc: Global) -> bool {
     match of_all(alloc) {
-        Some(parcel) => {
-            is_whole(alloc, &parcel, "oa\n")
-                && has_a_copy_that_grows(alloc, &parcel)
-                && is_whole(alloc, &parcel, "oa\n")
+        Some(batch) => {
+            is_whole(alloc, &batch, "oa\n")
+                && has_a_copy_that_grows(alloc, &batch)
+                && is_whole(alloc, &batch, "oa\n")
         }
         None => false,
     }

@@ -4,7 +4,7 @@
 //! that one refused. In the gate no request is refused, so what is asserted behind an error doesn't
 //! run there; what the calls make is asserted.
 
-use bm_lines::{Block, Letter, LogName, Parcel, ParcelBuilder, Text, cut};
+use bm_lines::{Block, Letter, LineBatch, LineBatchBuilder, LogName, Text, cut};
 use std::alloc::{AllocError, Global};
 use std::test::Fail;
 
@@ -69,86 +69,86 @@ fn refused_lines_leave_those_before(rt: HostRuntime) -> Result<(), Fail> {
     Ok(())
 }
 
-/// Whether the parcel has the content under the name.
-fn has(parcel: &Parcel, name: &str, want: &str) -> bool {
-    match parcel.of(name) {
+/// Whether the batch has the content under the name.
+fn has(batch: &LineBatch, name: &str, want: &str) -> bool {
+    match batch.of(name) {
         Some(block) => block.content() == want,
         None => false,
     }
 }
 
-/// Whether the parcel has the content under `l`, and no part where there is none.
-fn holds(parcel: &Parcel, want: &str) -> bool {
+/// Whether the batch has the content under `l`, and no part where there is none.
+fn holds(batch: &LineBatch, want: &str) -> bool {
     if want.is_empty() {
-        parcel.parts().is_empty()
+        batch.parts().is_empty()
     } else {
-        has(parcel, "l", want)
+        has(batch, "l", want)
     }
 }
 
-/// Whether the parcel takes the text, at the second time where memory was refused and it has the
+/// Whether the batch takes the text, at the second time where memory was refused and it has the
 /// content as before.
 fn takes_under(
-    parcel: &mut Parcel,
+    batch: &mut LineBatch,
     name: &LogName,
     (letter, text): (Letter, &str),
     before: &str,
 ) -> bool {
-    parcel.add(name, letter, text).is_ok()
-        || holds(parcel, before) && parcel.add(name, letter, text).is_ok()
+    batch.add(name, letter, text).is_ok()
+        || holds(batch, before) && batch.add(name, letter, text).is_ok()
 }
 
-/// Whether the parcel takes a text under the name and another one under a copy of it.
-fn takes_both(parcel: &mut Parcel, name: &LogName) -> bool {
+/// Whether the batch takes a text under the name and another one under a copy of it.
+fn takes_both(batch: &mut LineBatch, name: &LogName) -> bool {
     match again(|| name.copy()) {
         Ok(copied) => {
-            takes_under(parcel, name, (Letter::O, "a\n"), "")
-                && takes_under(parcel, &copied, (Letter::E, "b\n"), "oa\n")
+            takes_under(batch, name, (Letter::O, "a\n"), "")
+                && takes_under(batch, &copied, (Letter::E, "b\n"), "oa\n")
         }
         Err(_) => false,
     }
 }
 
-fn is_copied(parcel: &Parcel, want: &str) -> bool {
-    match again(|| parcel.copy()) {
+fn is_copied(batch: &LineBatch, want: &str) -> bool {
+    match again(|| batch.copy()) {
         Ok(copy) => copy.parts().len() == 1 && holds(&copy, want),
         Err(_) => false,
     }
 }
 
 #[test]
-fn refused_parcel_keeps_its_parts(rt: HostRuntime) -> Result<(), Fail> {
+fn refused_batch_keeps_its_parts(rt: HostRuntime) -> Result<(), Fail> {
     let alloc = rt.alloc();
     let name = name_of(alloc, "l").ok_or("no name")?;
-    let mut parcel = Parcel::new(alloc);
-    assert!(rt; takes_both(&mut parcel, &name));
-    assert!(rt; is_copied(&parcel, "oa\neb\n"));
+    let mut batch = LineBatch::new(alloc);
+    assert!(rt; takes_both(&mut batch, &name));
+    assert!(rt; is_copied(&batch, "oa\neb\n"));
     Ok(())
 }
 
-/// Whether the parcel takes the text, at the second time where memory was refused and it has the
+/// Whether the batch takes the text, at the second time where memory was refused and it has the
 /// parts as before.
-fn gives(alloc: Global, parcel: &mut Parcel, name: &str, text: &str) -> bool {
+fn gives(alloc: Global, batch: &mut LineBatch, name: &str, text: &str) -> bool {
     let Some(name) = name_of(alloc, name) else {
         return false;
     };
-    let before = parcel.parts().len();
-    parcel.add(&name, Letter::O, text).is_ok()
-        || parcel.parts().len() == before && parcel.add(&name, Letter::O, text).is_ok()
+    let before = batch.parts().len();
+    batch.add(&name, Letter::O, text).is_ok()
+        || batch.parts().len() == before && batch.add(&name, Letter::O, text).is_ok()
 }
 
 #[test]
 fn refused_text_leaves_the_parts(rt: HostRuntime) {
     static SAID: [(&str, &str); 3] = [("l", "a\n"), ("stdio", "b\nc"), ("l", "d\n")];
     let alloc = rt.alloc();
-    let mut parcel = Parcel::new(alloc);
+    let mut batch = LineBatch::new(alloc);
     for (name, text) in &SAID {
-        assert!(rt; gives(alloc, &mut parcel, name, text));
+        assert!(rt; gives(alloc, &mut batch, name, text));
     }
-    assert!(rt; has(&parcel, "l", "oa\nod\n") && has(&parcel, "stdio", "ob\noc\n"));
+    assert!(rt; has(&batch, "l", "oa\nod\n") && has(&batch, "stdio", "ob\noc\n"));
 }
 
-fn is_built(alloc: Global, builder: &mut ParcelBuilder, name: &LogName, text: &str) -> bool {
+fn is_built(alloc: Global, builder: &mut LineBatchBuilder, name: &LogName, text: &str) -> bool {
     match again(|| Text::from_str(alloc, text)) {
         Ok(text) => builder.add_text(name, Letter::O, text).is_ok(),
         Err(_) => false,
@@ -156,7 +156,7 @@ fn is_built(alloc: Global, builder: &mut ParcelBuilder, name: &LogName, text: &s
 }
 
 /// Whether the builder takes the text, at the second time where memory was refused.
-fn builds(alloc: Global, builder: &mut ParcelBuilder, name: &str, text: &str) -> bool {
+fn builds(alloc: Global, builder: &mut LineBatchBuilder, name: &str, text: &str) -> bool {
     match name_of(alloc, name) {
         Some(name) => {
             is_built(alloc, builder, &name, text) || is_built(alloc, builder, &name, text)
@@ -169,7 +169,7 @@ fn builds(alloc: Global, builder: &mut ParcelBuilder, name: &str, text: &str) ->
 static NAMES: [&str; 10] = ["k", "a", "stdio", "c", "b", "e", "d", "g", "f", "h"];
 
 /// Whether the builder takes the text under each name.
-fn builds_all(alloc: Global, builder: &mut ParcelBuilder, text: &str) -> bool {
+fn builds_all(alloc: Global, builder: &mut LineBatchBuilder, text: &str) -> bool {
     for name in &NAMES {
         if !builds(alloc, builder, name, text) {
             return false;
@@ -181,12 +181,12 @@ fn builds_all(alloc: Global, builder: &mut ParcelBuilder, text: &str) -> bool {
 #[test]
 fn refused_table_leaves_the_parts(rt: HostRuntime) {
     let alloc = rt.alloc();
-    let mut builder = ParcelBuilder::new(alloc);
+    let mut builder = LineBatchBuilder::new(alloc);
     assert!(rt; builds_all(alloc, &mut builder, "a") && builds_all(alloc, &mut builder, "b"));
-    let parcel = builder.into_parcel();
-    assert!(rt; parcel.parts().len() == NAMES.len());
+    let batch = builder.into_batch();
+    assert!(rt; batch.parts().len() == NAMES.len());
     for name in &NAMES {
-        assert!(rt; has(&parcel, name, "oa\nob\n"));
+        assert!(rt; has(&batch, name, "oa\nob\n"));
     }
 }
 

@@ -11,7 +11,7 @@ use super::lengths::binary;
 use super::links::Links;
 use super::{AUTH, COMPLETE_THREE, DONE, ORDER, TRUE, UPDATE};
 use bm_lane::{ReaderEnd, Yard};
-use bm_lines::{Parcel, STDIO};
+use bm_lines::{LineBatch, STDIO};
 use bm_link::*;
 use bm_msg::{NUMBER_LIMIT, write_answer};
 use bm_session::{Body, Event, Results};
@@ -189,21 +189,21 @@ impl<Y: Yard, W: Wait + Drop> Desk<Y, W> {
         match body {
             Body::Update {
                 command: 0,
-                parcel,
+                batch,
                 ..
-            } => self.has_logged(parcel),
+            } => self.has_logged(batch),
             _ if self.logged(STDIO, "") => Some(false),
             _ => None,
         }
     }
 
-    /// The logs of the command are what the parcel has, and there is a line; or there is none.
-    fn has_logged(&mut self, parcel: &Parcel) -> Option<bool> {
-        if parcel.of(STDIO).is_none() && !self.logged(STDIO, "") {
+    /// The logs of the command are what the batch has, and there is a line; or there is none.
+    fn has_logged(&mut self, batch: &LineBatch) -> Option<bool> {
+        if batch.of(STDIO).is_none() && !self.logged(STDIO, "") {
             return None;
         }
         let mut lines = false;
-        for part in parcel.parts() {
+        for part in batch.parts() {
             let text = part.block.content();
             lines |= !text.is_empty();
             if !self.logged(part.name.as_str(), text) {

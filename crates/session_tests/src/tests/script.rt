@@ -55,7 +55,7 @@ pub fn given(item: &Option<Item>) -> Gives {
     match item {
         None => Gives::Nothing,
         Some(Item::Open(k)) => Gives::Open(*k),
-        Some(Item::Lines(k, parcel)) => Gives::Lines(*k, parcel.parts().len()),
+        Some(Item::Lines(k, batch)) => Gives::Lines(*k, batch.parts().len()),
         Some(Item::End(k, result)) => Gives::End(*k, *result),
         Some(Item::Gone) => Gives::Gone,
     }

@@ -1,6 +1,6 @@
 //! A command of many logs, which has a table of their names.
 
-use bm_lines::{Letter, LogName, ParcelBuilder, Text};
+use bm_lines::{Letter, LineBatchBuilder, LogName, Text};
 use bm_session::Item;
 use bm_store::*;
 use std::alloc::Global;
@@ -15,7 +15,7 @@ fn name_of(alloc: Global, number: u32) -> Option<LogName> {
 }
 
 /// Whether the builder takes the text under the name.
-fn takes(alloc: Global, builder: &mut ParcelBuilder, name: &LogName, text: &str) -> bool {
+fn takes(alloc: Global, builder: &mut LineBatchBuilder, name: &LogName, text: &str) -> bool {
     match Text::from_str(alloc, text) {
         Ok(text) => builder.add_text(name, Letter::O, text).is_ok(),
         Err(_) => false,
@@ -23,7 +23,7 @@ fn takes(alloc: Global, builder: &mut ParcelBuilder, name: &LogName, text: &str)
 }
 
 /// Whether the builder takes the text for the log.
-fn takes_for(alloc: Global, builder: &mut ParcelBuilder, number: u32, text: &str) -> bool {
+fn takes_for(alloc: Global, builder: &mut LineBatchBuilder, number: u32, text: &str) -> bool {
     match name_of(alloc, number) {
         Some(name) => takes(alloc, builder, &name, text),
         None => false,
@@ -32,13 +32,13 @@ fn takes_for(alloc: Global, builder: &mut ParcelBuilder, number: u32, text: &str
 
 /// The text for each log.
 fn for_each(alloc: Global, text: &str) -> Option<Item> {
-    let mut builder = ParcelBuilder::new(alloc);
+    let mut builder = LineBatchBuilder::new(alloc);
     for number in 0..LOGS {
         if !takes_for(alloc, &mut builder, number, text) {
             return None;
         }
     }
-    Some(Item::Lines(0, builder.into_parcel()))
+    Some(Item::Lines(0, builder.into_batch()))
 }
 
 /// Whether the log has so many lines.

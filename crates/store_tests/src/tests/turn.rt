@@ -1,7 +1,7 @@
 //! What a book takes and is asked, as data.
 
 use super::Row;
-use bm_lines::{Letter, LogName, Parcel};
+use bm_lines::{Letter, LineBatch, LogName};
 use bm_session::{Item, Results};
 use bm_store::*;
 use std::alloc::Global;
@@ -41,22 +41,22 @@ pub enum Gives {
     Mem,
 }
 
-/// Whether the parcel takes the text under the name.
-fn adds(alloc: Global, parcel: &mut Parcel, name: &str, text: &str) -> bool {
+/// Whether the batch takes the text under the name.
+fn adds(alloc: Global, batch: &mut LineBatch, name: &str, text: &str) -> bool {
     match LogName::new(alloc, name) {
-        Ok(Some(name)) => parcel.add(&name, Letter::O, text).is_ok(),
+        Ok(Some(name)) => batch.add(&name, Letter::O, text).is_ok(),
         _ => false,
     }
 }
 
 fn lines(alloc: Global, parts: &[(&str, &str)]) -> Option<Item> {
-    let mut parcel = Parcel::new(alloc);
+    let mut batch = LineBatch::new(alloc);
     for (name, text) in parts {
-        if !adds(alloc, &mut parcel, name, text) {
+        if !adds(alloc, &mut batch, name, text) {
             return None;
         }
     }
-    Some(Item::Lines(0, parcel))
+    Some(Item::Lines(0, batch))
 }
 
 /// The item that is taken. None where memory is wanting, or something is asked.

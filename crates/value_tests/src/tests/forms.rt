@@ -2,7 +2,8 @@
 
 use super::{fault_in, is_rewritten, is_written, then_drop, written};
 use bm_value::{
-    Bytes, DecodeError, EncodeError, Items, Num, Pair, Pairs, Text, Value, decode, decode_whole,
+    Bytes, DecodeError, EncodeError, Items, Num, Pair, Pairs, Value, ValueText, decode,
+    decode_whole,
 };
 use std::alloc::{AllocError, Global};
 use std::fmt::Display;
@@ -94,7 +95,7 @@ fn str_of(alloc: Global, length: usize) -> Result<Value, AllocError> {
     for _ in 0..length {
         string.push('x')?;
     }
-    Ok(Value::Str(Text::from_string(string)))
+    Ok(Value::Str(ValueText::from_string(string)))
 }
 
 fn array_of(alloc: Global, length: usize) -> Result<Value, AllocError> {

@@ -2,7 +2,7 @@
 
 use super::vectors::{START_ZERO, UPDATE_ZERO, VECTORS};
 use super::{fault_in, is_copied, is_rewritten, then_drop};
-use bm_value::{Bytes, DecodeError, EncodeError, Text, Value, decode, decode_whole, encode};
+use bm_value::{Bytes, DecodeError, EncodeError, Value, ValueText, decode, decode_whole, encode};
 use linked_list_allocator::LocalHeap;
 use refusing::Refusing;
 use std::alloc::{AllocError, Allocator, Global};
@@ -186,7 +186,7 @@ fn each_refused_request_of_a_copy_is_want_of_memory(rt: HostRuntime) -> Result<(
 }
 
 /// Whether the text is copied.
-fn text_is_copied<A: Allocator + Copy>(text: &Text<A>, want: &str) -> bool {
+fn text_is_copied<A: Allocator + Copy>(text: &ValueText<A>, want: &str) -> bool {
     match text.copy() {
         Ok(copy) => then_drop(copy.as_str() == want, copy),
         Err(_) => false,
@@ -204,7 +204,7 @@ fn bytes_are_copied<A: Allocator + Copy>(bytes: &Bytes<A>, want: &[u8]) -> bool 
 /// Whether the text's first copy is refused, and the second is made.
 fn text_is_refused_once(alloc: Global, want: &str) -> bool {
     let heap = Refusing::new(alloc, 2);
-    let is_refused = match Text::from_str(&heap, want) {
+    let is_refused = match ValueText::from_str(&heap, want) {
         Ok(text) => then_drop(text.copy().is_err() && text_is_copied(&text, want), text),
         Err(_) => false,
     };

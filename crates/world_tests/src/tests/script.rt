@@ -1,6 +1,6 @@
 //! Steps as data, for rows and random scripts.
 
-use bm_lines::{Letter, LogName, Parcel, Text};
+use bm_lines::{Letter, LogName, LineBatch, Text};
 use bm_session::{Body, Event};
 use bm_world::*;
 use std::alloc::{AllocError, Global};
@@ -24,9 +24,9 @@ pub enum Script {
     Look(u64, &'static str, u64, u64),
 }
 
-fn parcel(alloc: Global, name: &str, letter: Letter, text: &str) -> Result<Parcel, AllocError> {
+fn batch(alloc: Global, name: &str, letter: Letter, text: &str) -> Result<LineBatch, AllocError> {
     match LogName::new(alloc, name) {
-        Ok(Some(name)) => Parcel::of_str(alloc, name, letter, text),
+        Ok(Some(name)) => LineBatch::of_str(alloc, name, letter, text),
         _ => Err(AllocError),
     }
 }
@@ -39,10 +39,10 @@ fn update(
     letter: Letter,
     text: &str,
 ) -> Result<Body, AllocError> {
-    match parcel(alloc, name, letter, text) {
-        Ok(parcel) => Ok(Body::Update {
+    match batch(alloc, name, letter, text) {
+        Ok(batch) => Ok(Body::Update {
             command,
-            parcel,
+            batch,
             rc: None,
         }),
         Err(error) => Err(error),

@@ -1,5 +1,5 @@
 use Rattle.std.proofs.Common.{◌≡◌, not, take}
-use Rattle.bm_lines.specs.Parcels.{blocks_under}
+use Rattle.bm_lines.specs.LineBatches.{blocks_under}
 use Rattle.bm_session.specs.Trace.{is_empty}
 use Rattle.bm_session.proofs.log.has_part.Given as goal
 

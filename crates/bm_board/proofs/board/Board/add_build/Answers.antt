@@ -1,6 +1,6 @@
 use Rattle.std.proofs.Common.{◌≡◌, ◌++◌, ◌∷◌, [], ◌∙◌, ap, cond, is_ok, length, true, arith, rules}
 use Rattle.std.proofs.lemmas.Bool.{lt-ltb}
-use Rattle.bm_board.specs.Job.{Course}
+use Rattle.bm_board.specs.ScheduledBuild.{Course}
 use Rattle.bm_board.specs.Locks.{are_good}
 use Rattle.bm_board.proofs.Keeping.{kept_added}
 use Rattle.bm_board.proofs.board.Board.add_build.Goals as goal

@@ -1,5 +1,5 @@
 use Rattle.std.proofs.Common.{◌∙◌, arith}
-use Rattle.bm_board.specs.Job.{cancel}
+use Rattle.bm_board.specs.ScheduledBuild.{cancel}
 use Rattle.bm_board.proofs.Places.{answer_place, after_place}
 use Rattle.bm_board.proofs.Keeping.{kept_same}
 use Rattle.bm_board.proofs.board.Board.cancel.Goals as goal

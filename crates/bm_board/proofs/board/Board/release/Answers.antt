@@ -1,5 +1,5 @@
 use Rattle.std.proofs.Common.{◌∙◌, ap, sym, subst, arith}
-use Rattle.bm_board.specs.Job.{Course, release, answer_of, job_after}
+use Rattle.bm_board.specs.ScheduledBuild.{Course, release, answer_of, job_after}
 use Rattle.bm_board.specs.Kept.{IsTaken}
 use Rattle.bm_board.proofs.Places.{same_place, answer_place, after_place}
 use Rattle.bm_board.proofs.Keeping.{kept_released}

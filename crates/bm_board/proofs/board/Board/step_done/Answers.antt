@@ -1,5 +1,5 @@
 use Rattle.std.proofs.Common.{◌∙◌, arith}
-use Rattle.bm_board.specs.Job.{finish}
+use Rattle.bm_board.specs.ScheduledBuild.{finish}
 use Rattle.bm_board.proofs.Places.{answer_place, after_place}
 use Rattle.bm_board.proofs.Keeping.{kept_same}
 use Rattle.bm_board.proofs.board.Board.step_done.Goals as goal

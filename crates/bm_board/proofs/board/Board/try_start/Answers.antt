@@ -1,6 +1,6 @@
 use Rattle.std.proofs.Common.{◌≡◌, ◌<◌, ◌^◌, true, false, length, refl, sym, ap, subst, ◌∙◌, inl, inr, IsOk, All, arith}
 use Rattle.std.proofs.lemmas.Bool.{and_parts, ltb-true}
-use Rattle.bm_board.specs.Job.{Course, answer_of, is_waiting}
+use Rattle.bm_board.specs.ScheduledBuild.{Course, answer_of, is_waiting}
 use Rattle.bm_board.specs.Board.{board_after}
 use Rattle.bm_board.specs.Kept.{IsTaken, are_free}
 use Rattle.bm_board.proofs.Places.{same_place}

@@ -1,5 +1,5 @@
 use Rattle.std.proofs.Common.{◌∙◌, ap, slice_index}
-use Rattle.bm_board.specs.Job.{waits_for}
+use Rattle.bm_board.specs.ScheduledBuild.{waits_for}
 use Rattle.bm_roster.specs.Roster.{is_wanted}
 use Rattle.bm_roster.proofs.Counting.{any_counted}
 use Rattle.bm_roster.proofs.counted.CountedBoard.is_wanted.Goals as goal

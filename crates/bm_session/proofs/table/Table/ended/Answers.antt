@@ -4,10 +4,10 @@ use Rattle.bm_session.specs.declared.event.Event.TheVariants.{In}
 use Rattle.std.proofs.Common.{true, false, refl}
 use Rattle.std.proofs.Common.{ℕ, ℤ, List, Option, inl, inr}
 use Rattle.std.specs.Prelude.{◌⊎◌}
-use Rattle.bm_lines.specs.declared.parcel.Part.{Part}
+use Rattle.bm_lines.specs.declared.line_batch.LogLines.{LogLines}
 use Rattle.bm_session.specs.declared.event.Body.{Body}
 use Rattle.bm_session.specs.declared.event.Body.TheVariants.{Auth, Update, BadArgs, NoSuchOp, Answered}
-use Rattle.bm_session.specs.declared.table.Open.{Open}
+use Rattle.bm_session.specs.declared.open.Open.{Open}
 use Rattle.bm_session.specs.Trace.{ended_by}
 use Rattle.bm_session.specs.Table.{open_entry}
 use Rattle.bm_session.proofs.Stepped.{ended-none, ended-refusal, ends_nothing}
@@ -35,7 +35,7 @@ returns-else-fault c = λ t is up.
     subst (λ b. None ≡ option_map (open_entry t) (ended_by t (In c.args.number b))) (sym (c.in-Answered.is ∙ ap Answered c.if-fault.false)) (ended-none t c.args.number (Answered false) refl)
 
 -- the other messages end nothing
-other : (b : Body) → (b ≡ Auth) ⊎ (((j : ℕ) × (parcel : List Part) × (rc : Option ℤ) × (b ≡ Update j parcel rc)) ⊎ ((b ≡ BadArgs) ⊎ (b ≡ NoSuchOp))) → ends_nothing b ≡ true
+other : (b : Body) → (b ≡ Auth) ⊎ (((j : ℕ) × (batch : List LogLines) × (rc : Option ℤ) × (b ≡ Update j batch rc)) ⊎ ((b ≡ BadArgs) ⊎ (b ≡ NoSuchOp))) → ends_nothing b ≡ true
 other b (inl e) = ap ends_nothing e
 other b (inr (inl u)) = ap ends_nothing u.3
 other b (inr (inr (inl e))) = ap ends_nothing e

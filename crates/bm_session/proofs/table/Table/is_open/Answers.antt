@@ -1,6 +1,6 @@
 use Rattle.std.proofs.Common.{◌==◌, ◌∙◌, ap}
 use Rattle.std.specs.Prelude.{is_some, find}
-use Rattle.bm_session.specs.declared.table.Open.{Open}
+use Rattle.bm_session.specs.declared.open.Open.{Open}
 use Rattle.bm_session.proofs.Lookups.{is_open-table}
 use Rattle.bm_session.proofs.table.Table.is_open.Goals as goal
 

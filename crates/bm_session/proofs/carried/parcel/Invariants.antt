@@ -1,6 +1,0 @@
-use Rattle.std.proofs.Common.{◌≡◌}
-use Rattle.bm_msg.specs.Carried.{carried}
-use Rattle.bm_session.proofs.carried.parcel.Given as goal
-
-abbrev pub invariant-loop-field : goal.invariant-loop-field
-invariant-loop-field l = l.builder ≡ carried l.yielded

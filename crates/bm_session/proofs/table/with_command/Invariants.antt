@@ -1,7 +1,0 @@
-use Rattle.std.proofs.Common.{◌≡◌, None, take}
-use Rattle.std.specs.Prelude.{◌==◌, find}
-use Rattle.bm_session.specs.declared.table.Open.{Open}
-use Rattle.bm_session.proofs.table.with_command.Given as goal
-
-abbrev pub invariant-loop-entry : goal.invariant-loop-entry
-invariant-loop-entry l = find (λ (o : Open). l.command == o.command) (take l.entry-index l.listed) ≡ None

@@ -1,7 +1,0 @@
-use Rattle.std.proofs.Common.{◌≡◌, None, take}
-use Rattle.std.specs.Prelude.{◌==◌, find}
-use Rattle.bm_session.specs.declared.table.Open.{Open}
-use Rattle.bm_session.proofs.table.with_order.Given as goal
-
-abbrev pub invariant-loop-entry : goal.invariant-loop-entry
-invariant-loop-entry l = find (λ (o : Open). o.order == l.order) (take l.entry-index l.listed) ≡ None
