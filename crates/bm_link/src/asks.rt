@@ -5,10 +5,10 @@ ghost use Rattle.bm_msg.specs.Meaning.{asked};
 ghost use Rattle.bm_link.specs.Asks.{asks_for, ask_bytes, texts_of, SendsAsk};
 ghost use Rattle.bm_link.specs.Texts.{AreShort};
 
-use crate::carry::Carry;
 use crate::fault::LinkFault;
 use crate::parts::send;
 use crate::requests::request_bytes;
+use crate::resume_state::ResumeState;
 use bm_lines::Text;
 use bm_msg::Request;
 use std::alloc::{AllocError, Global};
@@ -67,7 +67,7 @@ fn ask_bytes(alloc: Global, seq: u64, ask: Ask) -> Result<Vec<u8>, AllocError>
 pub(crate) fn send_ask<S: Read + Write + Drop>(
     alloc: Global,
     socket: &mut WebSocket<S, NoMask>,
-    carry: &mut Carry,
+    carry: &mut ResumeState,
     ask: Ask,
 ) -> Result<(), LinkFault>
     requires { AreShort (texts_of ask) }

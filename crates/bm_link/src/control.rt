@@ -4,11 +4,11 @@
 ghost use Rattle.std.specs.Prelude.{◌≡◌};
 ghost use Rattle.bm_link.specs.Control.{ClosesFor, PingsFor, PutsOff};
 
-use crate::carry::Carry;
 use crate::fault::LinkFault;
 use crate::frames::{send_close, send_ping};
 use crate::master::MasterLink;
 use crate::parts::Stage;
+use crate::resume_state::ResumeState;
 use crate::telling::refuse;
 use bm_lane::HearRefusal;
 use std::alloc::Global;
@@ -22,7 +22,7 @@ impl<S: Read + Write + Drop> MasterLink<S> {
     ///
     /// `Closed` where no lane is up by the link. After any fault the link has failed, and the next
     /// `turn` cuts the lane or takes it down.
-    pub fn ping(&mut self, carry: &Carry) -> Result<(), LinkFault>
+    pub fn ping(&mut self, carry: &ResumeState) -> Result<(), LinkFault>
         ensures pinged { PingsFor S.contents self.old.stage self.old carry.now result self.new }
         ensures login { self.new.login ≡ self.old.login }
         ensures refused { self.new.refused ≡ self.old.refused }

@@ -12,7 +12,6 @@
 mod asked;
 mod asks;
 mod attaching;
-mod carry;
 mod control;
 mod credentials;
 mod fault;
@@ -27,6 +26,7 @@ mod orders;
 mod parts;
 mod reading;
 mod requests;
+mod resume_state;
 mod telling;
 mod texts;
 mod user;
@@ -34,10 +34,10 @@ mod worker;
 
 pub use asks::Ask;
 pub use attaching::Attached;
-pub use carry::Carry;
 pub use fault::LinkFault;
 pub use master::MasterLink;
 pub use parts::Turn;
+pub use resume_state::ResumeState;
 pub use texts::are_short;
 pub use user::User;
 pub use worker::WorkerLink;

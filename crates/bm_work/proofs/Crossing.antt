@@ -7,8 +7,8 @@ use Rattle.bm_work.specs.contracts.history.History as history
 use Rattle.bm_work.specs.contracts.sent.Sent as sent
 use Rattle.bm_work.specs.contracts.worker.Worker as worker
 
-Answers-send : IsSend answers.the_row
-Answers-send = search (sendable, crosses, maps.crosses) depth 30
+ReplyCache-send : IsSend answers.the_row
+ReplyCache-send = search (sendable, crosses, maps.crosses) depth 30
 
 Sent-send : IsSend sent.the_row
 Sent-send = search (sendable, crosses) depth 30
@@ -17,4 +17,4 @@ History-send : IsSend history.the_row
 History-send = search sendable depth 30
 
 pub Worker-send : IsSend worker.the_row
-Worker-send = search (sendable, crosses, Answers-send, Sent-send, History-send) depth 30
+Worker-send = search (sendable, crosses, ReplyCache-send, Sent-send, History-send) depth 30

@@ -33,7 +33,7 @@ pub(crate) enum Note<'a> {
     /// The command's end was reported.
     End(u64, &'a Finish),
     /// The request with that number was answered.
-    Answer(u64),
+    WorkerAnswer(u64),
 }
 
 impl History {

@@ -297,7 +297,7 @@ impl Worker {
             return WorkAct::Nothing;
         }
         take_out_request(&mut self.unanswered, seq);
-        self.history = self.history.with(&Note::Answer(seq));
+        self.history = self.history.with(&Note::WorkerAnswer(seq));
         WorkAct::Answered(seq)
     }
 }

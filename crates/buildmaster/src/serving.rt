@@ -1,9 +1,9 @@
 //! The master of a configuration file.
 
 use bm_config::{Config, ConfigFault, read_config};
-use bm_master::serve;
+use bm_master_threads::serve;
 use bm_replay::read_up_to;
-use bm_rules::{REFUSED, status};
+use bm_operator::{REFUSED, status};
 use std::alloc::AllocGlobal;
 use std::fs::Files;
 use std::io::{ErrorKind, Read, Write};

@@ -1,7 +1,7 @@
 //! The build worker: logs in to a build master and runs the commands that it is told.
 #![tactic(auto)]
 
-use bm_crew::{USAGE, new_session, read_job, words, work_run};
+use bm_worker_threads::{USAGE, new_session, read_job, words, work_run};
 use std::net::{Net, TcpStream, ToSocketAddrs};
 use std::process::ExitCode;
 use std::thread;

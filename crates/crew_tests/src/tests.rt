@@ -7,7 +7,7 @@ mod memory;
 mod rows;
 mod words;
 
-use bm_crew::{ReadyStream, work_run};
+use bm_worker_threads::{ReadyStream, work_run};
 use master::Master;
 use std::alloc::{AllocGlobal, Global};
 use std::net::{Net, SocketAddr, TcpListener, TcpStream};

@@ -4,7 +4,7 @@ ghost use Rattle.std.specs.Prelude.{◌≡◌};
 use crate::lists::config_again;
 use bm_config::WorkerConfig;
 use bm_lane::{Blank, Ends, Yard};
-use bm_parts::{Doors, Parts, deal, open_all, open_doors};
+use bm_lanes::{Doors, Parts, deal, open_all, open_doors};
 use std::alloc::{AllocGlobal, Global};
 use std::marker::Brand;
 use std::net::TcpStream;

@@ -3,7 +3,7 @@
 use bm_board::Words;
 use bm_config::{Config, WorkerConfig, read_config};
 use bm_link::User;
-use bm_parts::{maxima_of, place_master, slots_of, users_of};
+use bm_lanes::{maxima_of, place_master, slots_of, users_of};
 use std::alloc::Global;
 use std::test::Fail;
 

@@ -3,8 +3,8 @@ ghost use Rattle.std.specs.Prelude.{◌≡◌};
 
 use crate::ends::CALLS;
 use bm_lane::{Blank, Ends, ReaderEnd, Yard, open};
-use bm_parts::{AllEnds, Loose, Tally, settle_all};
-use bm_roster::Bench;
+use bm_lanes::{AllEnds, Loose, Tally, settle_all};
+use bm_build_queue::ViewerPool;
 use std::alloc::{AllocError, AllocGlobal, Global};
 use std::marker::Brand;
 use std::sync::{Mutex, Wait};
@@ -54,7 +54,7 @@ fn all_of<Y: Yard, W: Wait + Drop>(alloc: Global, ends: Ends<Y, W>) -> Option<Al
     } = ends;
     let mut viewers = viewers;
     let of_the_web = viewers.pop()?;
-    let bench = Bench::new(0, viewers)?;
+    let bench = ViewerPool::new(0, viewers)?;
     Some(AllEnds {
         readers: alone(alloc, reader)?,
         writers: alone(alloc, Mutex::new(writer))?,

@@ -1,4 +1,4 @@
-//! Tests of `bm_roster`: what no clause says.
+//! Tests of `bm_build_queue`: what no clause says.
 #![tactic(auto)]
 
 #[cfg(test)]

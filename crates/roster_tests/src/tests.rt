@@ -6,7 +6,7 @@ ghost use Rattle.std.specs.Prelude.{◌≡◌, ◌<◌, ◌≤◌, All};
 
 use bm_board::{Build, LockUse, LockUses, Mode, StepPlans};
 use bm_lane::{Blank, Viewer, Yard, open};
-use bm_roster::*;
+use bm_build_queue::*;
 use bm_session::Results;
 use std::alloc::{AllocError, Global};
 use std::marker::Brand;
@@ -27,8 +27,8 @@ fn build_of(alloc: Global, mode: Mode) -> Result<Build, AllocError> {
 }
 
 /// The bench of worker 0 alone.
-fn benches_of<Y: Yard>(alloc: Global, viewers: Vec<Viewer<Y>>) -> Option<Vec<Bench<Y>>> {
-    let bench = Bench::new(0, viewers)?;
+fn benches_of<Y: Yard>(alloc: Global, viewers: Vec<Viewer<Y>>) -> Option<Vec<ViewerPool<Y>>> {
+    let bench = ViewerPool::new(0, viewers)?;
     let mut benches = Vec::new(alloc);
     match benches.push(bench) {
         Ok(()) => Some(benches),
@@ -37,16 +37,16 @@ fn benches_of<Y: Yard>(alloc: Global, viewers: Vec<Viewer<Y>>) -> Option<Vec<Ben
 }
 
 /// The roster of a worker with these viewers of its lane, without a build.
-fn roster_of<Y: Yard>(alloc: Global, viewers: Vec<Viewer<Y>>) -> Option<Roster<Y>> {
+fn roster_of<Y: Yard>(alloc: Global, viewers: Vec<Viewer<Y>>) -> Option<BuildQueue<Y>> {
     let slots: [u8; 1] = [2];
     let maxima: [u32; 1] = [2];
     match benches_of(alloc, viewers) {
-        Some(benches) => Roster::new(alloc, &slots, &maxima, benches).ok(),
+        Some(benches) => BuildQueue::new(alloc, &slots, &maxima, benches).ok(),
         None => None,
     }
 }
 
-fn is_added<Y: Yard>(alloc: Global, roster: &mut Roster<Y>, number: u64, mode: Mode) -> bool {
+fn is_added<Y: Yard>(alloc: Global, roster: &mut BuildQueue<Y>, number: u64, mode: Mode) -> bool {
     match build_of(alloc, mode) {
         Ok(build) => roster.add(alloc, &build) == Ok(number),
         Err(_) => false,
@@ -54,19 +54,19 @@ fn is_added<Y: Yard>(alloc: Global, roster: &mut Roster<Y>, number: u64, mode: M
 }
 
 /// Whether four builds are added: the first holds the lock alone, the others beside each other.
-fn are_added<Y: Yard>(alloc: Global, roster: &mut Roster<Y>) -> bool {
+fn are_added<Y: Yard>(alloc: Global, roster: &mut BuildQueue<Y>) -> bool {
     is_added(alloc, roster, 0, Mode::Exclusive)
         && is_added(alloc, roster, 1, Mode::Counting)
         && is_added(alloc, roster, 2, Mode::Counting)
         && is_added(alloc, roster, 3, Mode::Counting)
 }
 
-fn starts_none<Y: Yard>(roster: &mut Roster<Y>) -> bool {
+fn starts_none<Y: Yard>(roster: &mut BuildQueue<Y>) -> bool {
     roster.next().is_none()
 }
 
 /// The viewer of the next build that starts, which is the one of this number.
-fn viewer_for<Y: Yard>(roster: &mut Roster<Y>, number: u64) -> Option<Viewer<Y>> {
+fn viewer_for<Y: Yard>(roster: &mut BuildQueue<Y>, number: u64) -> Option<Viewer<Y>> {
     let next = roster.next()?;
     if next.number == number && next.worker == 0 && next.viewer.lane() == 0 {
         Some(next.viewer)
@@ -76,7 +76,7 @@ fn viewer_for<Y: Yard>(roster: &mut Roster<Y>, number: u64) -> Option<Viewer<Y>>
 }
 
 /// Whether the builds wait for their worker.
-fn are_waiting<Y: Yard>(alloc: Global, roster: &mut Roster<Y>) -> bool {
+fn are_waiting<Y: Yard>(alloc: Global, roster: &mut BuildQueue<Y>) -> bool {
     starts_none(roster)
         && roster.is_wanted(0)
         && !roster.has_build(0)
@@ -85,14 +85,14 @@ fn are_waiting<Y: Yard>(alloc: Global, roster: &mut Roster<Y>) -> bool {
 
 /// Whether the first build, which holds the lock alone, runs without another one. It is cancelled
 /// then, and so is the last one, which waits.
-fn is_alone<Y: Yard>(roster: &mut Roster<Y>) -> bool {
+fn is_alone<Y: Yard>(roster: &mut BuildQueue<Y>) -> bool {
     starts_none(roster)
         && roster.has_build(0)
         && roster.cancel(3) == Cancelled::Waiting
         && roster.cancel(0) == Cancelled::Running
 }
 
-fn first_is_run<Y: Yard>(roster: &mut Roster<Y>) -> bool {
+fn first_is_run<Y: Yard>(roster: &mut BuildQueue<Y>) -> bool {
     roster.set_ready(0, true);
     match viewer_for(roster, 0) {
         Some(viewer) => {
@@ -104,12 +104,12 @@ fn first_is_run<Y: Yard>(roster: &mut Roster<Y>) -> bool {
 }
 
 /// Whether the third build, which alone waits, is given up, while the second one runs.
-fn is_given_up<Y: Yard>(roster: &mut Roster<Y>) -> bool {
+fn is_given_up<Y: Yard>(roster: &mut BuildQueue<Y>) -> bool {
     roster.set_ready(0, false);
     roster.give_up_one(0) == Some(2) && roster.give_up_one(0).is_none() && !roster.is_over()
 }
 
-fn second_is_run<Y: Yard>(roster: &mut Roster<Y>) -> bool {
+fn second_is_run<Y: Yard>(roster: &mut BuildQueue<Y>) -> bool {
     match viewer_for(roster, 1) {
         Some(viewer) => {
             let is_given_up = is_given_up(roster);
@@ -128,7 +128,7 @@ const ENDS: [Results; 4] = [
 ];
 
 /// Whether each build has its result.
-fn are_over<Y: Yard>(roster: &Roster<Y>) -> bool {
+fn are_over<Y: Yard>(roster: &BuildQueue<Y>) -> bool {
     roster.is_over()
         && roster.builds() == 4
         && !roster.is_wanted(0)
@@ -139,7 +139,7 @@ fn are_over<Y: Yard>(roster: &Roster<Y>) -> bool {
 }
 
 /// Whether each build's result is listed, by its number.
-fn are_listed<Y: Yard>(alloc: Global, roster: &Roster<Y>) -> bool {
+fn are_listed<Y: Yard>(alloc: Global, roster: &BuildQueue<Y>) -> bool {
     match roster.results(alloc) {
         Some(results) => results.as_slice() == ENDS.as_slice(),
         None => false,
@@ -147,7 +147,7 @@ fn are_listed<Y: Yard>(alloc: Global, roster: &Roster<Y>) -> bool {
 }
 
 /// Whether both viewers are on their bench.
-fn are_back<Y: Yard>(roster: Roster<Y>) -> bool {
+fn are_back<Y: Yard>(roster: BuildQueue<Y>) -> bool {
     match roster.into_benches().pop() {
         Some(bench) => bench.into_viewers().len() == 2,
         None => false,

@@ -1,4 +1,4 @@
-//! Tests of `bm_rules`: what no clause says.
+//! Tests of `bm_operator`: what no clause says.
 #![tactic(auto)]
 
 #[cfg(test)]

@@ -1,16 +1,16 @@
 //! Worked rows of the rules.
 
-use bm_rules::*;
+use bm_operator::*;
 use bm_session::Results;
 use std::alloc::Global;
 use std::process::Abort;
 
 /// An event of a worker, whether it takes builds then, what is done with its process, and whether
 /// the builds that wait are given up.
-type Row = (WorkerEvent, bool, ProcessDuty, bool);
+type Row = (WorkerEvent, bool, ProcessAction, bool);
 
 /// Whether the duty at the row's event is that of the row.
-fn is_done(post: &mut Post, (event, ready, process, gives_up): &Row) -> bool {
+fn is_done(post: &mut WorkerState, (event, ready, process, gives_up): &Row) -> bool {
     let duty = post.hear(*event);
     duty.ready == *ready
         && duty.process == *process
@@ -19,7 +19,7 @@ fn is_done(post: &mut Post, (event, ready, process, gives_up): &Row) -> bool {
 }
 
 /// A worker goes through the rows, which count from 0.
-fn goes_through(rt: &impl Abort, mut post: Post, rows: &[Row]) {
+fn goes_through(rt: &impl Abort, mut post: WorkerState, rows: &[Row]) {
     for (n, row) in rows.iter().enumerate() {
         assert!(rt; is_done(&mut post, row), "row {n}");
     }
@@ -32,72 +32,72 @@ const BUSY: WorkerEvent = WorkerEvent::Tick { has_build: true };
 #[test]
 fn latent_worker_is_started_and_stopped(rt: HostRuntime) {
     static ROWS: [Row; 18] = [
-        (WorkerEvent::Wanted, false, ProcessDuty::Start, false),
-        (WorkerEvent::Wanted, false, ProcessDuty::None, false),
-        (WorkerEvent::Started, false, ProcessDuty::None, false),
-        (WorkerEvent::Attached, true, ProcessDuty::None, false),
-        (WorkerEvent::Lost, false, ProcessDuty::None, false),
-        (WorkerEvent::Wanted, false, ProcessDuty::None, false),
-        (WorkerEvent::Attached, false, ProcessDuty::Shutdown, false),
-        (WorkerEvent::Stopped, false, ProcessDuty::None, false),
-        (WorkerEvent::Lost, false, ProcessDuty::Start, false),
-        (WorkerEvent::Attached, true, ProcessDuty::None, false),
-        (IDLE, true, ProcessDuty::None, false),
-        (BUSY, true, ProcessDuty::None, false),
-        (IDLE, true, ProcessDuty::None, false),
-        (IDLE, false, ProcessDuty::Shutdown, false),
-        (WorkerEvent::Lost, false, ProcessDuty::None, false),
-        (WorkerEvent::Stopped, false, ProcessDuty::None, false),
-        (WorkerEvent::Wanted, false, ProcessDuty::Start, false),
-        (WorkerEvent::Stopped, false, ProcessDuty::None, true),
+        (WorkerEvent::Wanted, false, ProcessAction::Start, false),
+        (WorkerEvent::Wanted, false, ProcessAction::None, false),
+        (WorkerEvent::Started, false, ProcessAction::None, false),
+        (WorkerEvent::Attached, true, ProcessAction::None, false),
+        (WorkerEvent::Lost, false, ProcessAction::None, false),
+        (WorkerEvent::Wanted, false, ProcessAction::None, false),
+        (WorkerEvent::Attached, false, ProcessAction::Shutdown, false),
+        (WorkerEvent::Stopped, false, ProcessAction::None, false),
+        (WorkerEvent::Lost, false, ProcessAction::Start, false),
+        (WorkerEvent::Attached, true, ProcessAction::None, false),
+        (IDLE, true, ProcessAction::None, false),
+        (BUSY, true, ProcessAction::None, false),
+        (IDLE, true, ProcessAction::None, false),
+        (IDLE, false, ProcessAction::Shutdown, false),
+        (WorkerEvent::Lost, false, ProcessAction::None, false),
+        (WorkerEvent::Stopped, false, ProcessAction::None, false),
+        (WorkerEvent::Wanted, false, ProcessAction::Start, false),
+        (WorkerEvent::Stopped, false, ProcessAction::None, true),
     ];
-    goes_through(&rt, Post::latent(3), &ROWS);
+    goes_through(&rt, WorkerState::latent(3), &ROWS);
 }
 
 #[test]
 fn worker_outlives_its_process(rt: HostRuntime) {
     static ROWS: [Row; 9] = [
-        (WorkerEvent::Wanted, false, ProcessDuty::Start, false),
-        (WorkerEvent::Attached, true, ProcessDuty::None, false),
-        (WorkerEvent::Stopped, true, ProcessDuty::None, false),
-        (WorkerEvent::Wanted, true, ProcessDuty::None, false),
-        (BUSY, true, ProcessDuty::None, false),
-        (IDLE, true, ProcessDuty::None, false),
-        (IDLE, false, ProcessDuty::Shutdown, false),
-        (WorkerEvent::Lost, false, ProcessDuty::None, false),
-        (WorkerEvent::Wanted, false, ProcessDuty::Start, false),
+        (WorkerEvent::Wanted, false, ProcessAction::Start, false),
+        (WorkerEvent::Attached, true, ProcessAction::None, false),
+        (WorkerEvent::Stopped, true, ProcessAction::None, false),
+        (WorkerEvent::Wanted, true, ProcessAction::None, false),
+        (BUSY, true, ProcessAction::None, false),
+        (IDLE, true, ProcessAction::None, false),
+        (IDLE, false, ProcessAction::Shutdown, false),
+        (WorkerEvent::Lost, false, ProcessAction::None, false),
+        (WorkerEvent::Wanted, false, ProcessAction::Start, false),
     ];
-    goes_through(&rt, Post::latent(2), &ROWS);
+    goes_through(&rt, WorkerState::latent(2), &ROWS);
 }
 
 #[test]
 fn stranger_is_sent_away_and_forgotten(rt: HostRuntime) {
     static ROWS: [Row; 4] = [
-        (WorkerEvent::Attached, false, ProcessDuty::Shutdown, false),
-        (WorkerEvent::Wanted, false, ProcessDuty::None, false),
-        (WorkerEvent::Lost, false, ProcessDuty::Start, false),
-        (WorkerEvent::Failed, false, ProcessDuty::None, true),
+        (WorkerEvent::Attached, false, ProcessAction::Shutdown, false),
+        (WorkerEvent::Wanted, false, ProcessAction::None, false),
+        (WorkerEvent::Lost, false, ProcessAction::Start, false),
+        (WorkerEvent::Failed, false, ProcessAction::None, true),
     ];
-    goes_through(&rt, Post::latent(1), &ROWS);
+    goes_through(&rt, WorkerState::latent(1), &ROWS);
 }
 
 #[test]
 fn plain_worker_takes_builds_while_attached(rt: HostRuntime) {
     static ROWS: [Row; 8] = [
-        (WorkerEvent::Wanted, false, ProcessDuty::None, false),
-        (WorkerEvent::Attached, true, ProcessDuty::None, false),
-        (IDLE, true, ProcessDuty::None, false),
-        (WorkerEvent::Cut, false, ProcessDuty::None, false),
-        (WorkerEvent::Attached, true, ProcessDuty::None, false),
-        (WorkerEvent::Filled, false, ProcessDuty::None, true),
-        (WorkerEvent::Wanted, false, ProcessDuty::None, true),
-        (WorkerEvent::Lost, false, ProcessDuty::None, false),
+        (WorkerEvent::Wanted, false, ProcessAction::None, false),
+        (WorkerEvent::Attached, true, ProcessAction::None, false),
+        (IDLE, true, ProcessAction::None, false),
+        (WorkerEvent::Cut, false, ProcessAction::None, false),
+        (WorkerEvent::Attached, true, ProcessAction::None, false),
+        (WorkerEvent::Filled, false, ProcessAction::None, true),
+        (WorkerEvent::Wanted, false, ProcessAction::None, true),
+        (WorkerEvent::Lost, false, ProcessAction::None, false),
     ];
-    goes_through(&rt, Post::plain(), &ROWS);
+    goes_through(&rt, WorkerState::plain(), &ROWS);
 }
 
 /// Whether a lane with these ticks to resume is over after so many of them, and was not before.
-fn is_over_after(tenure: &mut Tenure, ticks: u32) -> bool {
+fn is_over_after(tenure: &mut ResumeTimer, ticks: u32) -> bool {
     for _ in 1..ticks {
         if tenure.tick() {
             return false;
@@ -107,7 +107,7 @@ fn is_over_after(tenure: &mut Tenure, ticks: u32) -> bool {
 }
 
 /// Whether the count of a lane begins anew with each cut, and stops where a connection is attached.
-fn is_counted_anew(tenure: &mut Tenure) -> bool {
+fn is_counted_anew(tenure: &mut ResumeTimer) -> bool {
     tenure.begin();
     tenure.cut();
     let lasts = !tenure.tick() && !tenure.tick();
@@ -116,7 +116,7 @@ fn is_counted_anew(tenure: &mut Tenure) -> bool {
 }
 
 /// Whether a lane whose worker isn't awaited is over at its cut, and nothing is counted after that.
-fn is_over_at_once(tenure: &mut Tenure) -> bool {
+fn is_over_at_once(tenure: &mut ResumeTimer) -> bool {
     tenure.dismiss();
     let lasts = !tenure.is_over();
     tenure.cut();
@@ -127,7 +127,7 @@ fn is_over_at_once(tenure: &mut Tenure) -> bool {
 
 #[test]
 fn cut_lane_is_given_up_in_time(rt: HostRuntime) {
-    let mut tenure = Tenure::new(3);
+    let mut tenure = ResumeTimer::new(3);
     assert!(rt; !tenure.tick() && !tenure.is_counting());
     tenure.cut();
     assert!(rt; tenure.is_counting() && is_over_after(&mut tenure, 3));
@@ -139,7 +139,7 @@ const MOMENTS: [(u64, u64); 6] = [(14, 0), (36, 3), (44, 0), (0, 0), (45, 1), (1
 
 #[test]
 fn ticks_are_counted_once(rt: HostRuntime) {
-    let mut pace = Pace::new(10, 5);
+    let mut pace = TickCounter::new(10, 5);
     for (now, ticks) in &MOMENTS {
         assert!(rt; pace.ticks(*now) == *ticks, "at {now}");
     }

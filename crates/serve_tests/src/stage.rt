@@ -4,7 +4,7 @@ use crate::hand::Hand;
 use crate::streams::{Feed, Sink};
 use bm_config::{Config, read_config};
 use bm_link::LinkFault;
-use bm_master::serve;
+use bm_master_threads::serve;
 use crossbeam_channel::{Receiver, Sender, unbounded};
 use std::alloc::{AllocGlobal, Global};
 use std::io::Write;

@@ -5,7 +5,7 @@ use crate::clients::{Client, is_begun, says};
 use crate::lanes::shown;
 use crate::rows::{LINES, NOT_ALLOWED, WIRE};
 use bm_lane::{Blank, Ends, Viewer, Yard, open};
-use bm_serve::{Limits, Site, serve};
+use bm_web_server::{WebLimits, LogService, serve};
 use std::alloc::{AllocError, AllocGlobal, Global};
 use std::marker::Brand;
 use std::net::{Net, SocketAddr, TcpListener, TcpStream};
@@ -377,7 +377,7 @@ fn is_prompt<R: Clock>(rt: &R, stopped: Option<Instant>) -> bool {
 struct Serving<R, Y: Yard> {
     rt: R,
     listener: TcpListener,
-    site: Arc<Site<Y>>,
+    site: Arc<LogService<Y>>,
     stopped: oneshot::Receiver<()>,
 }
 
@@ -403,7 +403,7 @@ where
         + Sync,
 {
     // What serves the site, what tells it to stop, and who visits it.
-    fn new(rt: R, site: Arc<Site<Y>>) -> Option<(Serving<R, Y>, oneshot::Sender<()>, Client<R>)> {
+    fn new(rt: R, site: Arc<LogService<Y>>) -> Option<(Serving<R, Y>, oneshot::Sender<()>, Client<R>)> {
         let channel = oneshot::channel(rt.alloc()).ok();
         let ((stop, stopped), (listener, address)) = channel.zip(bound(&rt))?;
         let serving = Serving {
@@ -423,7 +423,7 @@ where
             site,
             stopped,
         } = self;
-        let limits = Limits {
+        let limits = WebLimits {
             workers: 2,
             connections: PLACES,
             idle: Duration::from_millis(1500),
@@ -445,7 +445,7 @@ fn is_visited<
         + Copy
         + Send
         + Sync,
->(rt: R, site: Arc<Site<Y>>, visit: Visit) -> bool {
+>(rt: R, site: Arc<LogService<Y>>, visit: Visit) -> bool {
     let Some((serving, stop, client)) = Serving::new(rt, site) else {
         return false;
     };
@@ -461,19 +461,19 @@ fn is_visited<
 fn site_of<Y: Yard>(
     alloc: Global,
     viewers: Vec<Viewer<Y>>,
-) -> Option<(Arc<Site<Y>>, Arc<Site<Y>>)> {
+) -> Option<(Arc<LogService<Y>>, Arc<LogService<Y>>)> {
     if viewers.is_empty() {
         return None;
     }
-    let site = Site::new(alloc, viewers).ok()?;
+    let site = LogService::new(alloc, viewers).ok()?;
     let site = Arc::new(alloc, site).ok()?;
     let held = Arc::try_clone(&site).ok();
     Some(site).zip(held)
 }
 
 // Whether nobody else holds the site of so many lanes, which gives their viewers back.
-fn is_back<Y: Yard>(site: Arc<Site<Y>>, lanes: usize) -> bool {
-    match Site::into_viewers(site) {
+fn is_back<Y: Yard>(site: Arc<LogService<Y>>, lanes: usize) -> bool {
+    match LogService::into_viewers(site) {
         Some(viewers) => viewers.len() == lanes,
         None => false,
     }

@@ -3,10 +3,10 @@ ghost use Rattle.std.specs.Prelude.{◌≡◌};
 
 use super::cut::{Cut, Unit};
 use super::{dial, waiting};
-use bm_crew::{ReadyStream, work_run};
+use bm_worker_threads::{ReadyStream, work_run};
 use bm_lane::{Blank, Drained, Ends, Yard, open};
 use bm_lines::{STDIO, Text};
-use bm_link::{Ask, Carry, MasterLink, User, are_short};
+use bm_link::{Ask, ResumeState, MasterLink, User, are_short};
 use bm_session::Results;
 use bumpalo::Bump;
 use std::alloc::{AllocError, AllocGlobal, Global};
@@ -107,10 +107,10 @@ fn link_over(alloc: Global, stream: TcpStream) -> Option<Link> {
 
 /// A lane whose worker is given one command.
 #[derive(Drop)]
-struct Desk<Y: Yard, W: Wait + Drop> {
+struct LaneState<Y: Yard, W: Wait + Drop> {
     alloc: Global,
     ends: Ends<Y, W>,
-    carry: Carry,
+    carry: ResumeState,
     users: Vec<User>,
     argv: Vec<Text>,
 }
@@ -122,13 +122,13 @@ fn user_of(alloc: Global) -> Result<User, AllocError> {
     })
 }
 
-impl<Y: Yard, W: Wait + Drop> Desk<Y, W> {
+impl<Y: Yard, W: Wait + Drop> LaneState<Y, W> {
     /// A lane without a link. No user is known, and there is no command to start.
-    fn new(alloc: Global, ends: Ends<Y, W>) -> Desk<Y, W> {
-        Desk {
+    fn new(alloc: Global, ends: Ends<Y, W>) -> LaneState<Y, W> {
+        LaneState {
             alloc,
             ends,
-            carry: Carry::new(alloc, true),
+            carry: ResumeState::new(alloc, true),
             users: Vec::new(alloc),
             argv: Vec::new(alloc),
         }
@@ -154,7 +154,7 @@ impl<Y: Yard, W: Wait + Drop> Desk<Y, W> {
     }
 }
 
-impl<Y: Yard, W: Wait + Drop> Desk<Y, W> {
+impl<Y: Yard, W: Wait + Drop> LaneState<Y, W> {
     /// Whether the command has ended over one of the next connections, which are served in turn.
     fn serves_all<R: Wait + Net<Listener = TcpListener, Stream = TcpStream>>(
         &mut self,
@@ -286,7 +286,7 @@ where
 }
 
 /// Whether a desk served a worker whose first connections are cut so, and the worker then left.
-fn has_served<Y: Yard, W: Wait + Drop, R>(rt: R, desk: &mut Desk<Y, W>, cuts: Cuts) -> Option<bool>
+fn has_served<Y: Yard, W: Wait + Drop, R>(rt: R, desk: &mut LaneState<Y, W>, cuts: Cuts) -> Option<bool>
 where
     R: Wait
         + Threads
@@ -312,7 +312,7 @@ where
 /// What the lane of a new desk has of a command of a worker whose first connections are cut so.
 fn log_at<Y: Yard, W: Wait + Drop, R>(
     rt: R,
-    mut desk: Desk<Y, W>,
+    mut desk: LaneState<Y, W>,
     task: Task,
     cuts: Cuts,
 ) -> Option<Log>
@@ -359,7 +359,7 @@ where
     requires { (blank.queue ≡ Y.queue 0) × (blank.copy ≡ Y.copy 0) }
 {
     let ends = blank.ends::<Y>(rt.alloc(), 0).ok()?;
-    log_at(rt, Desk::new(rt.alloc(), ends), task, cuts)
+    log_at(rt, LaneState::new(rt.alloc(), ends), task, cuts)
 }
 
 /// What a new lane has of a command of a worker whose first connections are cut so.

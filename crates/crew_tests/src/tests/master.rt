@@ -4,7 +4,7 @@
 ghost use Rattle.std.specs.Prelude.{◌<◌, ◌^◌};
 
 use super::waiting;
-use bm_crew::ReadyStream;
+use bm_worker_threads::ReadyStream;
 use bm_lines::{Letter, Text};
 use bm_msg::{Field, Message, Numbered, Request, read, write_answer, write_request};
 use bm_value::{Items, Pair, Pairs, Value, decode_whole};

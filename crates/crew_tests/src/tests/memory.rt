@@ -4,7 +4,7 @@
 //! then, and nothing else is told; and the same call again does as ever. In the gate no request is
 //! refused, and no call is made twice.
 
-use bm_crew::{Mail, Part, Piece, PipeReader, new_session, words};
+use bm_worker_threads::{Mail, Part, Piece, PipeReader, new_session, words};
 use bm_lines::Letter;
 use crossbeam_channel::{Receiver, bounded};
 use std::alloc::{AllocGlobal, Global};

@@ -1,6 +1,6 @@
 //! The words of the command line.
 
-use bm_crew::read_job;
+use bm_worker_threads::read_job;
 use std::alloc::{AllocError, Global};
 
 fn words_of(alloc: Global, words: &[&str]) -> Result<Vec<String>, AllocError> {

@@ -2,19 +2,19 @@
 
 use super::calls::{Answer, Call, HEARD, NOTED, PLAIN};
 use super::desk::{Row, plays};
-use super::worker::Bench;
+use super::worker::ViewerPool;
 use super::{ANSWER, ORDER, Script, TRUE};
 use std::alloc::Global;
 
 /// What a worker writes whose master orders a command: it logs in, answers, and says a line.
 fn worker_says(alloc: Global) -> Option<Vec<u8>> {
-    match Bench::new(alloc, &[TRUE, ORDER]) {
+    match ViewerPool::new(alloc, &[TRUE, ORDER]) {
         Ok(mut bench) => said(&mut bench),
         Err(_) => None,
     }
 }
 
-fn said(bench: &mut Bench) -> Option<Vec<u8>> {
+fn said(bench: &mut ViewerPool) -> Option<Vec<u8>> {
     if bench.runs() && bench.says() {
         bench.output().ok()
     } else {

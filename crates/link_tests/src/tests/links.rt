@@ -17,7 +17,7 @@ use std::sync::Wait;
 #[derive(Drop)]
 pub(crate) struct Links {
     alloc: Global,
-    carry: Carry,
+    carry: ResumeState,
     arena: Bump,
     users: Vec<User>,
     argv: Vec<Text>,
@@ -39,7 +39,7 @@ impl Links {
     pub fn new(alloc: Global, resumable: bool) -> Links {
         Links {
             alloc,
-            carry: Carry::new(alloc, resumable),
+            carry: ResumeState::new(alloc, resumable),
             arena: Bump::new(alloc),
             users: Vec::new(alloc),
             argv: Vec::new(alloc),

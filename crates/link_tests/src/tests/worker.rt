@@ -31,7 +31,7 @@ type Link = WorkerLink<Script, RandomKeys<Zeros>>;
 
 /// A worker, its link, and the arena of its messages.
 #[derive(Drop)]
-pub(crate) struct Bench {
+pub(crate) struct ViewerPool {
     alloc: Global,
     link: Link,
     attached: Attached,
@@ -39,24 +39,24 @@ pub(crate) struct Bench {
     core: Worker,
 }
 
-impl Bench {
+impl ViewerPool {
     /// A worker that names no session, whose link reads these messages after the handshake.
-    pub fn new(alloc: Global, messages: &[&[u8]]) -> Result<Bench, LinkFault> {
-        Bench::named(alloc, None, messages)
+    pub fn new(alloc: Global, messages: &[&[u8]]) -> Result<ViewerPool, LinkFault> {
+        ViewerPool::named(alloc, None, messages)
     }
 
     /// A worker that names this session, whose link reads these messages after the handshake.
-    fn named(alloc: Global, session: Option<&str>, messages: &[&[u8]]) -> Result<Bench, LinkFault> {
+    fn named(alloc: Global, session: Option<&str>, messages: &[&[u8]]) -> Result<ViewerPool, LinkFault> {
         match script_of(alloc, AGREED, messages) {
-            Ok(stream) => Bench::over(alloc, session, stream),
+            Ok(stream) => ViewerPool::over(alloc, session, stream),
             Err(_) => Err(LinkFault::Mem),
         }
     }
 
     /// A worker that names this session, whose link is one over this stream.
-    fn over(alloc: Global, session: Option<&str>, stream: Script) -> Result<Bench, LinkFault> {
+    fn over(alloc: Global, session: Option<&str>, stream: Script) -> Result<ViewerPool, LinkFault> {
         match WorkerLink::connect(alloc, Zeros {}, stream, "w0", "p", session) {
-            Ok((link, attached)) => Ok(Bench {
+            Ok((link, attached)) => Ok(ViewerPool {
                 alloc,
                 link,
                 attached,
@@ -111,7 +111,7 @@ impl Bench {
 
 /// How a worker is refused that is answered so.
 fn refusal(alloc: Global, messages: &[&[u8]]) -> Option<LinkFault> {
-    match Bench::new(alloc, messages) {
+    match ViewerPool::new(alloc, messages) {
         Ok(_) => None,
         Err(fault) => Some(fault),
     }
@@ -134,13 +134,13 @@ fn answers_to_a_login(rt: HostRuntime) {
 /// Whether a worker that runs an order ends where these messages come last, and was told a close
 /// frame or not.
 fn is_closed_by(alloc: Global, last: &[u8], closed: bool) -> bool {
-    match Bench::new(alloc, &[TRUE, ORDER, last]) {
+    match ViewerPool::new(alloc, &[TRUE, ORDER, last]) {
         Ok(mut bench) => bench.ends_as(closed),
         Err(_) => false,
     }
 }
 
-impl Bench {
+impl ViewerPool {
     fn ends_as(&mut self, closed: bool) -> bool {
         self.is_plain()
             && self.runs()
@@ -164,7 +164,7 @@ fn a_close_frame_is_told(rt: HostRuntime) {
 
 /// Whether this is what the turn gives that reads these frames.
 fn is_given(alloc: Global, frames: &[u8], gives: Answer) -> bool {
-    match Bench::new(alloc, &[TRUE, frames]) {
+    match ViewerPool::new(alloc, &[TRUE, frames]) {
         Ok(mut bench) => bench.turns() == gives,
         Err(_) => false,
     }
@@ -200,7 +200,7 @@ fn frames_give_a_worker_their_turns(rt: HostRuntime) {
 
 /// Whether a worker that names the session `s`, and is answered so, logs in as that tells.
 fn is_attached_by(alloc: Global, answer: &[u8], attached: Attached) -> bool {
-    match Bench::named(alloc, Some("s"), &[answer]) {
+    match ViewerPool::named(alloc, Some("s"), &[answer]) {
         Ok(bench) => bench.wrote(AUTH_S) && bench.attached == attached,
         Err(_) => false,
     }

@@ -8,7 +8,7 @@ ghost use Rattle.std.specs.Prelude.{◌≡◌};
 use super::{build_of, roster_of, starts_none};
 use bm_board::{BoardRefusal, Build, Mode};
 use bm_lane::{Blank, Viewer, Yard, open};
-use bm_roster::{Commission, Roster};
+use bm_build_queue::{Assignment, BuildQueue};
 use bm_session::Results;
 use std::alloc::{AllocGlobal, Global};
 use std::marker::Brand;
@@ -26,7 +26,7 @@ struct Look {
     is_over: bool,
 }
 
-fn look_at<Y: Yard>(roster: &Roster<Y>) -> Look {
+fn look_at<Y: Yard>(roster: &BuildQueue<Y>) -> Look {
     Look {
         builds: roster.builds(),
         is_wanted: roster.is_wanted(0),
@@ -43,7 +43,7 @@ fn build_again(alloc: Global) -> Option<Build> {
 }
 
 /// Whether the build is added under that number, by a second call where memory was wanting.
-fn takes_again<Y: Yard>(alloc: Global, roster: &mut Roster<Y>, build: &Build, number: u64) -> bool {
+fn takes_again<Y: Yard>(alloc: Global, roster: &mut BuildQueue<Y>, build: &Build, number: u64) -> bool {
     let before = look_at(roster);
     match roster.add(alloc, build) {
         Err(BoardRefusal::Mem) => {
@@ -53,7 +53,7 @@ fn takes_again<Y: Yard>(alloc: Global, roster: &mut Roster<Y>, build: &Build, nu
     }
 }
 
-fn is_added_again<Y: Yard>(alloc: Global, roster: &mut Roster<Y>, number: u64) -> bool {
+fn is_added_again<Y: Yard>(alloc: Global, roster: &mut BuildQueue<Y>, number: u64) -> bool {
     match build_again(alloc) {
         Some(build) => takes_again(alloc, roster, &build, number),
         None => false,
@@ -61,7 +61,7 @@ fn is_added_again<Y: Yard>(alloc: Global, roster: &mut Roster<Y>, number: u64) -
 }
 
 /// The next build, by a second call where memory was wanting for the start of each.
-fn next_again<Y: Yard>(roster: &mut Roster<Y>) -> Option<Commission<Y>> {
+fn next_again<Y: Yard>(roster: &mut BuildQueue<Y>) -> Option<Assignment<Y>> {
     let before = look_at(roster);
     match roster.next() {
         None if roster.is_short() && look_at(roster) == before => roster.next(),
@@ -71,8 +71,8 @@ fn next_again<Y: Yard>(roster: &mut Roster<Y>) -> Option<Commission<Y>> {
 
 /// Whether the build is the one of this number, and ends.
 fn is_ended<Y: Yard>(
-    roster: &mut Roster<Y>,
-    build: Commission<Y>,
+    roster: &mut BuildQueue<Y>,
+    build: Assignment<Y>,
     number: u64,
     reported: Results,
 ) -> bool {
@@ -82,7 +82,7 @@ fn is_ended<Y: Yard>(
 
 /// Whether the other build is started beside the first, no build is left, and both end with their
 /// results.
-fn are_ended<Y: Yard>(roster: &mut Roster<Y>, first: Commission<Y>, one: u64, other: u64) -> bool {
+fn are_ended<Y: Yard>(roster: &mut BuildQueue<Y>, first: Assignment<Y>, one: u64, other: u64) -> bool {
     let Some(second) = next_again(roster) else {
         return false;
     };
@@ -99,7 +99,7 @@ fn are_ended<Y: Yard>(roster: &mut Roster<Y>, first: Commission<Y>, one: u64, ot
 
 /// Whether two builds that wait are both started, and end. Where memory is wanting for the first,
 /// the second goes on, and the first is started by the next call.
-fn are_started_again<Y: Yard>(roster: &mut Roster<Y>) -> bool {
+fn are_started_again<Y: Yard>(roster: &mut BuildQueue<Y>) -> bool {
     let Some(first) = next_again(roster) else {
         return false;
     };

@@ -11,7 +11,7 @@ use super::super::{
     COMPLETE_THREE, DONE, NEW, ORDER, REQUESTS, RESUMED, Script, TRUE, UPDATE, UPDATE_ONE, joined,
     pieces_from, push_all, script_of,
 };
-use super::{Bench, Zeros};
+use super::{ViewerPool, Zeros};
 use bm_lines::Letter;
 use bm_link::*;
 use bm_value::Bytes;
@@ -115,7 +115,7 @@ static LOGINS: [Login; 2] = [
     },
 ];
 
-impl Bench {
+impl ViewerPool {
     fn sends(&mut self, sent: &Sent) -> Answer {
         match self.link.send(self.alloc, sent) {
             Ok(()) => Answer::Done,
@@ -332,7 +332,7 @@ fn said_from(alloc: Global, first: usize) -> Result<Vec<u8>, AllocError> {
 }
 
 fn seen_over(alloc: Global, login: &Login, end: End, stream: Script) -> Watch {
-    match Bench::over(alloc, login.session, stream) {
+    match ViewerPool::over(alloc, login.session, stream) {
         Ok(mut bench) => bench.watched(login, end),
         Err(fault) => {
             let mut watch = Watch::of(end);

@@ -1,0 +1,337 @@
+//! The roster itself.
+ghost use Rattle.std.specs.Prelude.{◌≡◌, ◌⊎◌, ◌<◌, ◌≤◌, ℕ, All, IfOk, OnOk, OnErr, IfErr, IfSome, IfNone, IsSome, length, true, false, Ok, Some, None, position};
+ghost use Rattle.bm_build_queue.specs.BuildQueue.{AreResults, CanStart, IsOver, IsStarted, LacksResult, after_end, after_cancel, after_giving_up, can_start, has_build, has_viewer, is_wanted, on_board, with_board};
+ghost use Rattle.bm_build_queue.specs.ViewerPools.{IsGiven, IsTaken};
+ghost use Rattle.bm_build_queue.specs.Cancels.{met_by};
+ghost use Rattle.bm_board.specs.ScheduledBuild.{answer_of, cancel, waits_for};
+ghost use Rattle.bm_board.specs.Board.{add_refusal, on_build, opening, result_on, with_build, with_ready};
+
+use crate::assignment::Assignment;
+use crate::counted::CountedBoard;
+use crate::viewer_pool::ViewerPool;
+use bm_board::{BoardRefusal, Build, StepPlan, StepPlans, Words};
+use bm_lane::{Viewer, Yard};
+use bm_lines::Text;
+use bm_session::Results;
+use std::alloc::{AllocError, Global};
+use std::marker::Model;
+
+/// What a cancel met.
+#[derive(Clone, Copy, PartialEq, Eq)]
+pub enum Cancelled {
+    /// The build waited, and has ended CANCELLED.
+    Waiting,
+    /// The build runs: its runner is to be told, and it will count as CANCELLED.
+    Running,
+    /// There is no such build, or it had ended: nothing changed.
+    Nothing,
+}
+
+/// The builds by number, the workers and the locks, and the viewers that no build has. Contracts
+/// see its board, its benches, and whether memory was wanting.
+///
+/// On the board a build is one step, that of its runner, whose outcome is what the runner reports.
+#[derive(Drop)]
+pub struct BuildQueue<Y: Yard> {
+    board: CountedBoard,
+    benches: Vec<ViewerPool<Y>>,
+    is_short: bool,
+}
+
+impl<Y: Yard> Model for BuildQueue<Y> {
+    ghost use Rattle.bm_build_queue.specs.BuildQueue.{Rostered};
+
+    ghost Value = { Rostered };
+
+    ghost view = { λ r. record {
+      board = r.board;
+      benches = r.benches.items;
+      is_short = r.is_short;
+    } };
+}
+
+// What a build is on the board: its worker, its locks, and one step.
+fn as_one_step(alloc: Global, build: &Build) -> Result<Build, AllocError>
+    ensures { IfOk result (λ b. b ≡ on_board build.now) }
+{
+    let step = StepPlan {
+        name: Text::from_str(alloc, "")?,
+        argv: Words::new(alloc),
+        halt_on_failure: false,
+        flunk_on_failure: true,
+        always_run: false,
+        max_bytes: 0,
+        timeout_ticks: 0,
+    };
+    let mut steps = Vec::with_capacity(alloc, 1)?;
+    steps.push_reserved(step);
+    Ok(Build {
+        worker: build.worker,
+        locks: build.locks.copy()?,
+        steps: StepPlans::from_vec(steps),
+    })
+}
+
+impl<Y: Yard> BuildQueue<Y> {
+    /// A roster without builds. Worker w has the slots and the bench at place w, and isn't ready.
+    pub fn new(
+        alloc: Global,
+        slots: &[u8],
+        lock_max: &[u32],
+        benches: Vec<ViewerPool<Y>>,
+    ) -> Result<BuildQueue<Y>, AllocError>
+        requires slots { All (λ n. (1 ≤ n) × (n ≤ 4)) slots.now }
+        requires maxima { All (λ n. 1 ≤ n) lock_max.now }
+        ensures { IfOk result (λ r. r ≡ record {
+          board = opening slots.now lock_max.now;
+          benches = benches.items;
+          is_short = false;
+        }) }
+    {
+        Ok(BuildQueue {
+            board: CountedBoard::new(alloc, slots, lock_max)?,
+            benches,
+            is_short: false,
+        })
+    }
+
+    /// Adds a build, which waits. Its number is how many were added before.
+    /// Errors: those of the board. Nothing has changed then.
+    pub fn add(&mut self, alloc: Global, build: &Build) -> Result<u64, BoardRefusal>
+        ensures number { IfOk result (λ n. n ≡ length self.old.board.jobs) }
+        ensures added { OnOk result (self.new
+            ≡ with_board self.old (with_build self.old.board (on_board build.now))) }
+        ensures refused { IfErr result
+            (λ r. (add_refusal self.old.board (on_board build.now) ≡ Some r)
+            ⊎ (r ≡ BoardRefusal.Mem)) }
+        ensures unchanged { OnErr result (self.new ≡ self.old) }
+    {
+        match as_one_step(alloc, build) {
+            Ok(one) => self.board.add(one),
+            Err(_) => Err(BoardRefusal::Mem),
+        }
+    }
+
+    /// How many builds there are.
+    pub fn builds(&self) -> u64
+        ensures { result ≡ length self.now.board.jobs }
+    {
+        self.board.builds()
+    }
+
+    /// How many workers there are.
+    pub fn workers(&self) -> usize
+        ensures { result ≡ length self.now.board.workers }
+    {
+        self.board.workers()
+    }
+
+    /// Says whether the worker takes builds. A worker that isn't there is passed over.
+    pub fn set_ready(&mut self, worker: usize, ready: bool)
+        ensures there { worker < length self.old.board.workers
+            → self.new ≡ with_board self.old (with_ready self.old.board worker ready) }
+        ensures nowhere { length self.old.board.workers ≤ worker → self.new ≡ self.old }
+    {
+        if worker < self.board.workers() {
+            self.board.set_ready(worker, ready);
+        }
+    }
+
+    /// Whether a build waits for the worker.
+    pub fn is_wanted(&self, worker: usize) -> bool
+        ensures { result ≡ is_wanted self.now.board worker }
+    {
+        self.board.is_wanted(worker)
+    }
+
+    /// Whether a build of the worker runs: it was started, and hasn't come back by `end`.
+    pub fn has_build(&self, worker: usize) -> bool
+        ensures { result ≡ has_build self.now.board worker }
+    {
+        self.board.has_build(worker)
+    }
+
+    // Whether a viewer of the worker's lane is left.
+    fn has_viewer(&self, worker: usize) -> bool
+        ensures { result ≡ has_viewer self.now.benches worker }
+    {
+        match self.benches.get(worker) {
+            Some(bench) => bench.lane() == worker as u64 && bench.has_viewer(),
+            None => false,
+        }
+    }
+
+    // A viewer of the worker's lane.
+    fn take_viewer(&mut self, worker: usize) -> Option<Viewer<Y>>
+        ensures own { IfSome result (λ v. v.lane ≡ worker) }
+        ensures found { has_viewer self.old.benches worker ≡ true → IsSome result }
+        ensures taken { IfSome result (λ v. IsTaken self.old.benches self.new.benches worker v) }
+        ensures board { self.new.board ≡ self.old.board }
+        ensures short { self.new.is_short ≡ self.old.is_short }
+        ensures unchanged { IfNone result (self.new ≡ self.old) }
+    {
+        let bench = self.benches.get_mut(worker)?;
+        if bench.lane() != worker as u64 {
+            return None;
+        }
+        bench.take()
+    }
+
+    // Starts a build that can be started. None where it can't be, or memory is wanting, which is
+    // kept: nothing has changed then but for that.
+    fn start(&mut self, number: u64) -> Option<Assignment<Y>>
+        ensures started { IfSome result (λ c. (c.number ≡ number)
+            × IsStarted self.old.board self.new.board number c.worker) }
+        ensures viewer { IfSome result
+            (λ c. IsTaken self.old.benches self.new.benches c.worker c.viewer) }
+        ensures unchanged { IfNone result ((self.new.board ≡ self.old.board)
+            × (self.new.benches ≡ self.old.benches)) }
+        ensures left { IfNone result (can_start self.old number ≡ true → self.new.is_short ≡ true) }
+        ensures still { self.old.is_short ≡ true → self.new.is_short ≡ true }
+        ensures short { self.new.is_short ≡ true
+            → (self.old.is_short ≡ true) ⊎ CanStart self.old.board }
+    {
+        if !self.has_viewer(self.board.worker_of(number)) {
+            return None;
+        }
+        let worker = match self.board.start(number) {
+            Ok(worker) => worker,
+            Err(BoardRefusal::Mem) => {
+                self.is_short = true;
+                return None;
+            }
+            Err(_) => return None,
+        };
+        match self.take_viewer(worker) {
+            Some(viewer) => Some(Assignment {
+                number,
+                worker,
+                viewer,
+            }),
+            None => unreachable!(),
+        }
+    }
+
+    /// Starts the first of the builds that can be started now: one that waits, whose worker is
+    /// ready and has a free slot and a viewer left, and whose locks may be had. It is to run, and
+    /// to come back by `end`. None where there is none, or memory is wanting for each of them.
+    pub fn next(&mut self) -> Option<Assignment<Y>>
+        ensures started { IfSome result
+            (λ c. IsStarted self.old.board self.new.board c.number c.worker) }
+        ensures viewer { IfSome result
+            (λ c. IsTaken self.old.benches self.new.benches c.worker c.viewer) }
+        ensures first { IfSome result (λ c. (k : ℕ) → k < c.number → can_start self.old k ≡ true
+            → self.new.is_short ≡ true) }
+        ensures none { IfNone result ((k : ℕ) → can_start self.old k ≡ true
+            → self.new.is_short ≡ true) }
+        ensures board { IfNone result (self.new.board ≡ self.old.board) }
+        ensures benches { IfNone result (self.new.benches ≡ self.old.benches) }
+        ensures short { self.new.is_short ≡ true → CanStart self.old.board }
+    {
+        self.is_short = false;
+        for number in 0..self.board.builds() {
+            if let Some(commission) = self.start(number) {
+                return Some(commission);
+            }
+        }
+        None
+    }
+
+    /// Whether memory was wanting for the start of a build, so that it is to be tried again.
+    pub fn is_short(&self) -> bool
+        ensures { result ≡ self.now.is_short }
+    {
+        self.is_short
+    }
+
+    /// A build that was started comes back with what its runner reports, which is kept as its
+    /// result; or CANCELLED, where it was cancelled meanwhile. It gives its slot and its locks
+    /// back, and its viewer goes back to the bench of its lane. The answer is whether it had a
+    /// place there.
+    pub fn end(&mut self, number: u64, reported: Results, viewer: Viewer<Y>) -> bool
+        ensures board { self.new.board ≡ after_end self.old.board number reported }
+        ensures given { result ≡ true
+            → IsGiven self.old.benches self.new.benches viewer.lane viewer }
+        ensures lost { result ≡ false → self.new.benches ≡ self.old.benches }
+        ensures memory { self.new.is_short ≡ self.old.is_short }
+    {
+        self.board.finish(number, reported);
+        match self.benches.get_mut(viewer.lane() as usize) {
+            Some(bench) => bench.give(viewer).is_ok(),
+            None => false,
+        }
+    }
+
+    /// Cancels a build.
+    pub fn cancel(&mut self, number: u64) -> Cancelled
+        ensures answer { result ≡ met_by (answer_of (on_build cancel self.old.board number)) }
+        ensures board { self.new ≡ with_board self.old (after_cancel self.old.board number) }
+    {
+        match self.board.cancel(number) {
+            Ok(true) => Cancelled::Running,
+            Ok(false) => Cancelled::Waiting,
+            Err(_) => Cancelled::Nothing,
+        }
+    }
+
+    /// The first build that waits for the worker is given up: it ends RETRY. The answer is its
+    /// number, None where no build waits for the worker.
+    pub fn give_up_one(&mut self, worker: usize) -> Option<u64>
+        ensures first { result ≡ position (waits_for worker) self.old.board.jobs }
+        ensures given_up { IfSome result (λ n. self.new
+            ≡ with_board self.old (after_giving_up self.old.board n)) }
+        ensures unchanged { IfNone result (self.new ≡ self.old) }
+    {
+        let number = self.board.first_waiting(worker)? as u64;
+        let _ = self.board.give_up(number);
+        Some(number)
+    }
+
+    /// The result of a build, None before its end.
+    pub fn result(&self, number: u64) -> Option<Results>
+        ensures found { IfSome result (λ r. result_on self.now.board number ≡ Ok (Some r)) }
+        ensures none { IfNone result (LacksResult self.now.board number) }
+    {
+        match self.board.result(number) {
+            Ok(result) => result,
+            Err(_) => None,
+        }
+    }
+
+    /// How each build ended, by its number. None where one has not, or memory is wanting.
+    pub fn results(&self, alloc: Global) -> Option<Vec<Results>>
+        ensures { IfSome result (λ all. AreResults self.now.board all.items) }
+    {
+        let mut all = Vec::new(alloc);
+        for number in 0..self.board.builds() {
+            let result = self.result(number)?;
+            if all.push(result).is_err() {
+                return None;
+            }
+        }
+        Some(all)
+    }
+
+    /// Whether every build has its result.
+    pub fn is_over(&self) -> bool
+        ensures over { result ≡ true → IsOver self.now.board }
+        ensures not_over { result ≡ false
+            → (number : ℕ) × (result_on self.now.board number ≡ Ok None) }
+    {
+        for number in 0..self.board.builds() {
+            match self.board.result(number) {
+                Ok(Some(_)) => {}
+                Ok(None) => return false,
+                Err(_) => return true,
+            }
+        }
+        true
+    }
+
+    /// The benches, by their workers' places, once no build runs.
+    pub fn into_benches(self) -> Vec<ViewerPool<Y>>
+        ensures { result.items ≡ self.benches }
+    {
+        self.benches
+    }
+}

@@ -1,0 +1,16 @@
+//! Which builds of a build master run, on which workers, and what comes of them. Nothing here knows
+//! threads, sockets or processes.
+//!
+//! A build is started only on a worker that is ready and has a free slot, and gets a viewer of that
+//! worker's lane. Its result is kept once, under its number.
+#![tactic(auto)]
+
+mod assignment;
+mod build_queue;
+mod counted;
+pub mod laws;
+mod viewer_pool;
+
+pub use assignment::Assignment;
+pub use build_queue::{BuildQueue, Cancelled};
+pub use viewer_pool::ViewerPool;

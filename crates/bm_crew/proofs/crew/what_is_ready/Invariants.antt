@@ -1,7 +1,0 @@
-use Rattle.std.proofs.Common.{◌≡◌, take, map}
-use Rattle.bm_crew.specs.Turns.{ready_of}
-use Rattle.bm_crew.proofs.crew.what_is_ready.Given as goal
-
--- what the jobs so far have to tell
-abbrev pub invariant-loop-job : goal.invariant-loop-job
-invariant-loop-job l = l.commands.items ≡ map (ready_of l.fn.may_say) (take l.job-index l.jobs)

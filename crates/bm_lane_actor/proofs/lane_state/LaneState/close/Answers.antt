@@ -1,0 +1,13 @@
+use Rattle.std.proofs.Common.{refl, Some}
+use Rattle.bm_lane_actor.proofs.Serving.{closed}
+use Rattle.bm_lane_actor.proofs.lane_state.LaneState.close.Goals as goal
+
+pub returns : goal.returns
+returns g c =
+    rw (← c.self.view_is) (
+    closed g.S.Write.contents
+    (record { lane = c.self.inside.reader; carry = c.self.inside.carry; link = c.self.inside.link; tenure = c.self.inside.tenure })
+    (record { lane = c.self.inside.reader; carry = c.self.inside.carry; link = Some c.close.new.self; tenure = c.self.inside.tenure })
+    c.in-Some.link c.close.new.self c.close.result
+    c.in-Some.is c.close.ensures.closed refl
+    )

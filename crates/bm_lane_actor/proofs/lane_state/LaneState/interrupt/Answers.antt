@@ -1,0 +1,23 @@
+use Rattle.std.proofs.Common.{rules}
+use Rattle.bm_lane_actor.proofs.Serving.{interrupted}
+use Rattle.bm_lane_actor.proofs.lane_state.LaneState.interrupt.Goals as goal
+use Rattle.bm_lane_actor.proofs.Carrying.{interrupted as carries_interrupted}
+
+pub invariant_of-self-2 : goal.invariant_of-self-2
+invariant_of-self-2 g c = (
+  search rules,
+  search rules,
+  carries_interrupted g.S.Write.contents c.args.command c.in-Some.link.stage c.in-Some.link c.interrupt-answer.new.self
+      c.self.inside.reader c.interrupt-answer.new.reader c.self.inside.carry c.interrupt-answer.new.carry c.interrupt-answer.result
+      c.self.invariant.2 c.interrupt-answer.ensures.interrupted,
+)
+
+pub returns : goal.returns
+returns g c =
+    rw (← c.self.view_is) (
+    interrupted g.S.Write.contents c.args.command
+    (record { lane = c.self.inside.reader; carry = c.self.inside.carry; link = c.self.inside.link; tenure = c.self.inside.tenure })
+    (record { lane = c.interrupt-answer.new.reader; carry = c.interrupt-answer.new.carry; link = c.settle.new.link; tenure = c.settle.new.tenure })
+    c.in-Some.link c.interrupt-answer.new.self c.interrupt-answer.result c.told_interrupt.result
+    c.in-Some.is c.interrupt-answer.ensures.interrupted c.settle.ensures.link c.settle.ensures.tenure (search rules)
+    )

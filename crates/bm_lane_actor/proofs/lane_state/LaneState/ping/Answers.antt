@@ -1,0 +1,13 @@
+use Rattle.std.proofs.Common.{refl, Some}
+use Rattle.bm_lane_actor.proofs.Serving.{pinged}
+use Rattle.bm_lane_actor.proofs.lane_state.LaneState.ping.Goals as goal
+
+pub returns : goal.returns
+returns g c =
+    rw (← c.self.view_is) (
+    pinged g.S.Write.contents
+    (record { lane = c.self.inside.reader; carry = c.self.inside.carry; link = c.self.inside.link; tenure = c.self.inside.tenure })
+    (record { lane = c.self.inside.reader; carry = c.self.inside.carry; link = Some c.ping.new.self; tenure = c.self.inside.tenure })
+    c.in-Some.link c.ping.new.self c.ping.result
+    c.in-Some.is c.ping.ensures.pinged refl
+    )

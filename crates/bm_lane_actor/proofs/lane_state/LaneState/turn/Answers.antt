@@ -1,0 +1,24 @@
+use Rattle.std.proofs.Common.{◌∙◌, sym, ap, rules}
+use Rattle.bm_lane_actor.proofs.Serving.{turned}
+use Rattle.bm_lane_actor.proofs.lane_state.LaneState.turn.Goals as goal
+use Rattle.std.specs.Prelude.{is_some}
+use Rattle.bm_lane_actor.proofs.Carrying.{turned as carries_turned}
+
+pub invariant_of-self-2 : goal.invariant_of-self-2
+invariant_of-self-2 g c = (
+  search rules,
+  search rules,
+  carries_turned g.S.Read.remaining g.S.Write.contents c.in-Some.link.stage c.in-Some.link c.turn-answer.new.self
+      c.self.inside.reader c.turn-answer.new.reader c.self.inside.carry c.turn-answer.new.carry c.turn-answer.result
+      (sym c.self.invariant.0 ∙ ap is_some c.in-Some.is) c.settle.ensures.taken c.self.invariant.2 c.turn-answer.ensures.turned,
+)
+
+pub returns : goal.returns
+returns g c =
+    rw (← c.self.view_is) (
+    turned g.S.Read.remaining g.S.Write.contents
+    (record { lane = c.self.inside.reader; carry = c.self.inside.carry; link = c.self.inside.link; tenure = c.self.inside.tenure })
+    (record { lane = c.turn-answer.new.reader; carry = c.turn-answer.new.carry; link = c.settle.new.link; tenure = c.settle.new.tenure })
+    c.in-Some.link c.turn-answer.new.self c.turn-answer.result
+    c.in-Some.is c.turn-answer.ensures.turned c.settle.ensures.link c.settle.ensures.tenure
+    )

@@ -1,0 +1,400 @@
+//! A lane's reader's end with the link by which it is up.
+
+ghost use Rattle.std.specs.Prelude.{◌≡◌, [], nat_lt, is_some, true, None, if◌then◌else◌};
+ghost use Rattle.bm_session.specs.Trace.{is_up, was_taken};
+ghost use Rattle.bm_link.specs.Carries.{new_carried};
+ghost use Rattle.bm_link.specs.Laws.{CarriesPending};
+ghost use Rattle.bm_link.specs.Texts.{AreShort};
+ghost use Rattle.bm_operator.specs.Standing.{keeps_link};
+ghost use Rattle.bm_operator.specs.ResumeTimer.{kept as kept_term, dismissed};
+ghost use Rattle.bm_lane_actor.specs.LaneStates.{counting, kept, renewed, rest_of, term_in, Attaches, Closes, Expires, GivesUp, Interrupts, Pings, ShutsDown, Starts, TakesUp, Ticks, Turns, with_term};
+ghost use Rattle.bm_lane_actor.specs.LaneEvents.{standing_of};
+
+use crate::lane_event::standing_of;
+use crate::mailbox::Told;
+use crate::told::{told_interrupt, told_start, told_unlinked};
+use bm_lane::{HearRefusal, ReaderEnd, Yard};
+use bm_lines::Text;
+use bm_link::{Ask, Attached, LinkFault, MasterLink, ResumeState, Turn};
+use bm_operator::{ResumeTimer, Standing};
+use bm_session::Event;
+use bumpalo::Bump;
+use std::alloc::Global;
+use std::io::{Read, Write};
+use std::marker::Model;
+use std::sync::Wait;
+
+/// A lane's reader's end, what the lane carries from one link to the next, the link by which it is
+/// up, if it is, and how long a cut one waits for its worker. The lane is up just as long as it has
+/// a link, and ticks are counted just while it is cut. What it carries are the orders of its lane
+/// that have no answer, in order, by their numbers.
+#[derive(Drop)]
+pub struct LaneState<Y: Yard, S> {
+    reader: ReaderEnd<Y>,
+    carry: ResumeState,
+    link: Option<MasterLink<S>>,
+    tenure: ResumeTimer,
+}
+
+impl<Y: Yard, S> Model for LaneState<Y, S> {
+    ghost use Rattle.std.specs.Prelude.{◌≡◌, is_some};
+    ghost use Rattle.bm_session.specs.Trace.{is_up};
+    ghost use Rattle.bm_link.specs.Laws.{CarriesPending};
+    ghost use Rattle.bm_lane_actor.specs.LaneStates.{Seat};
+    ghost use Rattle.bm_lane_actor.specs.LaneEvents.{is_awaited, standing_of};
+
+    ghost Value = { Seat S };
+
+    ghost view = { λ d. record {
+      lane = d.reader;
+      carry = d.carry;
+      link = d.link;
+      tenure = d.tenure;
+    } };
+
+    ghost invariant = { λ d. (is_some d.link ≡ is_up d.reader.trace)
+        × (is_some d.tenure.cut ≡ is_awaited (standing_of d.reader.trace))
+        × CarriesPending d.carry d.reader.trace };
+}
+
+/// What a clerk waits for.
+#[derive(Clone, Copy, PartialEq, Eq)]
+pub(crate) enum Rest {
+    /// An order: the lane is down.
+    LaneRequest,
+    /// An order, but for a look at the link now and then: the worker has nothing to say.
+    Glance,
+    /// A message of the worker.
+    Message,
+    /// The next tick: the lane is cut.
+    Tick,
+}
+
+/// After the lane had events: a link is kept while the lane is up, and ticks are counted while it
+/// is cut.
+fn settle<Y: Yard, S: Drop>(
+    reader: &ReaderEnd<Y>,
+    link: &mut Option<MasterLink<S>>,
+    tenure: &mut ResumeTimer,
+)
+    ensures link { link.new ≡ kept reader.now link.old }
+    ensures tenure { tenure.new ≡ counting reader.now tenure.old }
+    ensures taken { was_taken reader.now.trace ≡ true }
+{
+    let _events = reader.trace();
+    let standing = standing_of(reader);
+    keep(link, standing);
+    count(tenure, standing);
+}
+
+/// Lets the link of a lane go that keeps none.
+fn keep<S: Drop>(link: &mut Option<MasterLink<S>>, standing: Standing)
+    ensures { link.new ≡ (if keeps_link standing then link.old else None) }
+{
+    if !standing.keeps_link() {
+        *link = None;
+    }
+}
+
+/// Counts ticks while the lane is cut.
+fn count(tenure: &mut ResumeTimer, standing: Standing)
+    ensures { tenure.new ≡ term_in standing tenure.old }
+{
+    match standing {
+        Standing::Up => {}
+        Standing::Cut => tenure.cut(),
+        Standing::Down => tenure.end(),
+    }
+}
+
+fn put<S: Drop>(place: &mut Option<MasterLink<S>>, link: Option<MasterLink<S>>)
+    ensures { place.new ≡ link }
+{
+    *place = link;
+}
+
+/// After a login at a lane that had so many events: the count begins anew where it had more of
+/// them.
+fn renew<Y: Yard>(reader: &ReaderEnd<Y>, events: usize, tenure: &mut ResumeTimer)
+    ensures { tenure.new ≡ renewed events reader.now tenure.old }
+{
+    if reader.is_up() || events != reader.trace().len() {
+        tenure.begin();
+    }
+}
+
+/// A link that has logged in takes a lane up that has none, and stays its link while the lane is
+/// up.
+fn take_up<Y: Yard, S: Read + Write + Drop, R: Wait>(
+    rt: &R,
+    alloc: Global,
+    reader: &mut ReaderEnd<Y>,
+    carry: &mut ResumeState,
+    tenure: &mut ResumeTimer,
+    link: MasterLink<S>,
+) -> (Result<Attached, LinkFault>, Option<MasterLink<S>>)
+    ensures { TakesUp S.contents link reader.old carry.old tenure.old result.0 result.1 reader.new
+        carry.new tenure.new }
+{
+    let mut link = link;
+    let events = reader.trace().len();
+    let answer = link.attach(rt, alloc, reader, carry);
+    renew(reader, events, tenure);
+    let mut link = Some(link);
+    settle(reader, &mut link, tenure);
+    (answer, link)
+}
+
+/// A link that has logged in comes to a lane that is up: it is told so, and answers its fault.
+#[tactic(auto, using(crate::proofs::Declining::declined))]
+fn decline<Y: Yard, S: Read + Write + Drop, R: Wait>(
+    rt: &R,
+    alloc: Global,
+    reader: &mut ReaderEnd<Y>,
+    carry: &mut ResumeState,
+    link: MasterLink<S>,
+) -> LinkFault
+    requires { is_up reader.old.trace ≡ true }
+    ensures lane { reader.new ≡ reader.old }
+    ensures carry { carry.new ≡ carry.old }
+{
+    let mut link = link;
+    let answer = link.attach(rt, alloc, reader, carry);
+    let _events = reader.trace();
+    match answer {
+        Err(fault) => fault,
+        Ok(_) => unreachable!(),
+    }
+}
+
+impl<Y: Yard, S> LaneState<Y, S> {
+    /// The desk of a lane that had no event. Its worker may take `resume_ticks` ticks to resume a
+    /// session after a cut; where these are 0, no session is ever resumed. It takes no memory.
+    #[tactic(auto, using(crate::proofs::Carrying::fresh))]
+    pub fn new(alloc: Global, reader: ReaderEnd<Y>, resume_ticks: u32) -> LaneState<Y, S>
+        requires { reader.trace ≡ [] }
+        ensures lane { result.lane ≡ reader }
+        ensures carry { result.carry ≡ new_carried (nat_lt 0 resume_ticks) }
+        ensures link { result.link ≡ None }
+        ensures tenure { result.tenure ≡ kept_term resume_ticks }
+    {
+        LaneState {
+            reader,
+            carry: ResumeState::new(alloc, resume_ticks > 0),
+            link: None,
+            tenure: ResumeTimer::new(resume_ticks),
+        }
+    }
+
+    /// How the lane stands.
+    pub(crate) fn standing(&self) -> Standing
+        ensures { result ≡ standing_of self.now.lane.trace }
+    {
+        standing_of(&self.reader)
+    }
+
+    /// The last event of the lane, if it had one.
+    pub(crate) fn last_event(&self) -> Option<&Event> {
+        self.reader.trace().last()
+    }
+
+    /// What is waited for. `is_lively`: the worker has something to say.
+    pub(crate) fn rest(&self, is_lively: bool) -> Rest
+        ensures { result ≡ rest_of is_lively (standing_of self.now.lane.trace) }
+    {
+        match self.standing() {
+            Standing::Up if is_lively => Rest::Message,
+            Standing::Up => Rest::Glance,
+            Standing::Cut => Rest::Tick,
+            Standing::Down => Rest::LaneRequest,
+        }
+    }
+
+    /// What holds of every desk: what it carries are the orders of its lane that have no answer, in
+    /// order, by their numbers, so that a link which resumes the session sends just those again. It
+    /// does nothing when it runs.
+    pub fn carries_what_is_pending(&self)
+        ensures { CarriesPending self.now.carry self.now.lane.trace }
+    {
+        let _ = &self.carry;
+    }
+
+    /// The number of the lane.
+    pub fn lane(&self) -> u64
+        ensures { result ≡ self.now.lane.lane }
+    {
+        self.reader.lane()
+    }
+
+    /// The lane's end.
+    pub fn into_reader(self) -> ReaderEnd<Y>
+    where
+        S: Drop,
+        ensures { result ≡ self.lane }
+    {
+        self.reader
+    }
+}
+
+impl<Y: Yard, S: Read + Write + Drop> LaneState<Y, S> {
+    /// The stream of its link, if it has one.
+    pub(crate) fn stream(&self) -> Option<&S>
+        ensures { is_some result ≡ is_some self.now.link }
+    {
+        match &self.link {
+            Some(link) => Some(link.get_ref()),
+            None => None,
+        }
+    }
+
+    /// A link that has logged in takes the lane up. Where the lane is up, it is declined, and the
+    /// first link goes on unharmed.
+    ///
+    /// # Errors
+    ///
+    /// Those of the link's `attach`. The link is let go, unless the lane then stays up by it until
+    /// its end can be taken.
+    pub fn attach<R: Wait>(
+        &mut self,
+        rt: &R,
+        alloc: Global,
+        link: MasterLink<S>,
+    ) -> Result<Attached, LinkFault>
+        ensures { Attaches S.contents link self.old.link self.old result self.new }
+    {
+        if self.link.is_some() {
+            return Err(decline(rt, alloc, &mut self.reader, &mut self.carry, link));
+        }
+        let (answer, link) = take_up(
+            rt,
+            alloc,
+            &mut self.reader,
+            &mut self.carry,
+            &mut self.tenure,
+            link,
+        );
+        put(&mut self.link, link);
+        answer
+    }
+
+    /// One message of the worker in, its answer out. Without a link nothing is done.
+    ///
+    /// # Errors
+    ///
+    /// Those of the link's `turn`. The lane is then cut, given up, or still up until the queue has
+    /// room for its end, which the next turn tries.
+    pub fn turn<R: Wait>(
+        &mut self,
+        rt: &R,
+        alloc: Global,
+        arena: &mut Bump,
+    ) -> Result<Turn, LinkFault>
+        ensures { Turns S.remaining S.contents self.old.link self.old result self.new }
+    {
+        let Some(link) = &mut self.link else {
+            return Ok(Turn::Quiet);
+        };
+        let answer = link.turn(rt, alloc, arena, &mut self.reader, &mut self.carry);
+        settle(&self.reader, &mut self.link, &mut self.tenure);
+        answer
+    }
+
+    /// Starts a command with these words. Nothing is sent on a lane without a link: a cut one is to
+    /// be tried later, and one that was given up refuses.
+    pub fn start<R: Wait>(&mut self, rt: &R, alloc: Global, argv: &[Text]) -> Told
+        requires { AreShort argv.now }
+        ensures { Starts S.contents argv.now self.old.link self.old result self.new }
+    {
+        let Some(link) = &mut self.link else {
+            return told_unlinked(&self.reader);
+        };
+        let command = self.reader.next_command();
+        let answer = link.start(rt, alloc, &mut self.reader, &mut self.carry, argv);
+        settle(&self.reader, &mut self.link, &mut self.tenure);
+        told_start(answer, command != self.reader.next_command())
+    }
+
+    /// Interrupts a command, as `start` starts one.
+    pub fn interrupt<R: Wait>(&mut self, rt: &R, alloc: Global, command: u64) -> Told
+        ensures { Interrupts S.contents command self.old.link self.old result self.new }
+    {
+        let Some(link) = &mut self.link else {
+            return told_unlinked(&self.reader);
+        };
+        let order = self.reader.next_order();
+        let answer = link.interrupt(rt, alloc, &mut self.reader, &mut self.carry, command);
+        settle(&self.reader, &mut self.link, &mut self.tenure);
+        told_interrupt(answer, order != self.reader.next_order())
+    }
+
+    /// Asks the worker to shut down, where the lane has a link. From now on a cut lane is given up
+    /// at once. A fault of the link is told by its next turn.
+    #[tactic(auto, using(crate::proofs::Carrying::asked))]
+    pub fn shut_down(&mut self, alloc: Global)
+        ensures { ShutsDown S.contents self.old.link self.old self.new }
+    {
+        self.tenure.dismiss();
+        if let Some(link) = &mut self.link {
+            let _ = link.ask(alloc, &mut self.carry, Ask::Shutdown);
+        }
+    }
+
+    /// Asks the worker for a sign of life, where the lane has a link. A fault of the link is told by
+    /// its next turn.
+    pub fn ping(&mut self)
+        ensures { Pings S.contents self.old.link self.old self.new }
+    {
+        let Some(link) = &mut self.link else {
+            return;
+        };
+        let _ = link.ping(&self.carry);
+    }
+
+    /// Tells the worker by a close frame that its connection ends, where the lane has a link.
+    /// Nothing is heard any more, and the lane is still to be given up.
+    pub fn close(&mut self)
+        ensures { Closes S.contents self.old.link self.old self.new }
+    {
+        let Some(link) = &mut self.link else {
+            return;
+        };
+        let _ = link.close();
+    }
+
+    /// The worker's process has ended: from now on a cut lane is given up at once.
+    pub fn dismiss(&mut self)
+        ensures { self.new ≡ with_term self.old (dismissed self.old.tenure) }
+    {
+        self.tenure.dismiss();
+    }
+
+    /// Gives the session up, if there is one. False where that has to wait until the lane's queue
+    /// has room: nothing has changed then.
+    pub fn give_up<R: Wait>(&mut self, rt: &R) -> bool
+        ensures { GivesUp self.old result self.new }
+    {
+        if let Err((_, HearRefusal::Busy)) = self.reader.down(rt) {
+            return false;
+        }
+        settle(&self.reader, &mut self.link, &mut self.tenure);
+        true
+    }
+
+    /// Gives a cut lane up, whose worker is awaited no more.
+    pub fn expire<R: Wait>(&mut self, rt: &R)
+        ensures { Expires self.old self.new }
+    {
+        if self.tenure.is_over() {
+            self.give_up(rt);
+        }
+    }
+
+    /// A tick passed. A cut lane is given up once its worker took too long, and one whose session
+    /// goes on never.
+    pub fn tick<R: Wait>(&mut self, rt: &R)
+        ensures { Ticks self.old self.new }
+    {
+        self.tenure.tick();
+        self.expire(rt);
+    }
+}

@@ -1,0 +1,381 @@
+//! A build's port to its worker's lane: it orders through the lane's door, and looks through a
+//! viewer of its own.
+
+ghost use Rattle.std.specs.Prelude.{◌≡◌, ◌≤◌, ◌++◌, false, codes, length, IfSome};
+ghost use Rattle.bm_lane_actor.specs.Ports.{Begins, Looks, is_left_out, is_lost, polled};
+
+use crate::heard::ByteCount;
+use crate::mailbox::{LaneHandle, LaneRequest, Told};
+use bm_board::{StepPlan, Words};
+use bm_lane::{Viewer, Yard};
+use bm_lines::{STDIO, Text};
+use bm_operator::{StartRefusal, StepLimit, StepMeter};
+use bm_runner::{Entries, Polled, Port};
+use bm_session::Results;
+use bm_store::{LogState, ViewRefusal};
+use crossbeam_channel::bounded;
+use std::alloc::Global;
+use std::marker::Model;
+use std::sync::atomic::{AtomicBool, AtomicU64, Ordering};
+use std::sync::{Arc, Wait};
+use std::thread;
+use std::time::{Clock, Duration};
+
+/// How long a tick is, in milliseconds.
+const TICK: u64 = 10;
+
+/// How many bytes a line of headers may have that is told of.
+const MOST_SAID: usize = 256;
+
+/// Who is told of a build's steps as they run.
+pub trait Watch {
+    /// The step was started as this command of its lane.
+    fn started(&mut self, step: &StepPlan, command: u64);
+
+    /// The command has reached a limit of its step, and is interrupted.
+    fn stopped(&mut self, command: u64, limit: StepLimit);
+
+    /// The step was not started. Where its build was cancelled before, that cancel is carried out.
+    fn refused(&mut self, step: &StepPlan, why: StartRefusal);
+
+    /// The command ended so. `said` is what its worker said last of one that ended EXCEPTION, where
+    /// that is a line of headers behind the first, and no long one.
+    fn ended(&mut self, command: u64, outcome: Results, said: Option<Text>);
+}
+
+/// The number of no command: that of a step whose build was cancelled before it was started.
+const NO_COMMAND: u64 = u64::MAX;
+
+/// The port of a build. It asks how its command does once a tick, and waits with a start or an
+/// interruption until the lane is up or was given up. It says that a command ended by a loss once
+/// the lane's clerk has told of that loss. The viewer is one of the lane whose door it has.
+#[derive(Drop)]
+pub struct LanePort<'a, Y: Yard, S, R, W> {
+    rt: &'a R,
+    alloc: Global,
+    door: LaneHandle<S>,
+    viewer: Viewer<Y>,
+    /// Set once the build is cancelled.
+    cancelled: &'a AtomicBool,
+    /// Whether a cancel came before a step that always runs: it waits for the next one that doesn't.
+    is_held: bool,
+    /// The limits of the last step that was started.
+    meter: StepMeter,
+    /// What the updates of its command carried.
+    bytes: Option<ByteCount>,
+    watch: W,
+    entries: Entries,
+    refused: bool,
+}
+
+impl<'a, Y: Yard, S, R, W> Model for LanePort<'a, Y, S, R, W> {
+    ghost use Rattle.std.specs.Prelude.{◌≡◌};
+    ghost use Rattle.bm_lane_actor.specs.Ports.{Ordering};
+
+    ghost Value = { Ordering };
+
+    ghost view = { λ p. record { viewer = p.viewer; told = p.entries.told; refused = p.refused } };
+
+    ghost invariant = { λ p. p.viewer.lane ≡ p.door };
+}
+
+/// What a look at the log of a command says of it. A refused look says that it runs.
+fn polled(state: Result<LogState, ViewRefusal>, is_cancelled: bool) -> Polled
+    ensures { result ≡ polled is_cancelled state }
+{
+    match state {
+        Ok(
+            LogState {
+                ended: Some(outcome),
+                ..
+            },
+        ) => Polled::Ended(outcome),
+        _ if is_cancelled => Polled::Cancel,
+        _ => Polled::Running,
+    }
+}
+
+/// Whether a step isn't started, since its build was cancelled before.
+fn is_left_out(is_cancelled: bool, always_run: bool) -> bool
+    ensures { result ≡ is_left_out is_cancelled always_run }
+{
+    is_cancelled && !always_run
+}
+
+/// What a line of a log says, where it is one of headers, and no longer than is told of it.
+fn header_in(alloc: Global, line: &str) -> Option<Text>
+    ensures { IfSome result (λ said. (line.now ≡ codes "h" ++ (said ++ codes "\n"))
+        × (length said ≤ 256)) }
+{
+    let said = line.strip_prefix("h")?.strip_suffix("\n")?;
+    if said.len() <= MOST_SAID {
+        Text::from_str(alloc, said).ok()
+    } else {
+        None
+    }
+}
+
+/// Whether a command that ended so did by the loss of its lane.
+fn is_lost(outcome: Results) -> bool
+    ensures { result ≡ is_lost outcome }
+{
+    outcome == Results::Retry
+}
+
+impl<'a, Y: Yard, S: Drop, R: Wait + Clock, W: Watch + Drop> LanePort<'a, Y, S, R, W> {
+    /// A port that has started nothing. It takes no memory.
+    pub fn over(
+        rt: &'a R,
+        alloc: Global,
+        viewer: Viewer<Y>,
+        door: LaneHandle<S>,
+        cancelled: &'a AtomicBool,
+        watch: W,
+    ) -> LanePort<'a, Y, S, R, W>
+        requires { viewer.lane ≡ door }
+        ensures { (result.refused ≡ false) × (result.viewer ≡ viewer) }
+    {
+        LanePort {
+            rt,
+            alloc,
+            door,
+            viewer,
+            cancelled,
+            is_held: false,
+            meter: StepMeter::new(0, 0),
+            bytes: None,
+            watch,
+            entries: Entries::new(alloc),
+            refused: false,
+        }
+    }
+
+    /// The viewer comes back, and the door with it.
+    pub fn into_parts(self) -> (Viewer<Y>, LaneHandle<S>)
+        ensures { (result.0 ≡ self.entry.viewer) × (result.1 ≡ self.entry.viewer.lane) }
+    {
+        (self.viewer, self.door)
+    }
+}
+
+impl<'a, Y: Yard, S: Drop, R: Wait + Clock, W: Watch + Drop> Port for LanePort<'a, Y, S, R, W> {
+    ghost told = { λ p. p.told };
+
+    ghost refused = { λ p. p.refused };
+
+    fn start(&mut self, step: &StepPlan) -> Option<u64> {
+        let why = match self.begin(step) {
+            Ok(command) => return Some(command),
+            Err(why) => why,
+        };
+        self.watch.refused(step, why);
+        if why == StartRefusal::Cancelled && self.entries.begin(NO_COMMAND).is_ok() {
+            return Some(NO_COMMAND);
+        }
+        self.refused = true;
+        None
+    }
+
+    fn poll(&mut self, k: u64) -> Polled {
+        if k == NO_COMMAND {
+            let said = Polled::Ended(Results::Cancelled);
+            self.entries.note(k, said);
+            return said;
+        }
+        thread::sleep(self.rt, Duration::from_millis(TICK));
+        let seen = self.look(k);
+        let said = self.limited(k, seen);
+        self.entries.note(k, said);
+        if let Polled::Ended(outcome) = said {
+            self.door.tell(self.rt, LaneRequest::Seen(k));
+            if is_lost(outcome) {
+                settle(self.rt, self.alloc, &self.door);
+            }
+            let said = self.said(k, outcome);
+            self.watch.ended(k, outcome, said);
+        }
+        said
+    }
+
+    fn interrupt(&mut self, k: u64) {
+        interrupt(self.rt, self.alloc, &self.door, k);
+    }
+}
+
+/// What the clerk answers to a start; `Refused` where it has left. None where memory is wanting.
+fn try_start<S: Drop, R: Wait + Clock>(
+    rt: &R,
+    alloc: Global,
+    door: &LaneHandle<S>,
+    argv: &Words,
+    bytes: &ByteCount,
+) -> Option<Told> {
+    let (answer, told) = bounded(alloc, 1).ok()?;
+    let words = argv.copy().ok()?;
+    let bytes = Arc::try_clone(bytes).ok()?;
+    if !door.tell(rt, LaneRequest::Start(words, bytes, answer)) {
+        return Some(Told::Refused);
+    }
+    match door.answer(rt, &told) {
+        Some(told) => Some(told),
+        None => Some(Told::Refused),
+    }
+}
+
+/// What the clerk answers to an interruption; `Refused` where it has left, or memory is wanting.
+fn try_interrupt<S: Drop, R: Wait + Clock>(
+    rt: &R,
+    alloc: Global,
+    door: &LaneHandle<S>,
+    command: u64,
+) -> Told {
+    let Ok((answer, told)) = bounded(alloc, 1) else {
+        return Told::Refused;
+    };
+    if !door.tell(rt, LaneRequest::Interrupt(command, answer)) {
+        return Told::Refused;
+    }
+    match door.answer(rt, &told) {
+        Some(told) => told,
+        None => Told::Refused,
+    }
+}
+
+/// Waits until the clerk has told all that happened to the lane so far, or has left. Where memory
+/// is wanting the clerk is given a tick for it.
+fn settle<S: Drop, R: Wait + Clock>(rt: &R, alloc: Global, door: &LaneHandle<S>) {
+    let Ok((answer, told)) = bounded(alloc, 1) else {
+        thread::sleep(rt, Duration::from_millis(TICK));
+        return;
+    };
+    if door.tell(rt, LaneRequest::Settle(answer)) {
+        let _ = door.answer(rt, &told);
+    }
+}
+
+/// Starts a step's command once the lane is up.
+///
+/// # Errors
+///
+/// `Lost` where the lane is given up, or refuses; `Full` where it has had as many events as it may,
+/// or the words are more than an order carries; `Cancelled` where the step doesn't always run and
+/// its build is cancelled while it waits. Nothing is started then.
+fn start<S: Drop, R: Wait + Clock>(
+    rt: &R,
+    alloc: Global,
+    door: &LaneHandle<S>,
+    step: &StepPlan,
+    cancelled: &AtomicBool,
+    bytes: &ByteCount,
+) -> Result<u64, StartRefusal> {
+    for _ in rt.forever() {
+        if is_left_out(cancelled.load(Ordering::SeqCst), step.always_run) {
+            return Err(StartRefusal::Cancelled);
+        }
+        match try_start(rt, alloc, door, &step.argv, bytes) {
+            Some(Told::Started(command)) => return Ok(command),
+            Some(Told::Later) => thread::sleep(rt, Duration::from_millis(TICK)),
+            Some(Told::Full | Told::TooLong) => return Err(StartRefusal::Full),
+            Some(Told::Interrupted | Told::Refused) => return Err(StartRefusal::Lost),
+            None => return Err(StartRefusal::Memory),
+        }
+    }
+    unreachable!()
+}
+
+/// Interrupts a command once the lane is up, or does nothing once it is given up.
+fn interrupt<S: Drop, R: Wait + Clock>(rt: &R, alloc: Global, door: &LaneHandle<S>, command: u64) {
+    for _ in rt.forever() {
+        match try_interrupt(rt, alloc, door, command) {
+            Told::Later => thread::sleep(rt, Duration::from_millis(TICK)),
+            _ => return,
+        }
+    }
+}
+
+impl<'a, Y: Yard, S: Drop, R: Wait + Clock, W: Watch + Drop> LanePort<'a, Y, S, R, W> {
+    /// Starts the step's command, with room for its entry. A cancel ends one step: where this one
+    /// always runs, that is the next that doesn't.
+    ///
+    /// # Errors
+    ///
+    /// Why it isn't started; nothing has changed then.
+    fn begin(&mut self, step: &StepPlan) -> Result<u64, StartRefusal>
+        ensures { Begins self.old result self.new }
+    {
+        if self.entries.reserve().is_err() {
+            return Err(StartRefusal::Memory);
+        }
+        if is_left_out(self.is_held, step.always_run) {
+            return Err(StartRefusal::Cancelled);
+        }
+        let Ok(bytes) = Arc::new(self.alloc, AtomicU64::new(0)) else {
+            return Err(StartRefusal::Memory);
+        };
+        let (rt, alloc) = (self.rt, self.alloc);
+        let command = match start(rt, alloc, &self.door, step, self.cancelled, &bytes) {
+            Ok(command) => command,
+            Err(why) => return Err(why),
+        };
+        self.meter = StepMeter::new(step.max_bytes, step.timeout_ticks);
+        self.bytes = Some(bytes);
+        if step.always_run && self.cancelled.swap(false, Ordering::SeqCst) {
+            self.is_held = true;
+        }
+        match self.entries.begin(command) {
+            Ok(()) => {}
+            Err(_) => unreachable!(),
+        }
+        self.watch.started(step, command);
+        Ok(command)
+    }
+
+    /// How the command does, by what the viewer sees.
+    fn look(&mut self, k: u64) -> Polled
+        ensures { Looks self.old k result self.new }
+    {
+        let is_cancelled = self.cancelled.load(Ordering::SeqCst);
+        polled(self.viewer.state(k, STDIO), is_cancelled)
+    }
+
+    /// What its worker said last of a command that ended so, where that is to be told.
+    fn said(&mut self, k: u64, outcome: Results) -> Option<Text>
+        ensures told { self.new.told ≡ self.old.told }
+        ensures refused { self.new.refused ≡ self.old.refused }
+    {
+        if outcome != Results::Exception {
+            return None;
+        }
+        let lines = match self.viewer.state(k, STDIO) {
+            Ok(state) if state.lines > 1 => state.lines,
+            _ => return None,
+        };
+        match self.viewer.chunk(k, STDIO, lines - 1, 1) {
+            Ok(chunk) => header_in(self.alloc, chunk.content.as_str()),
+            Err(_) => None,
+        }
+    }
+
+    /// What is to be said of a command that was seen so a tick later: where it has reached a limit
+    /// of its step it is interrupted, and its end is waited for, but not without an end.
+    fn limited(&mut self, k: u64, seen: Polled) -> Polled
+        ensures { self.new ≡ self.old }
+    {
+        if let Polled::Ended(outcome) = seen {
+            return Polled::Ended(self.meter.outcome(outcome));
+        }
+        let bytes = match &self.bytes {
+            Some(bytes) => bytes.load(Ordering::SeqCst),
+            None => 0,
+        };
+        if let Some(limit) = self.meter.tick(bytes) {
+            self.watch.stopped(k, limit);
+            interrupt(self.rt, self.alloc, &self.door, k);
+        }
+        if self.meter.is_given_up() {
+            Polled::Ended(Results::Exception)
+        } else {
+            seen
+        }
+    }
+}

@@ -1,0 +1,77 @@
+//! Standard input: builds that are to be cancelled.
+
+use crate::events::{EventSender, MasterEvent};
+use bm_lane::Yard;
+use bm_operator::read_cancel;
+use std::alloc::Global;
+use std::io::{ErrorKind, Read};
+use std::sync::Wait;
+use std::time::Clock;
+
+/// How many bytes of a line are kept. Of a longer one nothing is kept: a line that asks for
+/// something is shorter, but for one with thousands of zeros before its number.
+const MOST_LINE: usize = 4096;
+
+/// The line that is being read, without its line end.
+#[derive(Drop)]
+struct Line {
+    bytes: Vec<u8>,
+    is_whole: bool,
+}
+
+impl Line {
+    fn new(alloc: Global) -> Line {
+        Line {
+            bytes: Vec::new(alloc),
+            is_whole: true,
+        }
+    }
+
+    fn push(&mut self, byte: u8) {
+        if self.bytes.len() >= MOST_LINE || self.bytes.push(byte).is_err() {
+            self.is_whole = false;
+        }
+    }
+
+    // Begins the next line. The answer is the build that this one cancels, if it cancels one.
+    fn end(&mut self) -> Option<u64> {
+        let cancelled = if self.is_whole {
+            read_cancel(self.bytes.as_slice())
+        } else {
+            None
+        };
+        self.bytes.clear();
+        self.is_whole = true;
+        cancelled
+    }
+}
+
+/// Tells of each build that a line of the input cancels, until the input ends or can't be read.
+pub fn read_input<I, Y, R>(rt: &R, alloc: Global, input: I, mail: &EventSender<Y>)
+where
+    I: Read + Drop,
+    Y: Yard,
+    R: Wait + Clock,
+{
+    let mut input = input;
+    let mut piece = [0u8; 512];
+    let mut line = Line::new(alloc);
+    for _ in rt.forever() {
+        let count = match input.read(&mut piece) {
+            Ok(0) => break,
+            Ok(count) => count,
+            Err(error) if error.kind() == ErrorKind::Interrupted => 0,
+            Err(_) => break,
+        };
+        for byte in &piece[..count] {
+            if *byte != b'\n' {
+                line.push(*byte);
+            } else if let Some(number) = line.end() {
+                mail.tell(rt, MasterEvent::Cancel(number));
+            }
+        }
+    }
+    if let Some(number) = line.end() {
+        mail.tell(rt, MasterEvent::Cancel(number));
+    }
+}

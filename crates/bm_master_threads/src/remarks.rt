@@ -1,0 +1,122 @@
+//! The thread that writes remarks, so that nobody waits for who reads them.
+
+use bm_operator::Remark;
+use crossbeam_channel::{Receiver, Sender, bounded};
+use std::alloc::Global;
+use std::io::Write;
+use std::sync::atomic::{AtomicU64, Ordering};
+use std::sync::{Arc, Wait};
+use std::thread;
+use std::thread::Threads;
+use std::time::{Clock, Duration};
+
+/// How many remarks wait at the most to be written.
+const MOST_REMARKS: usize = 1_024;
+
+/// How long the last remarks may take to be written, once the master ends.
+const LAST_SECONDS: u64 = 2;
+
+/// Where remarks are told. Telling never waits: what finds no room is counted, and the count is
+/// told once all that had room was written.
+#[derive(Drop)]
+pub struct Remarks {
+    alloc: Global,
+    lines: Sender<String, Global>,
+    /// Disconnected once the thread has ended.
+    end: Receiver<(), Global>,
+    /// How many were not told, since that was told.
+    untold: Arc<AtomicU64, Global>,
+}
+
+/// What the thread of remarks works with.
+#[derive(Drop)]
+struct Pen<F> {
+    alloc: Global,
+    faults: F,
+    lines: Receiver<String, Global>,
+    untold: Arc<AtomicU64, Global>,
+}
+
+impl<F: Write> Pen<F> {
+    // Writes a line. What can't be written is passed over.
+    fn write(&mut self, line: &str) {
+        let _ = self.faults.write_all(line.as_bytes());
+    }
+
+    // Tells how many remarks were not told, if some were not.
+    fn write_untold(&mut self) {
+        let count = self.untold.swap(0, Ordering::SeqCst);
+        if count > 0 {
+            let _ = Remark::NotTold { count }.write(self.alloc, &mut self.faults);
+        }
+    }
+
+    // Writes each remark, until nobody is left who tells.
+    fn write_all<R: Wait>(&mut self, rt: &R) {
+        for _ in rt.forever() {
+            if let Ok(line) = self.lines.try_recv(rt) {
+                self.write(line.as_str());
+            } else {
+                self.write_untold();
+                match self.lines.recv(rt) {
+                    Ok(line) => self.write(line.as_str()),
+                    Err(_) => break,
+                }
+            }
+        }
+        self.write_untold();
+    }
+}
+
+impl Remarks {
+    /// Starts the thread that writes to `faults`. None where it can't be started, or memory is
+    /// wanting.
+    pub fn open<R, F>(rt: &R, alloc: Global, faults: F) -> Option<Remarks>
+    where
+        R: Wait + Threads + Copy + Drop + Send + 'static,
+        F: Write + Drop + Send + 'static,
+    {
+        let (lines, taken) = bounded(alloc, MOST_REMARKS).ok()?;
+        let (ends, end) = bounded::<(), Global>(alloc, 1).ok()?;
+        let untold = Arc::new(alloc, AtomicU64::new(0)).ok()?;
+        let counted = Arc::try_clone(&untold).ok()?;
+        let rt = *rt;
+        let pen = Pen {
+            alloc,
+            faults,
+            lines: taken,
+            untold: counted,
+        };
+        // It is never joined: a write for which nobody reads has no end.
+        thread::spawn(&rt, move || {
+            let mut pen = pen;
+            pen.write_all(&rt);
+            drop(ends);
+        })
+        .ok()?;
+        Some(Remarks {
+            alloc,
+            lines,
+            end,
+            untold,
+        })
+    }
+
+    /// Tells a remark, or counts it where there is no room, or no memory.
+    pub fn tell<R: Wait>(&self, rt: &R, remark: &Remark<'_>) {
+        let is_told = match remark.line(self.alloc) {
+            Ok(line) => self.lines.try_send(rt, line).is_ok(),
+            Err(_) => false,
+        };
+        if !is_told {
+            self.untold.fetch_add(1, Ordering::SeqCst);
+        }
+    }
+
+    /// No remark comes any more: the last ones have some time to be written.
+    pub fn end<R: Wait + Clock>(self, rt: &R) {
+        let Remarks { lines, end, .. } = self;
+        drop(lines);
+        let _ = end.recv_timeout(rt, Duration::from_secs(LAST_SECONDS));
+    }
+}

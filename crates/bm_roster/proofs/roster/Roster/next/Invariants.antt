@@ -1,9 +1,0 @@
-use Rattle.std.proofs.Common.{◌≡◌, ℕ, ◌<◌, true}
-use Rattle.bm_roster.specs.Roster.{CanStart, can_start}
-use Rattle.bm_roster.proofs.roster.Roster.next.Given as goal
-
-abbrev pub invariant-loop-number : goal.invariant-loop-number
-invariant-loop-number g l =
-    (l.self.board ≡ l.fn.self.board) × (l.self.benches ≡ l.fn.self.benches)
-    × (l.self.is_short ≡ true → CanStart l.fn.self.board)
-    × ((k : ℕ) → k < l.number → can_start l.fn.self k ≡ true → l.self.is_short ≡ true)

@@ -1,7 +1,0 @@
-use Rattle.std.proofs.Common.{inr, subst}
-use Rattle.bm_roster.specs.Roster.{CanStart, Rostered}
-use Rattle.bm_roster.proofs.roster.Roster.start.Goals as goal
-
-pub returns-in-Err-Mem-clause-short : goal.returns-in-Err-Mem-clause-short
-returns-in-Err-Mem-clause-short g c =
-    λ _. inr (subst (λ (r : Rostered). CanStart r.board) c.self.view_is (c.in-Err-Mem.ensures.short c.in-Err-Mem.field-0-is))

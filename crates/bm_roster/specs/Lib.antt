@@ -1,9 +1,0 @@
--- What a roster does to its board, to be believed.
-pub mod Roster
--- The viewers that no build has, and what a roster says of a cancel, to be believed.
-pub mod Benches
-pub mod Cancels
--- What holds of every board of a roster, to be believed.
-pub mod Laws
--- What is counted beside a board, which helps the proofs alone, and the worker of a build.
-pub mod Counted

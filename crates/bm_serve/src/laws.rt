@@ -1,7 +1,0 @@
-//! What holds of all bodies that are told piece by piece, as contracts.
-ghost use Rattle.bm_serve.specs.Laws.{PiecesAreTheText};
-
-/// Pieces that tell a text to its end are the text, joined.
-pub fn pieces_are_the_text()
-    ensures { PiecesAreTheText }
-{}

@@ -1,0 +1,30 @@
+-- The replies that responses are.
+use Rattle.std.specs.Prelude.{ℕ, List, [], Option, Some, None}
+use Rattle.http.specs.declared.response.Response.{Response}
+use Rattle.http.specs.Response.{head_of, body_of}
+use Rattle.http_uri.specs.declared.uri.Uri.{Uri}
+use Rattle.http_uri.specs.Uri.{uri_path_and_query}
+use Rattle.http_uri.specs.Grammar.{or_slash}
+use Rattle.bm_http.specs.Replies.{Reply}
+use Rattle.bm_http.specs.LongAnswers.{held}
+use Rattle.bm_web_server.specs.declared.page_body.PageBody.{PageBody}
+use Rattle.bm_web_server.specs.declared.page_body.PageBody.TheVariants.{Whole, Long}
+
+module _ {R S T : Type 0} (text : T → List ℕ) where
+  -- the text of a body
+  abbrev pub body_text : PageBody R S T → List ℕ
+  body_text (Whole b) = held b
+  body_text (Long t) = text t.rest
+
+  -- a status and the bytes of a body
+  abbrev pub replied : Response (PageBody R S T) → Reply
+  replied response =
+      record { status = (head_of response).status; body = body_text (body_of response) }
+
+-- the path and the query of a URI; nothing where it has none
+abbrev pub path_text : Option (List ℕ) → List ℕ
+path_text None = []
+path_text (Some p) = or_slash p
+
+abbrev pub target_of : Uri → List ℕ
+target_of u = path_text (uri_path_and_query u)

@@ -1,0 +1,107 @@
+//! Connections that are taken in, so many at once.
+ghost use Rattle.std.specs.Prelude.{◌≡◌};
+ghost use Rattle.futures.specs.Task.{IsArmed, Keeps};
+ghost use Rattle.futures.specs.Poll.{OnPending};
+
+use crate::connections::Visit;
+use crate::log_service::Answering;
+use crate::pages::Pages;
+use crate::write_deadline::WriteDeadline;
+use futures::task::{Context, Poll};
+use futures::{Future, Stream, ready};
+use std::alloc::Global;
+use std::sync::{Arc, Wait};
+use std::time::{Clock, Duration, Instant};
+use tokio::net::{Incoming, TcpStream};
+use tokio::sync::{OwnedSemaphorePermit, Semaphore};
+use tokio::time::{Handle, Sleep};
+
+/// How many milliseconds no connection is taken in after one that could not be.
+const PAUSE: u64 = 20;
+
+type Visitor<R, S> = Visit<WriteDeadline<TcpStream, R>, Pages<R, S>, OwnedSemaphorePermit>;
+
+/// The connections of a listener, of which each holds a place until it ends. Where one can't be
+/// taken in, since descriptors, memory or places are wanting, there is a pause before the next is
+/// tried.
+#[derive(Drop)]
+pub struct Admission<R, S> {
+    pub rt: R,
+    pub alloc: Global,
+    pub incoming: Incoming,
+    pub site: Arc<S>,
+    pub places: Arc<Semaphore>,
+    pub timers: Handle,
+    /// How long a connection lives whose peer takes nothing of what is sent.
+    pub stalled: Duration,
+    pub pause: Sleep,
+    pub is_pausing: bool,
+}
+
+impl<R: Wait + Clock + Copy, S: Answering> Admission<R, S> {
+    // The next connection, or none where one could not be taken in.
+    fn poll_visit(&mut self, cx: &mut Context<'_>) -> Poll<Option<Visitor<R, S>>>
+        ensures armed { OnPending result (IsArmed cx.new) }
+        ensures kept { Keeps cx.old cx.new }
+    {
+        let Ok(site) = Arc::try_clone(&self.site) else {
+            return Poll::Ready(None);
+        };
+        let Ok(places) = Arc::try_clone(&self.places) else {
+            return Poll::Ready(None);
+        };
+        let Ok(place) = Semaphore::try_acquire_owned(places) else {
+            return Poll::Ready(None);
+        };
+        let Some(Ok(socket)) = ready!(self.incoming.poll_next(cx)) else {
+            return Poll::Ready(None);
+        };
+        let Ok(timer) = self.timers.sleep(&self.rt, self.stalled) else {
+            return Poll::Ready(None);
+        };
+        let socket = WriteDeadline::new(socket, self.rt, self.stalled, timer);
+        let pages = Pages {
+            rt: self.rt,
+            alloc: self.alloc,
+            site,
+        };
+        Poll::Ready(Some(Visit {
+            socket,
+            pages,
+            place,
+        }))
+    }
+
+    // Begins a pause.
+    fn poll_pause(&mut self, cx: &mut Context<'_>) -> Poll<Option<Visitor<R, S>>>
+        ensures pending { result ≡ Poll.Pending }
+        ensures armed { IsArmed cx.new }
+        ensures kept { Keeps cx.old cx.new }
+    {
+        if let Ok(now) = Instant::now(&self.rt)
+            && let Some(end) = now.checked_add(Duration::from_millis(PAUSE))
+        {
+            self.pause.reset(end);
+            if self.pause.poll(cx).is_pending() {
+                self.is_pausing = true;
+                return Poll::Pending;
+            }
+        }
+        cx.yield_now()
+    }
+}
+
+impl<R: Wait + Clock + Copy, S: Answering> Stream for Admission<R, S> {
+    type Item = Visitor<R, S>;
+
+    fn poll_next(&mut self, cx: &mut Context<'_>) -> Poll<Option<Visitor<R, S>>> {
+        if self.is_pausing {
+            let _ = ready!(self.pause.poll(cx));
+            self.is_pausing = false;
+        }
+        match ready!(self.poll_visit(cx)) {
+            Some(visit) => Poll::Ready(Some(visit)),
+            None => self.poll_pause(cx),
+        }
+    }
+}

@@ -1,0 +1,81 @@
+//! The bodies of answers.
+ghost use Rattle.std.specs.Prelude.{◌≡◌, ◌++◌, [], IfOk, MatchOption, IsTrue};
+ghost use Rattle.bm_http.specs.LongAnswers.{held};
+ghost use Rattle.bm_web_server.specs.Tells.{Tells};
+ghost use Rattle.bm_web_server.specs.declared.page_body.PageBody.TheVariants.{Whole, Long};
+
+use crate::log_service::Answering;
+use bm_http::PieceError;
+use bytes::Bytes;
+use futures::task::{Context, Poll};
+use http_body::{Body, Frame, SizeHint};
+use std::alloc::Global;
+use std::sync::{Arc, Wait};
+
+/// What is left of a long answer, with the site that tells it.
+#[derive(Drop)]
+pub struct Unsent<R, S: Answering> {
+    pub rt: R,
+    pub alloc: Global,
+    pub site: Arc<S>,
+    pub rest: S::Rest,
+}
+
+impl<R: Wait + Drop, S: Answering> Unsent<R, S> {
+    // The next piece, as the site stands now.
+    fn next(&mut self) -> Option<Result<Bytes, PieceError>>
+        ensures { MatchOption result (S.text self.old.rest ≡ [])
+            (λ r. IfOk r (λ b. S.text self.old.rest ≡ b ++ S.text self.new.rest)) }
+    {
+        self.site.piece(&self.rt, self.alloc, &mut self.rest)
+    }
+}
+
+/// The body of an answer: whole, or told piece by piece as the connection asks for it.
+#[derive(Drop)]
+pub enum PageBody<R, S: Answering> {
+    /// One piece, or none any more.
+    Whole(Option<Bytes>),
+    /// Pieces that are still to come.
+    Long(Unsent<R, S>),
+}
+
+impl<R: Wait + Drop, S: Answering> Body for PageBody<R, S> {
+    type Data = Bytes;
+
+    type Error = PieceError;
+
+    ghost yields = { elim [
+      | Whole b ↦ Tells (held b)
+      | Long t ↦ Tells (S.text t.rest)
+    ] };
+
+    fn poll_frame(
+        &mut self,
+        _cx: &mut Context<'_>,
+    ) -> Poll<Option<Result<Frame<Bytes>, PieceError>>> {
+        match self {
+            PageBody::Whole(held) => match held.take() {
+                Some(bytes) => Poll::Ready(Some(Ok(Frame::data(bytes)))),
+                None => Poll::Ready(None),
+            },
+            PageBody::Long(unsent) => match unsent.next() {
+                Some(Ok(bytes)) => Poll::Ready(Some(Ok(Frame::data(bytes)))),
+                Some(Err(error)) => Poll::Ready(Some(Err(error))),
+                None => Poll::Ready(None),
+            },
+        }
+    }
+
+    fn is_end_stream(&self) -> bool {
+        matches!(self, PageBody::Whole(None))
+    }
+
+    fn size_hint(&self) -> SizeHint {
+        match self {
+            PageBody::Whole(Some(bytes)) => SizeHint::with_exact(bytes.len() as u64),
+            PageBody::Whole(None) => SizeHint::with_exact(0),
+            PageBody::Long(_) => SizeHint::new(),
+        }
+    }
+}

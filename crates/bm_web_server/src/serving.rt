@@ -1,0 +1,83 @@
+//! Serves until it is told to stop.
+ghost use Rattle.std.specs.Prelude.{◌<◌};
+
+use crate::admission::Admission;
+use crate::connections::Connections;
+use crate::log_service::Answering;
+use futures::StreamExt;
+use hyper::rt::TokioTimer;
+use hyper::server::conn::http1;
+use std::alloc::AllocGlobal;
+use std::hash::RandomState;
+use std::net::Net;
+use std::random::RandomSource;
+use std::sync::{Arc, Wait};
+use std::thread::Threads;
+use std::time::{Clock, Duration};
+use std::{io, net};
+use tokio::net::TcpListener;
+use tokio::runtime::Runtime;
+use tokio::sync::{Semaphore, oneshot};
+
+/// How many milliseconds connections may go on after the stop.
+const GRACE: u64 = 200;
+
+/// How many bytes wait to be sent on a connection, beside one piece of a body.
+const BUFFERED: usize = 65_536;
+
+/// What a server allows.
+#[derive(Clone, Copy)]
+pub struct WebLimits {
+    /// How many threads serve connections.
+    pub workers: usize,
+    /// How many connections are open at once. Others wait, unaccepted.
+    pub connections: usize,
+    /// How long a connection may wait for a request's head, or take over it, until it is closed.
+    pub idle: Duration,
+    /// How long a client may take nothing of what is sent to it, until the connection is closed.
+    pub stalled: Duration,
+}
+
+/// Serves over HTTP/1.1 until `stop` is ready or its sender is gone, and at most a moment longer,
+/// whatever clients do. Then nobody but the caller holds what was served. An error says that
+/// serving could not begin.
+pub fn serve<R, S>(
+    rt: R,
+    limits: WebLimits,
+    listener: net::TcpListener,
+    site: Arc<S>,
+    stop: oneshot::Receiver<()>,
+) -> io::Result<()>
+where
+    R: Wait + Threads + Clock + RandomSource + AllocGlobal + Net + Copy + Send + Sync,
+    S: Answering + Send + Sync,
+    S::Rest: Send,
+    requires { 0 < limits.workers }
+{
+    let alloc = rt.alloc();
+    let mut runtime = Runtime::with_worker_threads(&rt, limits.workers)?;
+    runtime.set_shutdown_timeout(Some(Duration::from_millis(GRACE)));
+    let listener = TcpListener::from_std(listener, runtime.handle().reactor())?;
+    let timers = runtime.handle().time().clone()?;
+    let pause = timers.sleep(&rt, Duration::from_millis(GRACE))?;
+    let mut http = http1::Builder::new(alloc, RandomState::new(&rt)?).timer(TokioTimer::new(
+        rt,
+        timers.clone()?,
+    ));
+    http.header_read_timeout(Some(limits.idle));
+    http.max_buf_size(BUFFERED);
+    let places = limits.connections.min(Semaphore::MAX_PERMITS);
+    let admission = Admission {
+        rt,
+        alloc,
+        incoming: listener.incoming(),
+        site,
+        places: Arc::new(alloc, Semaphore::new(alloc, places)?)?,
+        timers,
+        stalled: limits.stalled,
+        pause,
+        is_pausing: false,
+    };
+    let connections = Connections::new(admission.take_until(stop), http);
+    runtime.run_all(&rt, connections)
+}
