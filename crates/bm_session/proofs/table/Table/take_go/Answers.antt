@@ -4,7 +4,7 @@ use Rattle.std.proofs.lemmas.Grind.{common_steps}
 use Rattle.bm_session.specs.declared.results.Results.TheVariants.{Exception}
 use Rattle.bm_session.proofs.Stepped.{entry}
 use Rattle.bm_session.proofs.Taking.{table-Go, go-room}
-use Rattle.bm_session.proofs.table_taking.Table.take_go.Goals as goal
+use Rattle.bm_session.proofs.table.Table.take_go.Goals as goal
 
 pub returns-clause-table : goal.returns-clause-table
 returns-clause-table c = λ t is w r.

@@ -5,7 +5,7 @@ use Rattle.bm_session.specs.declared.event.Body.TheVariants.{Answered}
 use Rattle.bm_session.specs.declared.reply.Verdict.{Verdict}
 use Rattle.bm_session.specs.Table.{IsTable}
 use Rattle.bm_session.proofs.Hearing.{taken-response, taken-repeat, asks-other}
-use Rattle.bm_session.proofs.table_taking.Table.take_in.Goals as goal
+use Rattle.bm_session.proofs.table.Table.take_in.Goals as goal
 
 pub returns-else-fault-clause-table : goal.returns-else-fault-clause-table
 returns-else-fault-clause-table c = λ t is w up.

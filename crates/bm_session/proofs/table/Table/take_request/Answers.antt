@@ -13,7 +13,7 @@ use Rattle.bm_session.specs.Ranges.{RangeList, HoldsAlso}
 use Rattle.bm_session.specs.Table.{IsTable, with_told, asks}
 use Rattle.bm_session.proofs.Stepped.{ends_nothing}
 use Rattle.bm_session.proofs.Hearing.{IsFresh, IsClosed, listed-inside, taken-code, taken-complete, taken-quiet, ends-none, complete-none}
-use Rattle.bm_session.proofs.table_taking.Table.take_request.Goals as goal
+use Rattle.bm_session.proofs.table.Table.take_request.Goals as goal
 
 -- the laws, at a body that is known by an equation
 

@@ -3,7 +3,7 @@ use Rattle.std.specs.Prelude.{find, ◌==◌}
 use Rattle.bm_session.specs.declared.open.Open.{Open}
 use Rattle.bm_session.specs.Ranges.{RangeList}
 use Rattle.bm_session.proofs.Hearing.{listed-inside, taken-refusal, untaken-refusal}
-use Rattle.bm_session.proofs.table_taking.Table.take_refusal.Goals as goal
+use Rattle.bm_session.proofs.table.Table.take_refusal.Goals as goal
 
 pub end-requires : goal.end-requires
 end-requires c =
