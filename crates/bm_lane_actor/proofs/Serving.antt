@@ -18,9 +18,9 @@ use Rattle.bm_link.specs.Carries.{Carried}
 use Rattle.bm_link.specs.Control.{ClosesFor, PingsFor}
 use Rattle.bm_link.specs.Link.{LinkState, Turned}
 use Rattle.bm_link.specs.Orders.{Starts as LinkStarts, Interrupts as LinkInterrupts}
-use Rattle.bm_operator.specs.ResumeTimer.{Term, begun, dismissed}
+use Rattle.bm_lane_actor.specs.ResumeTimer.{Term, begun, dismissed}
 use Rattle.bm_lane_actor.specs.declared.mailbox.Told.{Told}
-use Rattle.bm_operator.specs.declared.standing.Standing.TheVariants.{Up, Cut, Down}
+use Rattle.bm_lane_actor.specs.declared.connection_state.ConnectionState.TheVariants.{Up, Cut, Down}
 use Rattle.bm_lane_actor.specs.LaneEvents.{is_awaited, standing_of}
 use Rattle.bm_link.specs.Laws.{CarriesPending}
 use Rattle.bm_lane_actor.proofs.Carrying.{attached as carries_attached}

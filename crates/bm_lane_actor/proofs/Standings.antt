@@ -1,8 +1,8 @@
 -- A lane keeps its link just while it is up.
 use Rattle.std.proofs.Common.{◌≡◌, refl, Bool, true, false, if◌then◌else◌}
 use Rattle.bm_session.specs.Trace.{Trace, is_up, is_cut}
-use Rattle.bm_operator.specs.declared.standing.Standing.TheVariants.{Up, Cut, Down}
-use Rattle.bm_operator.specs.Standing.{keeps_link}
+use Rattle.bm_lane_actor.specs.declared.connection_state.ConnectionState.TheVariants.{Up, Cut, Down}
+use Rattle.bm_lane_actor.specs.ConnectionState.{keeps_link}
 use Rattle.bm_lane_actor.specs.LaneEvents.{standing_of}
 
 pub keeps_link_while_up : (t : Trace) → keeps_link (standing_of t) ≡ is_up t

@@ -9,15 +9,15 @@ use Rattle.bm_operator.specs.declared.reasons.LossCause.{LossCause}
 use Rattle.bm_operator.specs.declared.reasons.LossCause.TheVariants as loss
 use Rattle.bm_lane_actor.specs.declared.lane_event.LaneEvent.{LaneEvent}
 use Rattle.bm_lane_actor.specs.declared.lane_event.LaneEvent.TheVariants as notice
-use Rattle.bm_operator.specs.declared.standing.Standing.{Standing}
-use Rattle.bm_operator.specs.declared.standing.Standing.TheVariants.{Up, Cut, Down}
+use Rattle.bm_lane_actor.specs.declared.connection_state.ConnectionState.{ConnectionState}
+use Rattle.bm_lane_actor.specs.declared.connection_state.ConnectionState.TheVariants.{Up, Cut, Down}
 
-abbrev pub standing_of : Trace → Standing
+abbrev pub standing_of : Trace → ConnectionState
 standing_of t = if is_up t then Up else (if is_cut t then Cut else Down)
 
 -- what is told where no login came: a lane that was up and is cut was cut; one that was up or cut
 -- and is neither was lost
-abbrev pub notice_of : Standing → Standing → LossCause → Option LaneEvent
+abbrev pub notice_of : ConnectionState → ConnectionState → LossCause → Option LaneEvent
 notice_of Up Cut cause = Some (notice.Cut cause)
 notice_of Up Down cause = Some (notice.Lost cause)
 notice_of Cut Down cause = Some (notice.Lost cause)
@@ -36,6 +36,6 @@ loss_of fault.Arena = loss.Memory
 loss_of _ = loss.Closed
 
 -- its worker is awaited to resume the session
-abbrev pub is_awaited : Standing → Bool
+abbrev pub is_awaited : ConnectionState → Bool
 is_awaited Cut = true
 is_awaited _ = false

@@ -23,13 +23,13 @@ use Rattle.bm_link.specs.Carries.{Carried}
 use Rattle.bm_link.specs.Control.{ClosesFor, PingsFor}
 use Rattle.bm_link.specs.Link.{LinkState, Turned}
 use Rattle.bm_link.specs.Orders.{Starts as LinkStarts, Interrupts as LinkInterrupts}
-use Rattle.bm_operator.specs.ResumeTimer.{Term, begun, cut_off, dismissed, is_over, passed}
+use Rattle.bm_lane_actor.specs.ResumeTimer.{Term, begun, cut_off, dismissed, is_over, passed}
 use Rattle.bm_lane_actor.specs.declared.lane_state.Rest.{Rest}
 use Rattle.bm_lane_actor.specs.declared.lane_state.Rest.TheVariants as rest
 use Rattle.bm_lane_actor.specs.declared.mailbox.Told.{Told}
 use Rattle.bm_lane_actor.specs.declared.mailbox.Told.TheVariants as told
-use Rattle.bm_operator.specs.declared.standing.Standing.{Standing}
-use Rattle.bm_operator.specs.declared.standing.Standing.TheVariants as standing
+use Rattle.bm_lane_actor.specs.declared.connection_state.ConnectionState.{ConnectionState}
+use Rattle.bm_lane_actor.specs.declared.connection_state.ConnectionState.TheVariants as standing
 use Rattle.bm_lane_actor.specs.LaneEvents.{standing_of}
 
 -- a lane's reader's end, what the lane carries from one link to the next, the link by which it is
@@ -41,14 +41,14 @@ pub record Seat (S : Type 0) : Type 0 where
   pub tenure : Term
 
 -- what is waited for: a lane that is up waits for messages where its worker has something to say
-abbrev pub rest_of : Bool → Standing → Rest
+abbrev pub rest_of : Bool → ConnectionState → Rest
 rest_of true standing.Up = rest.Message
 rest_of false standing.Up = rest.Glance
 rest_of lively standing.Cut = rest.Tick
 rest_of lively standing.Down = rest.LaneRequest
 
 -- ticks are counted from a cut on, until the session was given up
-abbrev pub term_in : Standing → Term → Term
+abbrev pub term_in : ConnectionState → Term → Term
 term_in standing.Up t = t
 term_in standing.Cut t = cut_off t
 term_in standing.Down t = begun t

@@ -12,7 +12,7 @@ use crate::stream::{Timed, WorkerStream};
 use bm_board::Words;
 use bm_lane::{ReaderEnd, Yard};
 use bm_link::{Attached, LinkFault, MasterLink, Turn, are_short};
-use bm_operator::{Care, LossCause, PeerTimer, Standing};
+use bm_operator::{Care, LossCause, PeerTimer, ConnectionState};
 use bumpalo::Bump;
 use crossbeam_channel::Sender;
 use std::alloc::Global;
@@ -203,7 +203,7 @@ where
     }
 
     /// The bell is rung, and it is told how the lane went on from where it stood.
-    fn note(&mut self, before: Standing, cause: LossCause) {
+    fn note(&mut self, before: ConnectionState, cause: LossCause) {
         self.bell.ring(self.place);
         if let Some(notice) = notice_of(before, self.desk.standing(), cause) {
             self.tell.tell(notice);
@@ -229,8 +229,8 @@ where
     fn care(&mut self) -> Care {
         let (heard, now) = (self.came(), self.now());
         match self.desk.standing() {
-            Standing::Up => self.timer.look(heard, now),
-            Standing::Cut | Standing::Down => Care::Nothing,
+            ConnectionState::Up => self.timer.look(heard, now),
+            ConnectionState::Cut | ConnectionState::Down => Care::Nothing,
         }
     }
 
@@ -253,7 +253,7 @@ where
             }
         }
         let is_wanted = care == Care::Nothing && self.timer.is_wanted();
-        if !is_wanted || self.desk.standing() != Standing::Up {
+        if !is_wanted || self.desk.standing() != ConnectionState::Up {
             if let Some(link) = self.waiting.take() {
                 self.admit(link);
             }
@@ -263,11 +263,11 @@ where
     /// A link comes. Where the lane is up it is looked first whether that still holds. Then its
     /// worker is asked for a sign of life, and the link waits for that.
     fn attach(&mut self, link: MasterLink<WorkerStream<S, R>>) {
-        if self.desk.standing() == Standing::Up {
+        if self.desk.standing() == ConnectionState::Up {
             self.turn();
             self.watch();
         }
-        if self.desk.standing() != Standing::Up || self.waiting.is_some() {
+        if self.desk.standing() != ConnectionState::Up || self.waiting.is_some() {
             return self.admit(link);
         }
         self.desk.ping();
@@ -289,7 +289,7 @@ where
                 if attached == Attached::Resumed {
                     self.tell.tell(LaneEvent::Resumed);
                 } else {
-                    if before == Standing::Cut {
+                    if before == ConnectionState::Cut {
                         self.tell.tell(LaneEvent::Lost(LossCause::Replaced));
                     }
                     self.tell.tell(LaneEvent::Attached);

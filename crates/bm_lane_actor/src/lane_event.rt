@@ -5,7 +5,7 @@ ghost use Rattle.bm_lane_actor.specs.LaneEvents.{loss_of, notice_of, standing_of
 
 use bm_lane::{HearRefusal, ReaderEnd, Yard};
 use bm_link::LinkFault;
-use bm_operator::{LossCause, Standing};
+use bm_operator::{LossCause, ConnectionState};
 use bm_session::Refusal;
 use std::net::SocketAddr;
 
@@ -29,25 +29,25 @@ pub enum LaneEvent {
 }
 
 /// How the lane stands.
-pub(crate) fn standing_of<Y: Yard>(reader: &ReaderEnd<Y>) -> Standing
+pub(crate) fn standing_of<Y: Yard>(reader: &ReaderEnd<Y>) -> ConnectionState
     ensures { result ≡ standing_of reader.now.trace }
 {
     if reader.is_up() {
-        Standing::Up
+        ConnectionState::Up
     } else if reader.is_cut() {
-        Standing::Cut
+        ConnectionState::Cut
     } else {
-        Standing::Down
+        ConnectionState::Down
     }
 }
 
 /// What is to be told of a lane that stood so and now stands so, where no login came.
-pub(crate) fn notice_of(before: Standing, after: Standing, cause: LossCause) -> Option<LaneEvent>
+pub(crate) fn notice_of(before: ConnectionState, after: ConnectionState, cause: LossCause) -> Option<LaneEvent>
     ensures { result ≡ notice_of before after cause }
 {
     match (before, after) {
-        (Standing::Up, Standing::Cut) => Some(LaneEvent::Cut(cause)),
-        (Standing::Up | Standing::Cut, Standing::Down) => Some(LaneEvent::Lost(cause)),
+        (ConnectionState::Up, ConnectionState::Cut) => Some(LaneEvent::Cut(cause)),
+        (ConnectionState::Up | ConnectionState::Cut, ConnectionState::Down) => Some(LaneEvent::Lost(cause)),
         _ => None,
     }
 }

@@ -5,8 +5,8 @@ ghost use Rattle.bm_session.specs.Trace.{is_up, was_taken};
 ghost use Rattle.bm_link.specs.Carries.{new_carried};
 ghost use Rattle.bm_link.specs.Laws.{CarriesPending};
 ghost use Rattle.bm_link.specs.Texts.{AreShort};
-ghost use Rattle.bm_operator.specs.Standing.{keeps_link};
-ghost use Rattle.bm_operator.specs.ResumeTimer.{kept as kept_term, dismissed};
+ghost use Rattle.bm_lane_actor.specs.ConnectionState.{keeps_link};
+ghost use Rattle.bm_lane_actor.specs.ResumeTimer.{kept as kept_term, dismissed};
 ghost use Rattle.bm_lane_actor.specs.LaneStates.{counting, kept, renewed, rest_of, term_in, Attaches, Closes, Expires, GivesUp, Interrupts, Pings, ShutsDown, Starts, TakesUp, Ticks, Turns, with_term};
 ghost use Rattle.bm_lane_actor.specs.LaneEvents.{standing_of};
 
@@ -16,7 +16,7 @@ use crate::told::{told_interrupt, told_start, told_unlinked};
 use bm_lane::{HearRefusal, ReaderEnd, Yard};
 use bm_lines::Text;
 use bm_link::{Ask, Attached, LinkFault, MasterLink, ResumeState, Turn};
-use bm_operator::{ResumeTimer, Standing};
+use bm_operator::{ResumeTimer, ConnectionState};
 use bm_session::Event;
 use bumpalo::Bump;
 use std::alloc::Global;
@@ -88,7 +88,7 @@ fn settle<Y: Yard, S: Drop>(
 }
 
 /// Lets the link of a lane go that keeps none.
-fn keep<S: Drop>(link: &mut Option<MasterLink<S>>, standing: Standing)
+fn keep<S: Drop>(link: &mut Option<MasterLink<S>>, standing: ConnectionState)
     ensures { link.new ≡ (if keeps_link standing then link.old else None) }
 {
     if !standing.keeps_link() {
@@ -97,13 +97,13 @@ fn keep<S: Drop>(link: &mut Option<MasterLink<S>>, standing: Standing)
 }
 
 /// Counts ticks while the lane is cut.
-fn count(tenure: &mut ResumeTimer, standing: Standing)
+fn count(tenure: &mut ResumeTimer, standing: ConnectionState)
     ensures { tenure.new ≡ term_in standing tenure.old }
 {
     match standing {
-        Standing::Up => {}
-        Standing::Cut => tenure.cut(),
-        Standing::Down => tenure.end(),
+        ConnectionState::Up => {}
+        ConnectionState::Cut => tenure.cut(),
+        ConnectionState::Down => tenure.end(),
     }
 }
 
@@ -187,7 +187,7 @@ impl<Y: Yard, S> LaneState<Y, S> {
     }
 
     /// How the lane stands.
-    pub(crate) fn standing(&self) -> Standing
+    pub(crate) fn standing(&self) -> ConnectionState
         ensures { result ≡ standing_of self.now.lane.trace }
     {
         standing_of(&self.reader)
@@ -203,10 +203,10 @@ impl<Y: Yard, S> LaneState<Y, S> {
         ensures { result ≡ rest_of is_lively (standing_of self.now.lane.trace) }
     {
         match self.standing() {
-            Standing::Up if is_lively => Rest::Message,
-            Standing::Up => Rest::Glance,
-            Standing::Cut => Rest::Tick,
-            Standing::Down => Rest::LaneRequest,
+            ConnectionState::Up if is_lively => Rest::Message,
+            ConnectionState::Up => Rest::Glance,
+            ConnectionState::Cut => Rest::Tick,
+            ConnectionState::Down => Rest::LaneRequest,
         }
     }
 

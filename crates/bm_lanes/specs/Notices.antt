@@ -9,8 +9,8 @@ use Rattle.bm_link.specs.declared.fault.LinkFault.TheVariants as link
 use Rattle.bm_operator.specs.declared.reasons.LossCause.TheVariants as cause
 use Rattle.bm_operator.specs.declared.reasons.LoginRefusal.{LoginRefusal}
 use Rattle.bm_operator.specs.declared.reasons.LoginRefusal.TheVariants as why
-use Rattle.bm_operator.specs.declared.worker_event.WorkerEvent.{WorkerEvent}
-use Rattle.bm_operator.specs.declared.worker_event.WorkerEvent.TheVariants as event
+use Rattle.bm_latent.specs.declared.worker_event.WorkerEvent.{WorkerEvent}
+use Rattle.bm_latent.specs.declared.worker_event.WorkerEvent.TheVariants as event
 use Rattle.bm_operator.specs.OneLine.{one_line}
 use Rattle.bm_operator.specs.Reasons.{refusal_text}
 use Rattle.bm_operator.specs.Remark.{login_line, lost_line}

@@ -1,5 +1,5 @@
 use Rattle.std.proofs.Common.{◌∙◌, ap, Bool, None, if◌then◌else◌}
-use Rattle.bm_operator.specs.Standing.{keeps_link}
+use Rattle.bm_lane_actor.specs.ConnectionState.{keeps_link}
 use Rattle.bm_lane_actor.proofs.Standings.{keeps_link_while_up}
 use Rattle.bm_lane_actor.proofs.lane_state.settle.Goals as goal
 

@@ -1,6 +1,6 @@
 use Rattle.std.proofs.Common.{sym}
-use Rattle.bm_lanes.proofs.Placing.{by_texts}
-use Rattle.bm_lanes.proofs.words.placed.Goals as goal
+use Rattle.bm_operator.proofs.Placing.{by_texts}
+use Rattle.bm_operator.proofs.program_words.placed.Goals as goal
 
 pub returns : goal.returns
 returns c =

@@ -1,22 +1,22 @@
 //! How a lane stands to its worker.
 
 ghost use Rattle.std.specs.Prelude.{◌≡◌};
-ghost use Rattle.bm_operator.specs.Standing.{keeps_link};
+ghost use Rattle.bm_lane_actor.specs.ConnectionState.{keeps_link};
 
 /// How a lane stands: a connection is attached to it, it was cut and its session may be resumed, or
 /// it has no session.
 #[derive(Clone, Copy, PartialEq, Eq)]
-pub enum Standing {
+pub enum ConnectionState {
     Up,
     Cut,
     Down,
 }
 
-impl Standing {
+impl ConnectionState {
     /// Whether the lane's link stays: no order is sent to a lane that was cut or given up.
     pub fn keeps_link(self) -> bool
         ensures { result ≡ keeps_link self }
     {
-        matches!(self, Standing::Up)
+        matches!(self, ConnectionState::Up)
     }
 }

@@ -2,7 +2,7 @@
 
 ghost use Rattle.std.specs.Prelude.{◌≡◌};
 ghost use Rattle.std.specs.Option.{is_some};
-ghost use Rattle.bm_operator.specs.ResumeTimer.{begun, cut_off, dismissed, is_over, kept, passed};
+ghost use Rattle.bm_lane_actor.specs.ResumeTimer.{begun, cut_off, dismissed, is_over, kept, passed};
 
 use std::marker::Model;
 
@@ -18,7 +18,7 @@ pub struct ResumeTimer {
 
 impl Model for ResumeTimer {
     ghost use Rattle.std.specs.Prelude.{◌≤◌, IfSome};
-    ghost use Rattle.bm_operator.specs.ResumeTimer.{Term};
+    ghost use Rattle.bm_lane_actor.specs.ResumeTimer.{Term};
 
     ghost Value = { Term };
 

@@ -1,9 +1,9 @@
 use Rattle.std.proofs.Common.{◌≡◌, ◌∙◌, ◌+◌, ◌++◌, ◌∷◌, [], List, ap, sym, subst, take, add-one}
 use Rattle.std.proofs.lemmas.List.{take_all}
 use Rattle.std.proofs.Math.Seq.{take-suc}
-use Rattle.bm_lanes.specs.Words.{IsEachPlaced}
-use Rattle.bm_lanes.proofs.Placing.{and_one}
-use Rattle.bm_lanes.proofs.words.place_master.Goals as goal
+use Rattle.bm_operator.specs.ProgramWords.{IsEachPlaced}
+use Rattle.bm_operator.proofs.Placing.{and_one}
+use Rattle.bm_operator.proofs.program_words.place_master.Goals as goal
 
 pub loop-word-preserved : goal.loop-word-preserved
 loop-word-preserved c =

@@ -2,7 +2,7 @@
 
 ghost use Rattle.std.specs.Prelude.{◌≡◌};
 ghost use Rattle.std.specs.Option.{is_some};
-ghost use Rattle.bm_operator.specs.PeerTimer.{after_care, care_at, heard_at, started, wanted_at};
+ghost use Rattle.bm_lane_actor.specs.PeerTimer.{after_care, care_at, heard_at, started, wanted_at};
 
 use std::marker::Model;
 
@@ -39,7 +39,7 @@ pub struct PeerTimer {
 }
 
 impl Model for PeerTimer {
-    ghost use Rattle.bm_operator.specs.PeerTimer.{Silence};
+    ghost use Rattle.bm_lane_actor.specs.PeerTimer.{Silence};
 
     ghost Value = { Silence };
 

@@ -1,7 +1,7 @@
 -- How a process that is to end is ended.
 use Rattle.std.specs.Prelude.{ℕ, ◌+◌, ◌-◌, ◌^◌, ◌==◌, min, nat_le, if◌then◌else◌, Option, Some, None}
-use Rattle.bm_operator.specs.declared.deadline.EndAct.{EndAct}
-use Rattle.bm_operator.specs.declared.deadline.EndAct.TheVariants as act
+use Rattle.bm_latent.specs.declared.deadline.EndAct.{EndAct}
+use Rattle.bm_latent.specs.declared.deadline.EndAct.TheVariants as act
 
 -- the ticks count from the first time on
 abbrev pub begun : Option ℕ → Option ℕ

@@ -1,6 +1,6 @@
 //! The words of a program that starts a worker.
 ghost use Rattle.std.specs.Prelude.{◌≡◌, IfOk};
-ghost use Rattle.bm_lanes.specs.Words.{IsEachPlaced, IsPlaced};
+ghost use Rattle.bm_operator.specs.ProgramWords.{IsEachPlaced, IsPlaced};
 
 use bm_board::Words;
 use bm_lines::Text;

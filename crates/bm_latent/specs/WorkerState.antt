@@ -7,23 +7,23 @@ use Rattle.bm_latent.specs.declared.event.LatentEvent.{LatentEvent}
 use Rattle.bm_latent.specs.declared.event.LatentEvent.TheVariants.{Want, Started as LatentStarted, Failed as LatentFailed, Attached as LatentAttached, Lost as LatentLost, IdleTick, Stopped as LatentStopped, Cut as LatentCut}
 use Rattle.bm_latent.specs.declared.event.Act.{Act}
 use Rattle.bm_latent.specs.declared.event.Act.TheVariants.{None as NoAct, Start as StartAct, Stop}
-use Rattle.bm_latent.specs.Latent.{Standing, standing_after, act_after}
-use Rattle.bm_operator.specs.declared.worker_event.WorkerEvent.{WorkerEvent}
-use Rattle.bm_operator.specs.declared.worker_event.WorkerEvent.TheVariants.{Wanted, Started, Failed, Attached, Cut, Lost, Stopped, Filled, Tick}
-use Rattle.bm_operator.specs.declared.worker_event.ProcessAction.{ProcessAction}
-use Rattle.bm_operator.specs.declared.worker_event.ProcessAction.TheVariants.{None as NoDuty, Start, Shutdown}
-use Rattle.bm_operator.specs.declared.worker_event.WorkerAction.{WorkerAction}
+use Rattle.bm_latent.specs.Latent.{LatentView, standing_after, act_after}
+use Rattle.bm_latent.specs.declared.worker_event.WorkerEvent.{WorkerEvent}
+use Rattle.bm_latent.specs.declared.worker_event.WorkerEvent.TheVariants.{Wanted, Started, Failed, Attached, Cut, Lost, Stopped, Filled, Tick}
+use Rattle.bm_latent.specs.declared.worker_event.ProcessAction.{ProcessAction}
+use Rattle.bm_latent.specs.declared.worker_event.ProcessAction.TheVariants.{None as NoAction, Start, Shutdown}
+use Rattle.bm_latent.specs.declared.worker_event.WorkerAction.{WorkerAction}
 
 -- the machine of a latent worker, whether a connection is attached to the lane, whether a process
 -- runs that the master started, and whether the lane takes nothing more
 pub record Known : Type 0 where
-  pub latent : Option Standing
+  pub latent : Option LatentView
   pub attached : Bool
   pub running : Bool
   pub full : Bool
 
 -- a worker of which nothing was heard
-abbrev pub newcomer : Option Standing → Known
+abbrev pub newcomer : Option LatentView → Known
 newcomer latent = record { latent = latent; attached = false; running = false; full = false }
 
 -- what the machine of a latent worker is told, in this order: no want of a lane that is full; an
@@ -41,13 +41,13 @@ told p Filled = []
 told p (Tick has_build) = if has_build then [] else IdleTick ∷ []
 
 -- where the machine stands after these, and what it asked for at the last of them
-abbrev pub machine_after : Standing → List LatentEvent → Standing × Act
+abbrev pub machine_after : LatentView → List LatentEvent → LatentView × Act
 machine_after w [] = (w, NoAct)
 machine_after w (e ∷ []) = (standing_after w e, act_after w e)
 machine_after w (d ∷ e ∷ es) = machine_after (standing_after w d) (e ∷ es)
 
 -- where the machine stands after the event, if there is one
-abbrev pub latent_after : Known → WorkerEvent → Option Standing
+abbrev pub latent_after : Known → WorkerEvent → Option LatentView
 latent_after p event = option_map (λ w. (machine_after w (told p event)).0) p.latent
 
 abbrev pub is_attached_after : Bool → WorkerEvent → Bool
@@ -114,9 +114,9 @@ abbrev pub is_dismissed : Known → WorkerEvent → Act → Bool
 is_dismissed after Attached act = option_map_or (λ w. is_stopping w.state) after.latent false
 is_dismissed after event act = after.attached && is_stop act
 
-abbrev pub process_duty : Known → WorkerEvent → Act → ProcessAction
-process_duty after event act =
-    if is_start act then Start else (if is_dismissed after event act then Shutdown else NoDuty)
+abbrev pub process_action : Known → WorkerEvent → Act → ProcessAction
+process_action after event act =
+    if is_start act then Start else (if is_dismissed after event act then Shutdown else NoAction)
 
 -- its process was started, and its worker has not logged in
 abbrev pub is_substantiating : LatentState → Bool
@@ -133,11 +133,11 @@ gives_up p Stopped = option_map_or (λ w. is_substantiating w.state) p.latent fa
 gives_up p event = false
 
 -- what is to be done after the event
-abbrev pub duty_of : Known → WorkerEvent → WorkerAction
-duty_of p event =
+abbrev pub action_of : Known → WorkerEvent → WorkerAction
+action_of p event =
     record {
       ready = is_ready (known_after p event);
-      process = process_duty (known_after p event) event (act_of p event);
+      process = process_action (known_after p event) event (act_of p event);
       gives_up = gives_up p event;
     }
 

@@ -1,7 +1,7 @@
 //! How a process that is to end is ended.
 
 ghost use Rattle.std.specs.Prelude.{◌≡◌, None};
-ghost use Rattle.bm_operator.specs.Deadline.{act_at, after_tick, begun};
+ghost use Rattle.bm_latent.specs.Deadline.{act_at, after_tick, begun};
 
 use std::marker::Model;
 
@@ -23,7 +23,7 @@ pub enum EndAct {
 }
 
 /// Counts the ticks since a process is to end: it has two seconds to do so by itself, is asked then,
-/// and killed ten seconds after the beginning. A tick is 10 milliseconds.
+/// and killed ten seconds after the beginning. A tick is `TICK_MS`.
 #[derive(Drop)]
 pub struct Deadline {
     ticks: Option<u32>,

@@ -1,7 +1,7 @@
 //! The limits of a step.
 
 ghost use Rattle.std.specs.Prelude.{◌≡◌, None};
-ghost use Rattle.bm_operator.specs.StepMeter.{fresh, is_given_up, meter_after, outcome_of, reached_at};
+ghost use Rattle.bm_lane_actor.specs.StepMeter.{fresh, is_given_up, meter_after, outcome_of, reached_at};
 
 use crate::reasons::StepLimit;
 use bm_session::Results;
@@ -22,7 +22,7 @@ pub struct StepMeter {
 }
 
 impl Model for StepMeter {
-    ghost use Rattle.bm_operator.specs.StepMeter.{Metered};
+    ghost use Rattle.bm_lane_actor.specs.StepMeter.{Metered};
 
     ghost Value = { Metered };
 

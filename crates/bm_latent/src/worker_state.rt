@@ -3,10 +3,11 @@
 ghost use Rattle.std.specs.Prelude.{◌≡◌, ◌≤◌, Some, None, false};
 ghost use Rattle.bm_latent.specs.declared.event.LatentState;
 ghost use Rattle.std.specs.Option.{option_map_or};
-ghost use Rattle.bm_operator.specs.WorkerState.{act_of, duty_of, gives_up, is_needless, is_ready, is_stopping, is_timed, known_after, latent_after, newcomer, process_duty};
+ghost use Rattle.bm_latent.specs.WorkerState.{act_of, action_of, gives_up, is_needless, is_ready, is_stopping, is_timed, known_after, latent_after, newcomer, process_action};
 
+use crate::event::{Act, LatentEvent, LatentState};
+use crate::machine::Latent;
 use crate::worker_event::{ProcessAction, WorkerAction, WorkerEvent};
-use bm_latent::{Act, Latent, LatentEvent, LatentState};
 use std::marker::Model;
 
 /// What a build master knows of one worker. One that isn't latent takes builds while its connection
@@ -22,15 +23,15 @@ pub struct WorkerState {
 }
 
 impl Model for WorkerState {
-    ghost use Rattle.bm_operator.specs.WorkerState.{Known};
+    ghost use Rattle.bm_latent.specs.WorkerState.{Known};
 
     ghost Value = { Known };
 
-    ghost view = { λ p. record {
-      latent = p.latent;
-      attached = p.attached;
-      running = p.running;
-      full = p.full;
+    ghost view = { λ w. record {
+      latent = w.latent;
+      attached = w.attached;
+      running = w.running;
+      full = w.full;
     } };
 }
 
@@ -65,7 +66,7 @@ impl WorkerState {
     /// Something happened to the worker. Answers what is to be done.
     pub fn hear(&mut self, event: WorkerEvent) -> WorkerAction
         ensures known { self.new ≡ known_after self.old event }
-        ensures duty { result ≡ duty_of self.old event }
+        ensures action { result ≡ action_of self.old event }
     {
         let gives_up = self.gives_up(event);
         let act = self.tell_machine(event);
@@ -82,7 +83,7 @@ impl WorkerState {
         self.full = self.full || event == WorkerEvent::Filled;
         WorkerAction {
             ready: self.is_ready(),
-            process: self.process_duty(event, act),
+            process: self.process_action(event, act),
             gives_up,
         }
     }
@@ -136,8 +137,8 @@ impl WorkerState {
     }
 
     // What is to be done with the process: the machine has heard of the event.
-    fn process_duty(&self, event: WorkerEvent, act: Act) -> ProcessAction
-        ensures { result ≡ process_duty self.now event act }
+    fn process_action(&self, event: WorkerEvent, act: Act) -> ProcessAction
+        ensures { result ≡ process_action self.now event act }
     {
         if act == Act::Start {
             return ProcessAction::Start;

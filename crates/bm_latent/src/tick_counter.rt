@@ -2,10 +2,14 @@
 
 ghost use Rattle.std.specs.Prelude.{◌≡◌, ◌≤◌, ◌-◌, ◌/◌, ◌^◌, min};
 ghost use Rattle.std.specs.Duration.{as_nanos};
-ghost use Rattle.bm_operator.specs.TickCounter.{after_count, after_telling, ended, told_at};
+ghost use Rattle.bm_latent.specs.TickCounter.{after_count, after_telling, ended, told_at};
 
 use std::marker::Model;
 use std::time::Duration;
+
+/// How long a tick is, in milliseconds: of the master's threads, and of the counts of ticks in its
+/// configuration.
+pub const TICK_MS: u64 = 10;
 
 /// How many ticks are told of at once at the most, where who tells was late.
 const MOST_TICKS: u64 = 100;
@@ -32,7 +36,7 @@ pub struct TickCounter {
 
 impl Model for TickCounter {
     ghost use Rattle.std.specs.Prelude.{◌≤◌};
-    ghost use Rattle.bm_operator.specs.TickCounter.{Counted};
+    ghost use Rattle.bm_latent.specs.TickCounter.{Counted};
 
     ghost Value = { Counted };
 

@@ -1,8 +1,8 @@
 -- When a silent worker is asked for a sign of life, and when it is taken for dead.
 use Rattle.std.specs.Prelude.{ℕ, ◌-◌, ◌==◌, Bool, true, false, ◌&&◌, ◌||◌, not, nat_le, if◌then◌else◌, Option, Some, None}
 use Rattle.std.specs.Option.{option_map_or}
-use Rattle.bm_operator.specs.declared.peer_timer.Care.{Care}
-use Rattle.bm_operator.specs.declared.peer_timer.Care.TheVariants as care
+use Rattle.bm_lane_actor.specs.declared.peer_timer.Care.{Care}
+use Rattle.bm_lane_actor.specs.declared.peer_timer.Care.TheVariants as care
 
 -- the count of what came from the worker, when it was first seen, whether the worker was asked
 -- since, and since when another connection asks for its lane; times are in milliseconds
