@@ -16,20 +16,20 @@ use Rattle.bm_latent.specs.declared.worker_event.WorkerAction.{WorkerAction}
 
 -- the machine of a latent worker, whether a connection is attached to the lane, whether a process
 -- runs that the master started, and whether the lane takes nothing more
-pub record Known : Type 0 where
+pub record WorkerView : Type 0 where
   pub latent : Option LatentView
   pub attached : Bool
   pub running : Bool
   pub full : Bool
 
 -- a worker of which nothing was heard
-abbrev pub newcomer : Option LatentView → Known
+abbrev pub newcomer : Option LatentView → WorkerView
 newcomer latent = record { latent = latent; attached = false; running = false; full = false }
 
 -- what the machine of a latent worker is told, in this order: no want of a lane that is full; an
 -- idle tick only where the worker has no build; a worker that no process of ours is behind has stopped
 -- once it is lost; and the end of a process is nothing while its worker is attached
-abbrev pub told : Known → WorkerEvent → List LatentEvent
+abbrev pub told : WorkerView → WorkerEvent → List LatentEvent
 told p Wanted = if p.full then [] else Want ∷ []
 told p Started = LatentStarted ∷ []
 told p Failed = LatentFailed ∷ []
@@ -47,7 +47,7 @@ machine_after w (e ∷ []) = (standing_after w e, act_after w e)
 machine_after w (d ∷ e ∷ es) = machine_after (standing_after w d) (e ∷ es)
 
 -- where the machine stands after the event, if there is one
-abbrev pub latent_after : Known → WorkerEvent → Option LatentView
+abbrev pub latent_after : WorkerView → WorkerEvent → Option LatentView
 latent_after p event = option_map (λ w. (machine_after w (told p event)).0) p.latent
 
 abbrev pub is_attached_after : Bool → WorkerEvent → Bool
@@ -77,11 +77,11 @@ is_full_after before Filled = true
 is_full_after before event = before
 
 -- what the machine asks for, nothing where there is none
-abbrev pub act_of : Known → WorkerEvent → Act
+abbrev pub act_of : WorkerView → WorkerEvent → Act
 act_of p event = option_map_or (λ w. (machine_after w (told p event)).1) p.latent NoAct
 
 -- what the master knows after the event
-abbrev pub known_after : Known → WorkerEvent → Known
+abbrev pub known_after : WorkerView → WorkerEvent → WorkerView
 known_after p event =
     record {
       latent = latent_after p event;
@@ -102,19 +102,19 @@ is_stopping state = false
 
 -- a worker takes builds while it is attached, a latent one while it is substantiated, none on a
 -- full lane
-abbrev pub is_ready : Known → Bool
+abbrev pub is_ready : WorkerView → Bool
 is_ready p = not p.full && option_map_or (λ w. is_substantiated w.state) p.latent p.attached
 
 -- ticks count while a process runs and while a worker may idle
-abbrev pub is_timed : Known → Bool
+abbrev pub is_timed : WorkerView → Bool
 is_timed p = p.running || option_map_or (λ w. is_substantiated w.state) p.latent false
 
 -- a worker that is to stop is told so where it is attached: when it is to stop, or once it is back
-abbrev pub is_dismissed : Known → WorkerEvent → Act → Bool
+abbrev pub is_dismissed : WorkerView → WorkerEvent → Act → Bool
 is_dismissed after Attached act = option_map_or (λ w. is_stopping w.state) after.latent false
 is_dismissed after event act = after.attached && is_stop act
 
-abbrev pub process_action : Known → WorkerEvent → Act → ProcessAction
+abbrev pub process_action : WorkerView → WorkerEvent → Act → ProcessAction
 process_action after event act =
     if is_start act then Start else (if is_dismissed after event act then Shutdown else NoAction)
 
@@ -125,7 +125,7 @@ is_substantiating state = false
 
 -- builds that wait are given up where their worker will not come: its process could not be started,
 -- or ended before it logged in, or its lane takes nothing more
-abbrev pub gives_up : Known → WorkerEvent → Bool
+abbrev pub gives_up : WorkerView → WorkerEvent → Bool
 gives_up p Wanted = p.full
 gives_up p Failed = true
 gives_up p Filled = true
@@ -133,7 +133,7 @@ gives_up p Stopped = option_map_or (λ w. is_substantiating w.state) p.latent fa
 gives_up p event = false
 
 -- what is to be done after the event
-abbrev pub action_of : Known → WorkerEvent → WorkerAction
+abbrev pub action_of : WorkerView → WorkerEvent → WorkerAction
 action_of p event =
     record {
       ready = is_ready (known_after p event);
@@ -142,7 +142,7 @@ action_of p event =
     }
 
 -- its process was started and no build waits for it: it is to be ended
-abbrev pub is_needless : Known → Bool → Bool
+abbrev pub is_needless : WorkerView → Bool → Bool
 is_needless p wanted =
     not wanted
     && (p.running && option_map_or (λ w. is_substantiating w.state) p.latent false)

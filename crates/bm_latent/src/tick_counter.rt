@@ -36,9 +36,9 @@ pub struct TickCounter {
 
 impl Model for TickCounter {
     ghost use Rattle.std.specs.Prelude.{◌≤◌};
-    ghost use Rattle.bm_latent.specs.TickCounter.{Counted};
+    ghost use Rattle.bm_latent.specs.TickCounter.{CounterView};
 
-    ghost Value = { Counted };
+    ghost Value = { CounterView };
 
     ghost view = { λ p. record { tick = p.tick; last = p.last } };
 

@@ -23,9 +23,9 @@ pub struct WorkerState {
 }
 
 impl Model for WorkerState {
-    ghost use Rattle.bm_latent.specs.WorkerState.{Known};
+    ghost use Rattle.bm_latent.specs.WorkerState.{WorkerView};
 
-    ghost Value = { Known };
+    ghost Value = { WorkerView };
 
     ghost view = { λ w. record {
       latent = w.latent;
@@ -65,7 +65,7 @@ impl WorkerState {
 
     /// Something happened to the worker. Answers what is to be done.
     pub fn hear(&mut self, event: WorkerEvent) -> WorkerAction
-        ensures known { self.new ≡ known_after self.old event }
+        ensures worker { self.new ≡ known_after self.old event }
         ensures action { result ≡ action_of self.old event }
     {
         let gives_up = self.gives_up(event);
@@ -91,7 +91,7 @@ impl WorkerState {
     // Tells the machine of a latent worker what it is to hear of the event. Answers what it asks
     // for.
     fn tell_machine(&mut self, event: WorkerEvent) -> Act
-        ensures known { self.new ≡ record {
+        ensures worker { self.new ≡ record {
           latent = latent_after self.old event;
           attached = self.old.attached;
           running = self.old.running;
