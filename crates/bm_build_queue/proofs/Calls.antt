@@ -11,7 +11,7 @@ use Rattle.bm_board.specs.declared.scheduled_build.Phase.TheVariants.{Waiting, R
 use Rattle.bm_board.specs.declared.scheduled_build.Started.{Started}
 use Rattle.bm_board.specs.declared.steps.Next.{Next}
 use Rattle.bm_board.specs.declared.steps.Next.TheVariants.{Step, Ended}
-use Rattle.bm_board.specs.declared.worker_slots.Worker.{Worker}
+use Rattle.bm_board.specs.declared.worker_slots.WorkerSlots.{WorkerSlots}
 use Rattle.bm_board.specs.declared.refusal.BoardRefusal.{BoardRefusal}
 use Rattle.bm_board.specs.declared.refusal.BoardRefusal.TheVariants.{NoBuild}
 use Rattle.bm_board.specs.ScheduledBuild.{Course, Outcome, answer_of, cancel, cancel_in, finish, finish_in, first_of, give_up, give_up_in, is_waiting, is_holding, phase_of, release, release_in, started}
@@ -178,7 +178,7 @@ same_worker b b' owners waiting running id one other =
     place_of b.jobs id ∙ ap (λ (xs : List ℕ). get_or xs id 0) (sym one.builds ∙ other.builds) ∙ sym (place_of b'.jobs id)
 
 -- a worker with a place is there
-place_there : (b : Standing) (w : ℕ) (test : Worker → Bool) (o : Option Worker) → slice_get b.workers w ≡ o → option_map_or test o false ≡ true → w < length b.workers
+place_there : (b : Standing) (w : ℕ) (test : WorkerSlots → Bool) (o : Option WorkerSlots) → slice_get b.workers w ≡ o → option_map_or test o false ≡ true → w < length b.workers
 place_there b w test None e h = absurd (true≢false (sym h))
 place_there b w test (Some worker) e h = slice_get_within b.workers w worker e
 
