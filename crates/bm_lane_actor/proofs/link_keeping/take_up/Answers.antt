@@ -1,6 +1,6 @@
 use Rattle.std.proofs.Common.{ap, length}
 use Rattle.bm_lane_actor.proofs.Serving.{renews}
-use Rattle.bm_lane_actor.proofs.lane_state.take_up.Goals as goal
+use Rattle.bm_lane_actor.proofs.link_keeping.take_up.Goals as goal
 
 pub returns : goal.returns
 returns g c = (

@@ -1,7 +1,7 @@
 use Rattle.std.proofs.Common.{◌∙◌, ap, Bool, None, if◌then◌else◌}
 use Rattle.bm_lane_actor.specs.ConnectionState.{keeps_link}
 use Rattle.bm_lane_actor.proofs.ConnectionStates.{keeps_link_while_up}
-use Rattle.bm_lane_actor.proofs.lane_state.settle.Goals as goal
+use Rattle.bm_lane_actor.proofs.link_keeping.settle.Goals as goal
 
 pub returns-clause-link : goal.returns-clause-link
 returns-clause-link g c =
