@@ -1,6 +1,10 @@
 //! The configuration of a build master: what a text in TOML (toml.io, version 1.1) says of its
-//! addresses, workers, locks
-//! and builds, or the first key at fault.
+//! addresses, workers, locks and builds.
+//!
+//! Promised: [`read_config`] answers the configuration that `specs/Config.antt` reads in the text's
+//! table, or the first key at fault in it. Which table a text says is the promise of `toml`.
+//!
+//! A body could still answer want of memory for any text: tests run it on memory that suffices.
 #![tactic(auto)]
 
 mod builds;
