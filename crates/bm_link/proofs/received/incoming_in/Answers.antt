@@ -3,7 +3,7 @@ use Rattle.bm_value.specs.View.{tree}
 use Rattle.bm_link.specs.declared.fault.LinkFault.{LinkFault}
 use Rattle.bm_link.specs.declared.fault.LinkFault.TheVariants.{BadMessage, Mem}
 use Rattle.bm_link.proofs.Unread.{unread_kinds, unsaid}
-use Rattle.bm_link.proofs.asked.incoming_in.Goals as goal
+use Rattle.bm_link.proofs.received.incoming_in.Goals as goal
 
 -- it says nothing
 pub returns-in-Err-clause-bad : goal.returns-in-Err-clause-bad

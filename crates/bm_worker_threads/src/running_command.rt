@@ -1,6 +1,6 @@
 //! A command whose process was started.
 
-ghost use Rattle.std.specs.Prelude.{◌≡◌};
+ghost use Rattle.std.specs.Prelude.{◌≡◌, IfSome};
 ghost use Rattle.bm_worker_threads.specs.Turns.{ready_of};
 
 use bm_outbox::{ExitCode, Pipes, Ready, Said};
@@ -10,9 +10,9 @@ use std::process::Child;
 
 /// A command whose process was started.
 #[derive(Drop)]
-pub(crate) struct Job {
+pub(crate) struct RunningCommand {
+    /// The number of its process, which no other process of the worker has.
     pub(crate) number: u64,
-    pub(crate) command: u64,
     pub(crate) child: Child,
     pub(crate) pipes: Pipes,
     /// What its pipes gave and isn't told yet.
@@ -21,9 +21,10 @@ pub(crate) struct Job {
     pub(crate) permits: Sender<()>,
     /// How it ended, once that is known.
     pub(crate) code: Option<ExitCode>,
+    pub(crate) ghost own: { IfSome code (λ c. c.command ≡ pipes.command) },
 }
 
-impl Job {
+impl RunningCommand {
     /// Whether all that the process printed was taken, and how it ended isn't known yet.
     pub(crate) fn is_ending(&self) -> bool {
         self.pipes.are_over() && self.code.is_none()

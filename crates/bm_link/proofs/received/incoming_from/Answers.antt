@@ -1,7 +1,7 @@
 use Rattle.bm_value.specs.View.{tree}
-use Rattle.bm_link.specs.Asked.{IsSaid}
+use Rattle.bm_link.specs.Received.{IsSaid}
 use Rattle.bm_link.proofs.Spelled.{told_of_tree, untold_of_tree}
-use Rattle.bm_link.proofs.asked.incoming_from.Goals as goal
+use Rattle.bm_link.proofs.received.incoming_from.Goals as goal
 
 pub returns-in-Ok-clause-told : goal.returns-in-Ok-clause-told
 returns-in-Ok-clause-told c =
