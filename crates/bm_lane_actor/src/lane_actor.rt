@@ -9,7 +9,7 @@ use crate::drain_gate::DrainGate;
 use crate::lane_event::{EventSink, LaneEvent, event_after, loss_of};
 use crate::lane_request::{LaneRequest, LaneSignal};
 use crate::lane_state::{LaneState, Rest};
-use crate::mailbox::{Mailbox, Received};
+use crate::mailbox::{Mailbox, NextRequest};
 use crate::order_outcome::OrderOutcome;
 use crate::peer_timer::{PeerAction, PeerTimer};
 use crate::stream::{Timed, WorkerStream};
@@ -159,11 +159,11 @@ where
     }
 
     /// Obeys what was in the mailbox, or hears the worker where nothing was.
-    fn takes(&mut self, received: Received<WorkerStream<S, R>>) -> bool {
-        match received {
-            Received::Request(request) => self.obeys(request),
-            Received::Nothing => self.turn(),
-            Received::Left => return false,
+    fn takes(&mut self, next: NextRequest<WorkerStream<S, R>>) -> bool {
+        match next {
+            NextRequest::Request(request) => self.obeys(request),
+            NextRequest::Nothing => self.turn(),
+            NextRequest::Left => return false,
         }
         true
     }
@@ -172,9 +172,9 @@ where
     fn takes_all(&mut self, mailbox: &Mailbox<WorkerStream<S, R>>) -> bool {
         for _ in 0..MOST_REQUESTS {
             match mailbox.look(self.rt) {
-                Received::Request(request) => self.obeys(request),
-                Received::Nothing => return true,
-                Received::Left => return false,
+                NextRequest::Request(request) => self.obeys(request),
+                NextRequest::Nothing => return true,
+                NextRequest::Left => return false,
             }
         }
         true
