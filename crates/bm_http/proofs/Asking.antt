@@ -1,6 +1,6 @@
 -- What a request asks for, by what is found of its path.
 use Rattle.std.proofs.Common.{◌≡◌, ℕ, List, Some, None, true, false, cond, bytes_eq, codes, refl, sym, ap}
-use Rattle.bm_http.specs.Numbers.{number_of}
+use Rattle.bm_decimal.specs.Decimals.{number_of}
 use Rattle.bm_http.specs.Paths.{Names}
 use Rattle.bm_http.specs.Targets.{path_of, query_of}
 use Rattle.bm_http.specs.Requests.{Asks, refused, page_asked}

@@ -3,7 +3,7 @@ use Rattle.std.specs.Prelude.{◌≡◌, ℕ, ◌-◌, ◌^◌, bytes_eq, List, 
 use Rattle.bm_lines.specs.Names.{Name, stdio}
 use Rattle.bm_http.specs.declared.refusal.Refusal.{Refusal}
 use Rattle.bm_http.specs.declared.refusal.Refusal.TheVariants.{NoSuchPage, MethodNotAllowed, NoSuchLog, BadNumber}
-use Rattle.bm_http.specs.Numbers.{number_of}
+use Rattle.bm_decimal.specs.Decimals.{number_of}
 use Rattle.bm_http.specs.Paths.{Names}
 use Rattle.bm_http.specs.Targets.{parameter, number_or, path_of, query_of}
 use Rattle.bm_http.specs.declared.paths.Page.{Page}

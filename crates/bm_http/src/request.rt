@@ -1,6 +1,6 @@
 //! What requests ask for.
 ghost use Rattle.std.specs.Prelude.{◌≡◌, ◌<◌, ◌-◌, ◌^◌, IfOk, codes, length};
-ghost use Rattle.bm_http.specs.Numbers.{number_of};
+ghost use Rattle.bm_decimal.specs.Decimals.{number_of};
 ghost use Rattle.bm_http.specs.Targets.{number_or, parameter};
 ghost use Rattle.bm_http.specs.Requests.{lines_asked, name_in, page_asked};
 ghost use Rattle.bm_http.specs.Replies.{Answers, SeesOn};

@@ -1,7 +1,7 @@
 //! The parts of a request's target.
 ghost use Rattle.std.specs.Prelude.{◌≡◌, IfOk, option_map, if◌then◌else◌, bytes_eq, Some};
 ghost use Rattle.std.specs.Cow.{cow_str_bytes};
-ghost use Rattle.bm_http.specs.Numbers.{number_of};
+ghost use Rattle.bm_decimal.specs.Decimals.{number_of};
 ghost use Rattle.bm_http.specs.Targets.{from_slash, local_path, number_or, parameter, path_of, query_of};
 ghost use Rattle.bm_http.specs.Requests.{name_in};
 

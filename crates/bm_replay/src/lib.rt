@@ -5,7 +5,6 @@ mod answers;
 mod arguments;
 mod incoming;
 pub mod laws;
-mod numbers;
 mod replay;
 mod script;
 
