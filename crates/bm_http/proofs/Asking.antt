@@ -5,7 +5,7 @@ use Rattle.bm_http.specs.Paths.{Names}
 use Rattle.bm_http.specs.Targets.{path_of, query_of}
 use Rattle.bm_http.specs.Requests.{Asks, refused, page_asked}
 use Rattle.bm_http.specs.declared.paths.Page.{Page}
-use Rattle.bm_http.specs.declared.refusal.Refusal.TheVariants.{NoSuchPage, MethodNotAllowed}
+use Rattle.bm_http.specs.declared.request_refusal.RequestRefusal.TheVariants.{NoSuchPage, MethodNotAllowed}
 
 pub Asks-missing : (method target : List ℕ) → ((page : Page) (id : List ℕ) → ¬ Names (path_of target) page id) → Asks method target (refused NoSuchPage)
 Asks-missing method target h = (None, h, refl)

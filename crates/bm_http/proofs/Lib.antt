@@ -7,3 +7,4 @@ pub mod Pairs
 pub mod Asking
 pub mod Once
 pub mod LongAnswers
+pub mod Placing

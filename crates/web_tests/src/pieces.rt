@@ -2,7 +2,7 @@
 ghost use Rattle.std.specs.Prelude.{◌≡◌};
 
 use crate::lanes::shown;
-use bm_http::{LongAnswer, Piece, Routes, WholeOrLong};
+use bm_http::{LongAnswer, BodyPiece, Routes, WholeOrLong};
 use bm_lane::{Blank, Viewer, Yard, open};
 use std::alloc::{AllocError, AllocGlobal, Global};
 use std::marker::Brand;
@@ -47,7 +47,7 @@ fn long_answer<Y: Yard>(
 }
 
 // Whether the piece's bytes could be added.
-fn is_added(alloc: Global, all: &mut Vec<u8>, piece: Piece) -> bool {
+fn is_added(alloc: Global, all: &mut Vec<u8>, piece: BodyPiece) -> bool {
     match piece.told(alloc) {
         Ok(bytes) => all.extend_from_slice(bytes.as_slice()).is_ok(),
         Err(_) => false,
