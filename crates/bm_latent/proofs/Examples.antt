@@ -1,6 +1,6 @@
 -- Worked runs of a latent worker, as closed examples of the table.
 use Rattle.std.proofs.Common.{◌≡◌, ℕ, List, [], ◌∷◌, refl}
-use Rattle.bm_latent.specs.Latent.{Standing, standing_after, act_after}
+use Rattle.bm_latent.specs.Latent.{LatentView, standing_after, act_after}
 use Rattle.bm_latent.specs.declared.event.LatentState.TheVariants.{Not}
 use Rattle.bm_latent.specs.declared.event.LatentEvent.{LatentEvent}
 use Rattle.bm_latent.specs.declared.event.LatentEvent.TheVariants.{Want, Started, Attached, Lost, IdleTick, Stopped, Cut}
@@ -8,12 +8,12 @@ use Rattle.bm_latent.specs.declared.event.Act.{Act}
 use Rattle.bm_latent.specs.declared.event.Act.TheVariants.{None, Start, Give, Stop, Hold}
 
 -- what is to be done after each of the events
-abbrev acts : Standing → List LatentEvent → List Act
+abbrev acts : LatentView → List LatentEvent → List Act
 acts w [] = []
 acts w (event ∷ events) = act_after w event ∷ acts (standing_after w event) events
 
 -- a new worker with this limit
-abbrev fresh : ℕ → Standing
+abbrev fresh : ℕ → LatentView
 fresh limit = record { state = Not; idle = 0; limit = limit }
 
 -- a loss stops the worker, a want that comes meanwhile starts it again, and the third idle tick stops it

@@ -8,7 +8,7 @@ use Rattle.bm_latent.specs.declared.event.Act.{Act}
 use Rattle.bm_latent.specs.declared.event.Act.TheVariants.{None, Start, Give, Stop, Hold}
 
 -- the state, how many idle ticks were counted, and how many stop the worker
-pub record Standing : Type 0 where
+pub record LatentView : Type 0 where
   pub state : LatentState
   pub idle : ℕ
   pub limit : ℕ
@@ -44,14 +44,14 @@ idle_after Substantiated IdleTick idle = idle + 1
 idle_after state event idle = idle
 
 -- the row that holds where the worker stands
-abbrev pub row_at : Standing → LatentEvent → LatentState × Act
+abbrev pub row_at : LatentView → LatentEvent → LatentState × Act
 row_at w event = row w.state event (nat_le w.limit (w.idle + 1))
 
 -- where the worker stands after the event
-abbrev pub standing_after : Standing → LatentEvent → Standing
+abbrev pub standing_after : LatentView → LatentEvent → LatentView
 standing_after w event =
     record { state = (row_at w event).0; idle = idle_after w.state event w.idle; limit = w.limit }
 
 -- what is to be done after the event
-abbrev pub act_after : Standing → LatentEvent → Act
+abbrev pub act_after : LatentView → LatentEvent → Act
 act_after w event = (row_at w event).1

@@ -1,2 +1,7 @@
--- The whole meaning of a latent worker, to be believed: its table and what it counts.
+-- All of these must be believed. The table of a latent worker and what it counts:
 pub mod Latent
+-- what a master knows of a worker, and what it does after each event;
+pub mod WorkerState
+-- how a process that is to end is ended, and how ticks are counted.
+pub mod Deadline
+pub mod TickCounter

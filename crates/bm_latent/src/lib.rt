@@ -1,10 +1,24 @@
-//! A latent worker: one whose process is started once a build wants it, and stopped once it has
-//! been idle for long enough (Buildbot manual, "Latent Workers"). The machine decides alone; who
-//! drives it starts and stops the process.
+//! What a build master knows of its workers, and what it does with a worker's process. It decides
+//! alone: who drives it starts, stops and ends the process.
+//!
+//! [`Latent`] is the table of a latent worker, whose process is started once a build wants it, and
+//! stopped once it has been idle for long enough (Buildbot manual, "Latent Workers").
+//! [`WorkerState`] says which worker takes builds. [`Deadline`] says when a process that is to end
+//! is killed, [`TickCounter`] how many ticks have passed. Each call is proved to be what `specs/`
+//! says. A body could still get away with nothing here; a driver could, which tells an event too
+//! late, twice or never.
 #![tactic(auto)]
 
+mod deadline;
 mod event;
 mod machine;
+mod tick_counter;
+mod worker_event;
+mod worker_state;
 
+pub use deadline::{Deadline, EndAct};
 pub use event::{Act, LatentEvent, LatentState};
 pub use machine::Latent;
+pub use tick_counter::{TICK_MS, TickCounter, millis};
+pub use worker_event::{ProcessAction, WorkerAction, WorkerEvent};
+pub use worker_state::WorkerState;

@@ -17,9 +17,9 @@ pub struct Latent {
 impl Model for Latent {
     ghost use Rattle.std.specs.Prelude.{◌≡◌, ◌<◌, ◌≤◌};
     ghost use Rattle.bm_latent.specs.declared.event.LatentState.TheVariants.{Substantiated};
-    ghost use Rattle.bm_latent.specs.Latent.{Standing};
+    ghost use Rattle.bm_latent.specs.Latent.{LatentView};
 
-    ghost Value = { Standing };
+    ghost Value = { LatentView };
 
     ghost view = { λ w. record { state = w.state; idle = w.idle; limit = w.limit } };
 

@@ -3,8 +3,7 @@
 use crate::common::{Common, Guest};
 use crate::events::{MasterEvent, Refused};
 use bm_lane::Yard;
-use bm_lane_actor::{LOGIN_MS, WorkerStream, greet};
-use bm_lanes::refusal_in;
+use bm_lane_actor::{LOGIN_MS, WorkerStream, log_in, refusal_in};
 use bm_operator::LoginRefusal;
 use std::net::{SocketAddr, TcpListener, TcpStream};
 use std::sync::atomic::Ordering;
@@ -37,7 +36,7 @@ where
     let began = Instant::now(rt).ok();
     let (users, doors) = (common.users.as_slice(), common.doors.as_slice());
     let mut name = None;
-    if let Err(fault) = greet(rt, common.alloc, stream, users, doors, &mut name) {
+    if let Err(fault) = log_in(rt, common.alloc, stream, users, doors, &mut name) {
         let took = began.and_then(|began| began.elapsed(rt).ok());
         let is_late = took.is_some_and(|took| took >= Duration::from_millis(LOGIN_MS));
         let why = refusal_in(fault, common.is_over.load(Ordering::SeqCst), is_late);

@@ -6,8 +6,7 @@ use crate::events::{EventSender, MasterEvent, Returned, Step};
 use bm_board::{Build, StepPlan};
 use bm_build_queue::Assignment;
 use bm_lane::{Viewer, Yard};
-use bm_lane_actor::{LaneHandle, LanePort, Watch};
-use bm_lanes::door_of;
+use bm_lane_actor::{LaneHandle, LanePort, Watch, handle_of};
 use bm_lines::Text;
 use bm_operator::{StartRefusal, StepEvent, StepLimit};
 use bm_runner::run_build;
@@ -142,7 +141,7 @@ fn job_of<Y: Yard, R: Wait + Clock + Drop>(
     doors: &[LaneHandle<Guest<R>>],
     commission: Assignment<Y>,
 ) -> Result<Job<Y, R>, Assignment<Y>> {
-    let Some(door) = door_of(doors, commission.worker) else {
+    let Some(door) = handle_of(doors, commission.worker) else {
         return Err(commission);
     };
     let Ok(door) = door.copy() else {

@@ -6,13 +6,13 @@ use crate::builds::start_build;
 use crate::common::Common;
 use crate::events::{EventReceiver, MasterEvent, Returned};
 use crate::remarks::Remarks;
-use crate::ticker::{TICK, Ticker};
+use crate::ticker::Ticker;
 use crate::worker_entry::WorkerEntry;
 use bm_build_queue::{BuildQueue, Cancelled, ViewerPool};
 use bm_lane::{Viewer, Yard};
-use bm_lane_actor::{LaneEvent, Signal};
-use bm_lanes::{event_of, fills, remark_of};
-use bm_operator::{OutputLine, ProcessAction, RateLimit, Remark, WorkerAction, WorkerEvent};
+use bm_lane_actor::{LaneEvent, LaneSignal, event_of, fills, remark_of};
+use bm_latent::{ProcessAction, TICK_MS, WorkerAction, WorkerEvent};
+use bm_operator::{OutputLine, RateLimit, Remark};
 use bm_session::Results;
 use std::io::Write;
 use std::process::{Processes, SystemProcess};
@@ -117,7 +117,7 @@ where
     // Has the worker told to shut down.
     fn dismiss(&mut self, worker: usize) {
         if let Some(door) = self.common.doors.get(worker) {
-            door.signal(&self.common.rt, Signal::ShutDown);
+            door.signal(&self.common.rt, LaneSignal::ShutDown);
             let name = self.name(worker);
             self.remark(&Remark::Dismissed { worker: name });
         }
@@ -149,7 +149,7 @@ where
         let name = self.name(worker);
         self.remark(&Remark::ProgramEnded { worker: name });
         if let Some(door) = self.common.doors.get(worker) {
-            door.signal(&self.common.rt, Signal::Ended);
+            door.signal(&self.common.rt, LaneSignal::Ended);
         }
         self.happens(worker, WorkerEvent::Stopped);
     }
@@ -305,7 +305,7 @@ where
         if self.is_stale {
             letters.look(rt)
         } else if self.is_timed() {
-            letters.wait_for(rt, Duration::from_millis(TICK))
+            letters.wait_for(rt, Duration::from_millis(TICK_MS))
         } else if self.refusals.is_left_out() {
             letters.wait_for(rt, Duration::from_secs(1))
         } else {
@@ -360,7 +360,7 @@ where
             if !self.seats.iter().any(|seat| seat.is_running()) {
                 return;
             }
-            thread::sleep(&common.rt, Duration::from_millis(TICK));
+            thread::sleep(&common.rt, Duration::from_millis(TICK_MS));
             for seat in self.seats.iter_mut() {
                 seat.tick(&common.rt, common.alloc);
                 seat.has_ended();

@@ -79,8 +79,8 @@ where
     let ends = AllEnds {
         readers,
         writers: lanes,
-        benches,
-        site,
+        pools: benches,
+        web_viewers: site,
     };
     let is_settled = close(&rt, alloc, config.workers.as_slice(), ends, output);
     status_of(results, has_failed, is_whole, is_settled)

@@ -1,7 +1,8 @@
 //! The process of a worker that is started on demand.
 
 use bm_board::Words;
-use bm_operator::{Deadline, EndAct, ProgramRefusal};
+use bm_latent::{Deadline, EndAct};
+use bm_operator::ProgramRefusal;
 use std::alloc::Global;
 use std::io::ErrorKind;
 use std::process::{Child, Command, Processes, Stdio, SystemProcess};

@@ -8,7 +8,7 @@ use crate::start::{Given, Sockets, Start, prepare};
 use crate::threads::{Came, Lead, Service, run_threads};
 use bm_config::{Config, WorkerConfig};
 use bm_lane::{Blank, Yard, ends_of_all};
-use bm_lanes::{Parts, deal, open_all};
+use bm_lanes::{DealtLanes, deal, open_all};
 use bm_operator::{OutputLine, REFUSED};
 use bm_web_server::LogService;
 use std::alloc::{AllocGlobal, Global};
@@ -92,7 +92,7 @@ fn parts_of<Y: Yard, R: Wait + Clock + Drop>(
     alloc: Global,
     workers: &[WorkerConfig],
     blanks: Vec<Blank<R>>,
-) -> Option<Parts<Y, R, Guest<R>>>
+) -> Option<DealtLanes<Y, R, Guest<R>>>
     requires placed { ArePlaced Y.queue Y.copy 0 blanks.items }
 {
     match ends_of_all::<Y, R>(alloc, blanks) {

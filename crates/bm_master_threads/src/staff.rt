@@ -5,7 +5,7 @@ use crate::acceptor::accept_all;
 use crate::common::{Common, Guest};
 use crate::events::{EventSender, MasterEvent};
 use bm_lane::{Gate, Pass, ReaderEnd, Yard, writers};
-use bm_lane_actor::{LaneEvent, LaneState, Mailbox, Signal, Tell, serve_lane};
+use bm_lane_actor::{EventSink, LaneEvent, LaneSignal, LaneState, Mailbox, serve_lane};
 use std::net::TcpListener;
 use std::sync::Wait;
 use std::sync::atomic::Ordering;
@@ -21,7 +21,7 @@ struct LaneTeller<'s, Y: Yard, R: Wait + Clock> {
     lane: usize,
 }
 
-impl<'s, Y: Yard, R: Wait + Clock> Tell for LaneTeller<'s, Y, R> {
+impl<'s, Y: Yard, R: Wait + Clock> EventSink for LaneTeller<'s, Y, R> {
     fn tell(&mut self, notice: LaneEvent) {
         self.mail
             .tell(self.rt, MasterEvent::Lane(self.lane, notice));
@@ -182,7 +182,7 @@ impl<Y: Yard> Staff<Y> {
         let mut readers = room;
         common.is_over.store(true, Ordering::SeqCst);
         for door in common.doors.iter() {
-            door.signal(rt, Signal::Leave);
+            door.signal(rt, LaneSignal::Leave);
         }
         for clerk in clerks {
             let _ = readers.push(clerk.join(rt));

@@ -9,8 +9,8 @@ use crate::worker_entry::{WorkerEntry, seats_of};
 use bm_build_queue::{BuildQueue, ViewerPool};
 use bm_config::Config;
 use bm_lane::{Viewer, WriterEnd, Yard};
-use bm_lane_actor::{DrainGate, LaneState, LoginLimit};
-use bm_lanes::{Doors, Parts, maxima_of, open_doors, slots_of, users_of};
+use bm_lane_actor::{DrainGate, LaneState, LoginLimit, Mailboxes, open_mailboxes};
+use bm_lanes::{DealtLanes, maxima_of, slots_of, users_of};
 use bm_link::User;
 use bm_web_server::LogService;
 use std::alloc::Global;
@@ -122,12 +122,14 @@ fn tools_of<R: Wait + Clock + Copy + Drop>(
 struct Ways<Y: Yard, R: Wait + Clock + Drop> {
     mail: EventSender<Y>,
     letters: EventReceiver<Y>,
-    doors: Doors<Guest<R>>,
+    doors: Mailboxes<Guest<R>>,
 }
 
 // The ways of so many lanes. None where memory is wanting.
 fn ways_of<Y: Yard, R: Wait + Clock + Drop>(alloc: Global, lanes: usize) -> Option<Ways<Y, R>> {
-    let (mails, doors) = open_mail(alloc).ok().zip(open_doors(alloc, lanes).ok())?;
+    let (mails, doors) = open_mail(alloc)
+        .ok()
+        .zip(open_mailboxes(alloc, lanes).ok())?;
     let (mail, letters) = mails;
     Some(Ways {
         mail,
@@ -230,7 +232,7 @@ fn start_of<Y: Yard, R: Wait + Clock + Copy + Drop, O: Drop>(
         letters,
         doors,
     } = ways;
-    let Doors { outer, inner } = doors;
+    let Mailboxes { handles, mailboxes } = doors;
     Start {
         common: Common {
             rt: *rt,
@@ -238,7 +240,7 @@ fn start_of<Y: Yard, R: Wait + Clock + Copy + Drop, O: Drop>(
             config,
             cancels: tools.cancels,
             users: tools.users,
-            doors: outer,
+            doors: handles,
             mail,
             guests: LoginLimit::new(),
             lanes,
@@ -248,7 +250,7 @@ fn start_of<Y: Yard, R: Wait + Clock + Copy + Drop, O: Drop>(
         },
         service: Service {
             desks,
-            inboxes: inner,
+            inboxes: mailboxes,
             workers: sockets.workers,
             web: sockets.web,
             site: sites.of_the_web,
@@ -268,15 +270,15 @@ fn start_of<Y: Yard, R: Wait + Clock + Copy + Drop, O: Drop>(
 pub fn prepare<Y: Yard, R: Wait + Clock + Copy + Drop, O: Drop>(
     rt: &R,
     alloc: Global,
-    parts: Parts<Y, R, Guest<R>>,
+    parts: DealtLanes<Y, R, Guest<R>>,
     given: Given<O>,
     workers: SocketAddr,
 ) -> Option<Start<Y, R, O>> {
-    let Parts {
-        desks,
+    let DealtLanes {
+        states: desks,
         writers,
-        benches,
-        site,
+        pools: benches,
+        web_viewers: site,
     } = parts;
     let crew = crew_of(alloc, &given.config, workers, benches);
     let sites = sites_of(alloc, site);

@@ -3,7 +3,7 @@
 use crate::coordinator::Coordinator;
 use crate::events::{Refused, Step};
 use bm_lane::Yard;
-use bm_lanes::refusal_remark;
+use bm_lane_actor::refusal_remark;
 use bm_operator::Remark;
 use std::io::Write;
 use std::process::{Processes, SystemProcess};

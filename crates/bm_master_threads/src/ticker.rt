@@ -1,10 +1,7 @@
 //! Ticks by the clock.
 
-use bm_operator::{TickCounter, millis};
+use bm_latent::{TICK_MS, TickCounter, millis};
 use std::time::{Clock, Instant};
-
-/// How long a tick is, in milliseconds.
-pub const TICK: u64 = 10;
 
 /// Ticks by the clock.
 #[derive(Drop)]
@@ -18,7 +15,7 @@ impl Ticker {
     pub fn new<R: Clock>(rt: &R) -> Ticker {
         Ticker {
             began: Instant::now(rt).ok(),
-            pace: TickCounter::new(TICK, 0),
+            pace: TickCounter::new(TICK_MS, 0),
         }
     }
 

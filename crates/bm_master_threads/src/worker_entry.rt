@@ -2,9 +2,10 @@
 ghost use Rattle.std.specs.Prelude.{◌≤◌};
 
 use crate::process::Starter;
+use bm_board::Words;
 use bm_config::WorkerConfig;
-use bm_lanes::place_master;
-use bm_operator::{ProgramRefusal, WorkerAction, WorkerEvent, WorkerState};
+use bm_latent::{WorkerAction, WorkerEvent, WorkerState};
+use bm_operator::{ProgramRefusal, place_master};
 use std::alloc::{AllocError, Global};
 use std::process::{Processes, SystemProcess};
 
@@ -28,7 +29,7 @@ impl WorkerEntry {
                 starter: None,
             });
         };
-        let words = place_master(alloc, words.as_slice(), master)?;
+        let words = Words::from_vec(place_master(alloc, words.as_slice(), master)?);
         Ok(WorkerEntry {
             post: WorkerState::latent(worker.idle_ticks.max(1)),
             starter: Some(Starter::new(words)),

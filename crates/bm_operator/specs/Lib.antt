@@ -1,16 +1,14 @@
--- The whole meaning of these rules, to be believed.
-pub mod ResumeTimer
-pub mod Standing
-pub mod WorkerState
+-- All of these must be believed. What the operator writes: the lines of standard input, and the
+-- words of a program.
 pub mod Cancel
-pub mod Exit
-pub mod TickCounter
-pub mod PeerTimer
-pub mod Deadline
-pub mod RateLimit
-pub mod StepMeter
+pub mod ProgramWords
+-- What the operator reads: names on one line, reasons, the lines of standard output and standard
+-- error, and how the master ends.
 pub mod OneLine
 pub mod Reasons
 pub mod OutputLine
 pub mod Remark
 pub mod StepEvents
+pub mod Exit
+-- How many lines a second are let through.
+pub mod RateLimit

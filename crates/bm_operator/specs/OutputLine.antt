@@ -6,10 +6,10 @@ use Rattle.bm_operator.specs.declared.output_line.OutputLine.{OutputLine}
 use Rattle.bm_operator.specs.declared.output_line.OutputLine.TheVariants.{Listening, Build, Lane}
 
 -- what the line says, with its line end
-abbrev pub report_line : OutputLine → List ℕ
-report_line (Listening workers web) =
+abbrev pub line_text : OutputLine → List ℕ
+line_text (Listening workers web) =
     codes "listening " ++ (socket_text workers ++ (32 ∷ (socket_text web ++ 10 ∷ [])))
-report_line (Build number result) =
+line_text (Build number result) =
     codes "build " ++ (decimal number ++ (32 ∷ (result_name result ++ 10 ∷ [])))
-report_line (Lane name commands lines) =
+line_text (Lane name commands lines) =
     codes "lane " ++ (name.now ++ (32 ∷ (decimal commands ++ (32 ∷ (decimal lines ++ 10 ∷ [])))))

@@ -43,6 +43,7 @@ abbrev pub start_text : StartRefusal → List ℕ
 start_text start.Cancelled = codes "cancelled"
 start_text start.Lost = codes "worker lost"
 start_text start.Full = codes "full"
+start_text start.TooLong = codes "command too long"
 start_text start.Memory = codes "out of memory"
 
 -- which limit a step has reached

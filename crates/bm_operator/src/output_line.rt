@@ -1,7 +1,7 @@
 //! The lines of a build master's standard output.
 
 ghost use Rattle.std.specs.Prelude.{◌≡◌, IfOk, string_bytes};
-ghost use Rattle.bm_operator.specs.OutputLine.{report_line};
+ghost use Rattle.bm_operator.specs.OutputLine.{line_text};
 
 use bm_session::Results;
 use std::alloc::{AllocError, Global};
@@ -34,7 +34,7 @@ pub enum OutputLine<'a> {
 impl OutputLine<'_> {
     /// The line, with its line end.
     pub fn line(&self, alloc: Global) -> Result<String, AllocError>
-        ensures { IfOk result (λ s. string_bytes s ≡ report_line self.now) }
+        ensures { IfOk result (λ s. string_bytes s ≡ line_text self.now) }
     {
         match *self {
             OutputLine::Listening { workers, web } => {

@@ -105,6 +105,8 @@ pub enum StartRefusal {
     Lost,
     /// The lane has had as many events as it may.
     Full,
+    /// Its command has more words, or longer ones, than one request carries.
+    TooLong,
     /// Memory was wanting.
     Memory,
 }
@@ -118,6 +120,7 @@ impl StartRefusal {
             StartRefusal::Cancelled => "cancelled",
             StartRefusal::Lost => "worker lost",
             StartRefusal::Full => "full",
+            StartRefusal::TooLong => "command too long",
             StartRefusal::Memory => "out of memory",
         }
     }

@@ -1,0 +1,137 @@
+//! The login of a new connection: its handshake, and the hand-over to its lane.
+
+ghost use Rattle.std.specs.Prelude.{◌≡◌, IfOk, IfSome, slice_get};
+ghost use Rattle.bm_lane_actor.specs.Login.{IsLoggedIn};
+
+use crate::mailbox::{HandOver, LaneHandle, handle_of};
+use crate::stream::{Timed, WorkerStream};
+use bm_lines::Text;
+use bm_link::{LinkFault, MasterLink, User};
+use bumpalo::Bump;
+use std::alloc::Global;
+use std::io::{Read, Write};
+use std::sync::Wait;
+use std::time::Clock;
+
+/// The most bytes that the arena of a login takes: enough for all that a login may say, and so little
+/// that all connections without a login may take it at once.
+const MOST_LOGIN_BYTES: usize = 2 * 1_048_576;
+
+/// How many bytes the name of a refused login may have that is told.
+const MOST_NAME: usize = 256;
+
+/// A worker that has logged in: the place of its user, and its link.
+#[derive(Drop)]
+struct LoggedIn<S> {
+    place: usize,
+    link: MasterLink<S>,
+}
+
+/// The name of the login that the link refused as one of no user, where it is short enough to be
+/// told.
+fn stranger<S: Read + Write + Drop>(alloc: Global, link: &MasterLink<S>) -> Option<Text> {
+    match link.refused() {
+        Some(name) if name.len() <= MOST_NAME => Text::from_str(alloc, name).ok(),
+        _ => None,
+    }
+}
+
+/// Agrees on a WebSocket over the stream, and reads the login. `refused` becomes the name of one
+/// that is refused as one of no user.
+fn accept<S: Read + Write + Drop>(
+    alloc: Global,
+    stream: S,
+    users: &[User],
+    refused: &mut Option<Text>,
+) -> Result<LoggedIn<S>, LinkFault>
+    ensures { IfOk result (λ w. IsLoggedIn S.remaining S.contents users.now w.place w.link) }
+{
+    let mut link = match MasterLink::accept(alloc, stream) {
+        Ok(link) => link,
+        Err(fault) => return Err(fault),
+    };
+    let mut arena = Bump::new(alloc);
+    arena.set_allocation_limit(Some(MOST_LOGIN_BYTES));
+    match link.login(alloc, &mut arena, users) {
+        Ok(place) => Ok(LoggedIn { place, link }),
+        Err(fault) => {
+            *refused = stranger(alloc, &link);
+            Err(fault)
+        }
+    }
+}
+
+/// The name of the user at this place, where there is memory for it.
+fn name_of(users: &[User], place: usize) -> Option<Text>
+    ensures { IfSome result (λ name. IfSome (slice_get users.now place) (λ u. name ≡ u.name)) }
+{
+    users.get(place)?.name.copy().ok()
+}
+
+/// Hands a worker's link to the actor of its own lane. Where the mailbox has no room the worker is
+/// told `busy`.
+///
+/// # Errors
+///
+/// `Closed` where the actor has left; `Busy` of the lane where its mailbox has no room.
+fn hand_over<S: Read + Write + Drop, R: Wait + Clock>(
+    rt: &R,
+    alloc: Global,
+    handle: &LaneHandle<S>,
+    worker: LoggedIn<S>,
+) -> Result<(), LinkFault>
+    requires { handle.now ≡ worker.place }
+{
+    match handle.attach(rt, worker.link) {
+        HandOver::Taken => Ok(()),
+        HandOver::Back(link) => {
+            let mut link = link;
+            Err(link.put_off(alloc))
+        }
+        HandOver::Left => Err(LinkFault::Closed),
+    }
+}
+
+/// Logs a worker in on a new connection, within some 10 seconds, and hands its link to the actor of
+/// its lane. The result is the number of the lane, which is the place of the worker's user.
+/// `refused` becomes the name of a login that is refused: as one of no user, where that isn't long,
+/// or at its lane's mailbox.
+///
+/// # Errors
+///
+/// Those of the link's `accept` and `login`; `Closed` where the lane's actor has left; `Busy` of
+/// the lane where its mailbox has no room; `Stream` also where the time is over. Nothing is left of
+/// the connection then.
+pub fn log_in<S, R>(
+    rt: &R,
+    alloc: Global,
+    stream: WorkerStream<S, R>,
+    users: &[User],
+    handles: &[LaneHandle<WorkerStream<S, R>>],
+    refused: &mut Option<Text>,
+) -> Result<usize, LinkFault>
+where
+    S: Read + Write + Timed + Drop,
+    R: Wait + Clock + Drop,
+{
+    let mut stream = stream;
+    if stream.bound_calls().is_err() {
+        return Err(LinkFault::Stream);
+    }
+    let worker = match accept(alloc, stream, users, refused) {
+        Ok(worker) => worker,
+        Err(fault) => return Err(fault),
+    };
+    worker.link.get_ref().set_logged_in();
+    let place = worker.place;
+    let Some(handle) = handle_of(handles, place) else {
+        return Err(LinkFault::Closed);
+    };
+    match hand_over(rt, alloc, handle, worker) {
+        Ok(()) => Ok(place),
+        Err(fault) => {
+            *refused = name_of(users, place);
+            Err(fault)
+        }
+    }
+}

@@ -1,0 +1,121 @@
+//! When a silent worker is asked for a sign of life, and when it is taken for dead.
+
+ghost use Rattle.std.specs.Prelude.{◌≡◌};
+ghost use Rattle.std.specs.Option.{is_some};
+ghost use Rattle.bm_lane_actor.specs.PeerTimer.{after_action, action_at, heard_at, started, wanted_at};
+
+use std::marker::Model;
+
+/// How long a worker may be silent before it is asked for a sign of life, in milliseconds.
+pub const ASK_AFTER_MS: u64 = 15_000;
+
+/// How long a worker may be silent before it is taken for dead, in milliseconds.
+pub const DEAD_AFTER_MS: u64 = 60_000;
+
+/// How long a worker may be silent once another connection asks for its lane, in milliseconds.
+pub const ANSWER_WITHIN_MS: u64 = 1_500;
+
+/// What is to be done about a worker.
+#[derive(Clone, Copy, Debug, PartialEq, Eq)]
+pub enum PeerAction {
+    Nothing,
+    /// It is asked for a sign of life.
+    Ask,
+    /// It is taken for dead.
+    GiveUp,
+}
+
+/// How long a worker has been silent. Whoever asks tells a count of what came from it, which grows
+/// by each sign of life, and the time in milliseconds since some moment.
+#[derive(Drop)]
+pub struct PeerTimer {
+    count: u64,
+    /// When the count was first seen.
+    since: u64,
+    /// Whether it was asked since.
+    is_asked: bool,
+    /// Since when another connection asks for its lane.
+    wanted: Option<u64>,
+}
+
+impl Model for PeerTimer {
+    ghost use Rattle.bm_lane_actor.specs.PeerTimer.{PeerView};
+
+    ghost Value = { PeerView };
+
+    ghost view = { λ t. record {
+      count = t.count;
+      since = t.since;
+      asked = t.is_asked;
+      wanted = t.wanted;
+    } };
+}
+
+impl PeerTimer {
+    /// That of a worker which was heard just now.
+    pub fn new(count: u64, now: u64) -> PeerTimer
+        ensures { result ≡ started count now }
+    {
+        PeerTimer {
+            count,
+            since: now,
+            is_asked: false,
+            wanted: None,
+        }
+    }
+
+    /// The count stands so: where it has changed the worker lives, and nobody waits for it.
+    fn hear(&mut self, count: u64, now: u64)
+        ensures { self.new ≡ heard_at count now self.old }
+    {
+        if self.count != count {
+            *self = PeerTimer::new(count, now);
+        }
+    }
+
+    fn action(&self, now: u64) -> PeerAction
+        ensures { result ≡ action_at now self.now }
+    {
+        let silent = now.saturating_sub(self.since);
+        if let Some(since) = self.wanted {
+            if ANSWER_WITHIN_MS <= now.saturating_sub(since) {
+                return PeerAction::GiveUp;
+            }
+        }
+        if DEAD_AFTER_MS <= silent {
+            PeerAction::GiveUp
+        } else if ASK_AFTER_MS <= silent && !self.is_asked {
+            PeerAction::Ask
+        } else {
+            PeerAction::Nothing
+        }
+    }
+
+    /// What is to be done now. It is asked once for each silence.
+    pub fn look(&mut self, count: u64, now: u64) -> PeerAction
+        ensures action { result ≡ action_at now (heard_at count now self.old) }
+        ensures timer { self.new ≡ after_action result (heard_at count now self.old) }
+    {
+        self.hear(count, now);
+        let action = self.action(now);
+        if action == PeerAction::Ask {
+            self.is_asked = true;
+        }
+        action
+    }
+
+    /// Another connection asks for the worker's lane, for which the worker is asked now.
+    pub fn want(&mut self, now: u64)
+        ensures { self.new ≡ wanted_at now self.old }
+    {
+        self.is_asked = true;
+        self.wanted = Some(now);
+    }
+
+    /// Whether another connection asks for the worker's lane, and the worker said nothing since.
+    pub fn is_wanted(&self) -> bool
+        ensures { result ≡ is_some self.now.wanted }
+    {
+        self.wanted.is_some()
+    }
+}
