@@ -1,5 +1,6 @@
 //! Decimal numbers below 2^64, as command lines, requests and standard input write them.
 #![tactic(auto)]
+
 ghost use Rattle.std.specs.Prelude.{◌≡◌};
 ghost use Rattle.bm_decimal.specs.Decimals.{number_of};
 

@@ -1,11 +1,9 @@
 //! The routes with the viewers that they look at.
-ghost use Rattle.std.specs.Prelude.{◌≡◌, ◌⊎◌, ◌<◌, IfOk, IfSome, MatchOption, length};
-ghost use Rattle.bm_lane.specs.Ends.{Watched};
-ghost use Rattle.bm_http.specs.Requests.{Asked, Asks};
+ghost use Rattle.std.specs.Prelude.{◌≡◌, ◌⊎◌, ◌<◌, IfOk, IfSome, length};
 ghost use Rattle.bm_http.specs.Replies.{unavailable};
-ghost use Rattle.bm_http.specs.FirstLooks.{Refuses, Tells};
 ghost use Rattle.bm_http.specs.Shown.{asked_by};
 ghost use Rattle.bm_http.specs.WholeOrLong.{reply_told};
+ghost use Rattle.bm_web_server.specs.Serves.{Serves, TellsOf};
 
 use crate::handler::{Handler, Served};
 use bm_http::{
@@ -73,9 +71,8 @@ impl<Y: Yard> LogService<Y> {
         alloc: Global,
         request: LogRequest<'_>,
     ) -> Result<Served<LongAnswer<Y>, Mark<Y>>, AllocError>
-        ensures { IfOk result (λ served. IfSome served.seen (λ w.
-            Tells (asked_by request.entry) self.now.lanes w
-            (reply_told (λ text. text) served.reply))) }
+        ensures { IfOk result (λ served. TellsOf (asked_by request.entry) self.now.lanes served.seen
+            (reply_told (λ text. text) served.reply)) }
     {
         let Some(lane) = request.lane(self.lanes) else {
             return Err(AllocError);
@@ -104,9 +101,8 @@ impl<Y: Yard> LogService<Y> {
         method: &str,
         target: &str,
     ) -> Result<Served<LongAnswer<Y>, Mark<Y>>, AllocError>
-        ensures { IfOk result (λ served. (a : Asked) × Asks method.now target.now a
-            × MatchOption served.seen (Refuses a (reply_told (λ text. text) served.reply))
-            (λ w. Tells a self.now.lanes w (reply_told (λ text. text) served.reply))) }
+        ensures { IfOk result (λ served. Serves self.now.lanes method.now target.now served.seen
+            (reply_told (λ text. text) served.reply)) }
     {
         match self.routes.request(alloc, method, target)? {
             LogRequest::Refused(refusal) => Ok(Served {
@@ -129,10 +125,9 @@ impl<Y: Yard> Handler for LogService<Y> {
 
     type Seen = Mark<Y>;
 
-    // What the book says of what the viewer of the lane had seen by the mark, which only it can give.
+    // It is made of a mark, which only a viewer of that lane gives: of what that had then seen.
     ghost gives = { λ service method target seen reply. (reply ≡ unavailable)
-        ⊎ ((a : Asked) × Asks method target a
-        × MatchOption seen (Refuses a reply) (λ w. Tells a service.lanes w reply)) };
+        ⊎ Serves service.lanes method target seen reply };
 
     ghost text = { λ text. text };
 
@@ -158,12 +153,11 @@ impl<Y: Yard> Handler for LogService<Y> {
         alloc: Global,
         rest: &mut LongAnswer<Y>,
     ) -> Option<Result<Bytes, PieceError>> {
-        let lane = rest.lane();
-        let Some(turn) = self.turns.get(lane as usize) else {
+        let Some(turn) = self.turns.get(rest.lane() as usize) else {
             return Some(Err(PieceError::View));
         };
         let turn = turn.lock(rt);
-        let Some(mut viewer) = self.take(rt, lane) else {
+        let Some(mut viewer) = self.take(rt, rest.lane()) else {
             return Some(Err(PieceError::View));
         };
         let next = rest.next(&mut viewer);
