@@ -1,6 +1,6 @@
 use Rattle.std.proofs.Common.{◌≢◌, get_or, rules, ◌∙◌}
-use Rattle.bm_http.proofs.Digits.{parse-number}
-use Rattle.bm_http.proofs.targets.number.Goals as goal
+use Rattle.bm_decimal.proofs.Digits.{parse-number}
+use Rattle.bm_decimal.proofs.read_number.Goals as goal
 
 pub returns : goal.returns
 returns c =

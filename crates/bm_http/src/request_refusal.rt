@@ -4,7 +4,7 @@ ghost use Rattle.bm_http.specs.Refusals.{status_of, text_of};
 
 /// Why a request is refused as it stands.
 #[derive(Clone, Copy)]
-pub enum Refusal {
+pub enum RequestRefusal {
     /// The path names no page.
     NoSuchPage,
     /// The method isn't GET.
@@ -15,15 +15,15 @@ pub enum Refusal {
     BadNumber,
 }
 
-impl Refusal {
+impl RequestRefusal {
     /// The status code.
     pub fn status(self) -> u16
         ensures { result ≡ status_of self }
     {
         match self {
-            Refusal::NoSuchPage | Refusal::NoSuchLog => 404,
-            Refusal::MethodNotAllowed => 405,
-            Refusal::BadNumber => 400,
+            RequestRefusal::NoSuchPage | RequestRefusal::NoSuchLog => 404,
+            RequestRefusal::MethodNotAllowed => 405,
+            RequestRefusal::BadNumber => 400,
         }
     }
 
@@ -32,10 +32,10 @@ impl Refusal {
         ensures { result.now ≡ text_of self }
     {
         match self {
-            Refusal::NoSuchPage => "no such page",
-            Refusal::MethodNotAllowed => "method not allowed",
-            Refusal::NoSuchLog => "no such log",
-            Refusal::BadNumber => "bad number",
+            RequestRefusal::NoSuchPage => "no such page",
+            RequestRefusal::MethodNotAllowed => "method not allowed",
+            RequestRefusal::NoSuchLog => "no such log",
+            RequestRefusal::BadNumber => "bad number",
         }
     }
 }

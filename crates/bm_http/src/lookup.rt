@@ -10,8 +10,8 @@ ghost use Rattle.bm_http.specs.Shown.{reply_of, told_by};
 
 use crate::answer::Answer;
 use crate::bodies;
-use crate::refusal::Refusal;
-use crate::request::Span;
+use crate::request_refusal::RequestRefusal;
+use crate::log_request::Span;
 use bm_lane::{Viewer, Yard};
 use bm_store::{Chunk, LogState, ViewRefusal};
 use std::alloc::{AllocError, Global};
@@ -19,24 +19,24 @@ use std::borrow::CowStr;
 
 /// What the viewers showed of what a request asks for, of which the answer is made.
 #[derive(Drop)]
-pub enum Sight<'t> {
+pub enum Lookup<'t> {
     /// The request was refused as it stands.
-    Refused(Refusal),
+    Refused(RequestRefusal),
     /// What a viewer said of the log with this id, under this name.
     State(u64, CowStr<'t>, Result<LogState, ViewRefusal>),
     /// The lines that a viewer gave of the log with this id.
     Lines(u64, Result<Chunk, ViewRefusal>),
 }
 
-impl<'t> Sight<'t> {
+impl<'t> Lookup<'t> {
     /// The answer. No viewer is needed for it.
     pub fn answer(self, alloc: Global) -> Result<Answer, AllocError>
         ensures { IfOk result (λ a. reply_of a ≡ told_by self.entry) }
     {
         match self {
-            Sight::Refused(refusal) => Answer::refusal(alloc, refusal),
-            Sight::State(id, name, seen) => with_state(alloc, id, name.as_str(), seen),
-            Sight::Lines(id, seen) => with_chunk(alloc, id, seen),
+            Lookup::Refused(refusal) => Answer::refusal(alloc, refusal),
+            Lookup::State(id, name, seen) => with_state(alloc, id, name.as_str(), seen),
+            Lookup::Lines(id, seen) => with_chunk(alloc, id, seen),
         }
     }
 }
@@ -46,7 +46,7 @@ fn without_view(alloc: Global, refused: ViewRefusal) -> Result<Answer, AllocErro
     ensures { IfOk result (λ a. reply_of a ≡ no_view refused) }
 {
     match refused {
-        ViewRefusal::NoLog => Answer::refusal(alloc, Refusal::NoSuchLog),
+        ViewRefusal::NoLog => Answer::refusal(alloc, RequestRefusal::NoSuchLog),
         ViewRefusal::Closed | ViewRefusal::Mem => Ok(Answer::unavailable(alloc)),
     }
 }
@@ -90,13 +90,13 @@ pub(crate) fn state_by<'t, Y: Yard>(
     command: u64,
     id: u64,
     name: CowStr<'t>,
-) -> Sight<'t>
+) -> Lookup<'t>
     ensures seen { (viewer.new.lane ≡ viewer.old.lane) × IsPrefix viewer.old.seen viewer.new.seen }
     ensures told { (r : _) × GivesState viewer.old viewer.new command (cow_str_bytes name.entry) r
         × (told_by result ≡ state_reply id (cow_str_bytes name.entry) r) }
 {
     let seen = viewer.state(command, name.as_str());
-    Sight::State(id, name, seen)
+    Lookup::State(id, name, seen)
 }
 
 // A look of one viewer at lines of a command's log.
@@ -106,7 +106,7 @@ fn lines_by<'t, Y: Yard>(
     id: u64,
     name: CowStr<'t>,
     span: Span,
-) -> Sight<'t>
+) -> Lookup<'t>
     ensures seen { (viewer.new.lane ≡ viewer.old.lane) × IsPrefix viewer.old.seen viewer.new.seen }
     ensures told { (r : _)
         × GivesChunk viewer.old viewer.new command (cow_str_bytes name.entry) span.offset span.limit
@@ -114,7 +114,7 @@ fn lines_by<'t, Y: Yard>(
         × (told_by result ≡ chunk_reply id r) }
 {
     let seen = viewer.chunk(command, name.as_str(), span.offset, span.limit);
-    Sight::Lines(id, seen)
+    Lookup::Lines(id, seen)
 }
 
 /// The state of the log with this id, under this name.
@@ -122,7 +122,7 @@ pub(crate) fn state_of<'t, Y: Yard>(
     viewers: &mut [Viewer<Y>],
     id: u64,
     name: CowStr<'t>,
-) -> Sight<'t>
+) -> Lookup<'t>
     requires { 0 < length viewers.old }
     ensures seen { SeesOn viewers.old viewers.new }
     ensures answered { Answers (state id (cow_str_bytes name.entry)) viewers.old viewers.new
@@ -139,7 +139,7 @@ pub(crate) fn lines_of<'t, Y: Yard>(
     id: u64,
     name: CowStr<'t>,
     span: Span,
-) -> Sight<'t>
+) -> Lookup<'t>
     requires { 0 < length viewers.old }
     ensures seen { SeesOn viewers.old viewers.new }
     ensures answered { Answers (lines id (cow_str_bytes name.entry) span.offset span.limit)
