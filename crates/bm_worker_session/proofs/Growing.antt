@@ -35,18 +35,22 @@ streams_join n (r ∷ first) second =
 
 -- these requests are those of what was reported
 abbrev pub Grows : Core → List Sent → Core → Type 0
-Grows c handed c2 = (rs : List Report) × (c2.reports ≡ c.reports ++ rs) × (handed ≡ stream_from (next_number c) rs)
+Grows c handed c2 = (rs : List Report) × (c2.reports ≡ c.reports ++ rs) × (handed ≡ stream_from (next_number c) rs) × (c2.answered ≡ c.answered)
 
 none-more : (c c2 : Core) → c2 ≡ c → Grows c [] c2
-none-more c c2 same = ([], ap (λ (x : Core). x.reports) same ∙ sym (append-nil c.reports), refl)
+none-more c c2 same = ([], ap (λ (x : Core). x.reports) same ∙ sym (append-nil c.reports), refl, ap (λ (x : Core). x.answered) same)
 
 told-reports : (i : OutboxEntry) (c : Core) → (told_core i c).reports ≡ c.reports ++ reports_in i
 told-reports (entry.Text k said) c = refl
 told-reports (entry.End k e) c = refl
 
+told-answered : (i : OutboxEntry) (c : Core) → (told_core i c).answered ≡ c.answered
+told-answered (entry.Text k said) c = refl
+told-answered (entry.End k e) c = refl
+
 tells-grow : (i : OutboxEntry) (c c2 : Core) (p : Progress) → Tells i c (Ok p) c2 → Grows c (requests_of (Ok p)) c2
-tells-grow i c c2 (progress.Text s) (h, is) = (reports_in i, ap (λ (x : Core). x.reports) is ∙ told-reports i c, h)
-tells-grow i c c2 (progress.End v) (h, is) = (reports_in i, ap (λ (x : Core). x.reports) is ∙ told-reports i c, h)
+tells-grow i c c2 (progress.Text s) (h, is) = (reports_in i, ap (λ (x : Core). x.reports) is ∙ told-reports i c, h, ap (λ (x : Core). x.answered) is ∙ told-answered i c)
+tells-grow i c c2 (progress.End v) (h, is) = (reports_in i, ap (λ (x : Core). x.reports) is ∙ told-reports i c, h, ap (λ (x : Core). x.answered) is ∙ told-answered i c)
 tells-grow i c c2 progress.Full (h, same) = none-more c c2 same
 tells-grow i c c2 progress.Passed (h, same) = none-more c c2 same
 tells-grow i c c2 progress.Nothing h = absurd h

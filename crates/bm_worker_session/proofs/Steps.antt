@@ -21,7 +21,7 @@ nothing-new c = drop_all (length c.reports) (stream c.reports) (let e : length (
 -- what was reported since grew by the requests that were told
 since-grows : (first : ℕ) (handed : List Sent) (c c2 : Core) → first ≤ length c.reports → Grows c handed c2
     → drop first (stream c.reports) ++ handed ≡ drop first (stream c2.reports)
-since-grows first handed c c2 since (rs, is, told) =
+since-grows first handed c c2 since (rs, is, told, answered) =
     let from : 0 + length c.reports ≡ length c.reports = omega arith in
     let long : length (stream c.reports) ≡ length c.reports = length-stream 0 c.reports in
     let joined : stream c2.reports ≡ stream c.reports ++ handed =
