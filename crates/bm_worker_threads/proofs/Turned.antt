@@ -1,5 +1,5 @@
 -- What is told of the command at a place.
-use Rattle.std.proofs.Common.{◌≡◌, refl, sym, ap, ◌∙◌, subst, ℕ, ◌<◌, nat_lt, Bool, true, false, true≢false, ◌||◌, List, [], ◌∷◌, ◌++◌, length, drop, map, get_or, arith, suc, Option, Some, None, Result, Ok, Err, OnOk, IfSome}
+use Rattle.std.proofs.Common.{◌≡◌, refl, sym, ap, ◌∙◌, subst, ℕ, ◌<◌, nat_lt, Bool, true, false, true≢false, ◌||◌, List, [], ◌∷◌, ◌++◌, length, drop, map, get_or, arith, suc, Option, Some, None, Result, Ok, Err, OnOk}
 use Rattle.std.specs.List.{remove, slice_index_or, position}
 use Rattle.std.proofs.lemmas.List.{get_or-map}
 use Rattle.std.proofs.lemmas.List.Quantifiers.{position-Some}
@@ -14,7 +14,7 @@ use Rattle.bm_outbox.specs.declared.pipes.ExitCode.{ExitCode}
 use Rattle.bm_outbox.specs.declared.said.Said.{Said}
 use Rattle.bm_outbox.specs.declared.turn.Ready.{Ready}
 use Rattle.bm_outbox.specs.declared.turn.Ready.TheVariants as ready
-use Rattle.bm_worker_threads.specs.Turns.{ready_with, ready_of, turn_of, HasSome, IsReady, TellsAt, TellsOf}
+use Rattle.bm_worker_threads.specs.Turns.{ready_with, ready_of, turn_of, HasSome, IsOwn, IsReady, TellsAt, TellsOf}
 use Rattle.bm_worker_threads.specs.declared.running_command.RunningCommand.{RunningCommand}
 
 -- a queue that gave nothing is empty
@@ -23,16 +23,16 @@ none_left [] rest is dropped = refl
 none_left (x ∷ xs) rest is dropped = let e : suc (length xs) ≡ length xs = ap length (is ∙ dropped) in absurd (omega arith)
 
 -- its first text is told, and it goes behind the others
-pub told_text : {T E : Type 0} (r : Result T E) (at : ℕ) (all others running : List RunningCommand) (process : RunningCommand) (said : Said) (kept : VecDeque Said Global) (old new : List OutboxEntry)
+pub told_text : {T E : Type 0} (r : Result T E) (at : ℕ) (all others running : List RunningCommand) (process : RunningCommand) (said : Said) (kept : VecDeque Said Global) (own : IsOwn process) (k : ℕ) (old new : List OutboxEntry)
     → at < length all → process ≡ slice_index_or all at process → process.texts.items ≡ said ∷ kept.items → others ≡ remove all at
-    → running ≡ others ++ record process { texts = kept } ∷ [] → OnOk r (new ≡ old ++ entry.Text process.pipes.command said ∷ []) → OnOk r (TellsAt at all running old new)
-told_text (Ok v) at all others running process said kept old new within is texts left behind told = (
+    → running ≡ others ++ record process { texts = kept; own = own } ∷ [] → k ≡ process.pipes.command → OnOk r (new ≡ old ++ entry.Text k said ∷ []) → OnOk r (TellsAt at all running old new)
+told_text (Ok v) at all others running process said kept own k old new within is texts left behind same told = (
   process,
   slice_get-get_or all at process within ∙ ap Some (sym is),
   subst (λ (t : List Said). TellsOf process t process.code (remove all at) running old new) (sym texts)
-      (told, (kept, refl, behind ∙ ap (λ o. o ++ record process { texts = kept } ∷ []) left)),
+      (told ∙ ap (λ j. old ++ entry.Text j said ∷ []) same, (kept, own, refl, behind ∙ ap (λ o. o ++ record process { texts = kept; own = own } ∷ []) left)),
 )
-told_text (Err e) at all others running process said kept old new within is texts left behind told = tt
+told_text (Err e) at all others running process said kept own k old new within is texts left behind same told = tt
 
 -- its end is told, and it leaves
 pub told_end : {T E : Type 0} (r : Result T E) (at : ℕ) (all running : List RunningCommand) (process : RunningCommand) (code : ExitCode) (old new : List OutboxEntry) → at < length all
@@ -43,7 +43,7 @@ told_end (Ok v) at all running process code old new within is texts ended left t
   slice_get-get_or all at process within ∙ ap Some (sym is),
   subst (λ (t : List Said). TellsOf process t process.code (remove all at) running old new) (sym texts)
       (subst (λ c. TellsOf process [] c (remove all at) running old new) (sym ended)
-      (subst (λ c. IfSome c (λ (x : ExitCode). x.command ≡ process.pipes.command)) ended process.own, told, left)),
+      (process.own code ended, told, left)),
 )
 told_end (Err e) at all running process code old new within is texts ended left told = tt
 

@@ -1,6 +1,7 @@
 -- Of which command is told next.
 use Rattle.std.specs.Prelude.{◌≡◌, Bool, true, false, ◌||◌, ℕ, nat_lt, List, [], ◌∷◌, ◌++◌, length, map, slice_get, Option, Some, None, ⊤}
 use Rattle.std.specs.List.{remove}
+use Rattle.std.specs.Option.{ForSome}
 use Rattle.std.specs.declared.alloc.Global.{Global}
 use Rattle.std.specs.declared.collections.VecDeque.{VecDeque}
 use Rattle.bm_outbox.specs.Opening.{Closes}
@@ -38,12 +39,16 @@ HasSome [] None = ⊥
 abbrev pub IsReady : ℕ → List RunningCommand → Type 0
 IsReady at running = (process : RunningCommand) → slice_get running at ≡ Some process → HasSome process.texts.items process.code
 
+-- how it ended, once that is known, was given by its own pipes
+abbrev pub IsOwn : RunningCommand → Type 0
+IsOwn process = ForSome process.code (λ (c : ExitCode). c.command ≡ process.pipes.command)
+
 -- this text of a command is told: it waits behind all that waits, and the command, whose other texts
 -- are kept, goes behind the others
 abbrev pub TellsText : RunningCommand → Said → List Said → List RunningCommand → List RunningCommand → List OutboxEntry → List OutboxEntry → Type 0
 TellsText process said rest others running old new = (new ≡ old ++ entry.Text process.pipes.command said ∷ [])
-    × ((kept : VecDeque Said Global) × (kept.items ≡ rest)
-    × (running ≡ others ++ record process { texts = kept } ∷ []))
+    × ((kept : VecDeque Said Global) × (own : IsOwn process) × (kept.items ≡ rest)
+    × (running ≡ others ++ record process { texts = kept; own = own } ∷ []))
 
 -- what is told of a command: its first text; or where none is left its end, and then it runs no more
 abbrev pub TellsOf : RunningCommand → List Said → Option ExitCode → List RunningCommand → List RunningCommand → List OutboxEntry → List OutboxEntry → Type 0

@@ -16,5 +16,5 @@ returns-in_default g c = told_end c.close.result c.args.at c.args.self.now.runni
 -- its first text
 pub returns : goal.returns
 returns g c = told_text c.push-2.result c.args.at c.args.self.now.running.items c.remove-process.new.self.items c.push.new.self.items c.remove-process.result c.in-Some.said
-    c.pop_front.new.self c.args.outbox.now c.push-2.new.self c.requires.within c.remove-process.ensures.value c.in-Some.ensures.items c.remove-process.ensures.items
-    c.in_ok-push.ensures.items c.push-2.ensures.ok
+    c.pop_front.new.self _ c.command-command.result c.args.outbox.now c.push-2.new.self c.requires.within c.remove-process.ensures.value c.in-Some.ensures.items c.remove-process.ensures.items
+    c.in_ok-push.ensures.items c.command-command.ensures c.push-2.ensures.ok
