@@ -8,8 +8,8 @@ use Rattle.bm_board.specs.declared.plan.Build.{Build}
 use Rattle.bm_board.specs.declared.steps.Next.TheVariants.{Step, Ended}
 use Rattle.bm_board.specs.declared.refusal.BoardRefusal.TheVariants.{NoBuild, NotWaiting, NotRunning, NoWorker, LockHeld, BadLock}
 use Rattle.bm_board.specs.Steps.{next_of}
-use Rattle.bm_board.specs.ScheduledBuild.{Course, Outcome, answer_of, cancel, finish, give_up, release}
-use Rattle.bm_board.specs.Board.{Standing, opening, with_ready, with_build, add_refusal, on_build, board_after, start, result_on}
+use Rattle.bm_board.specs.ScheduledBuild.{BuildState, Outcome, answer_of, cancel, finish, give_up, release}
+use Rattle.bm_board.specs.Board.{BoardState, opening, with_ready, with_build, add_refusal, on_build, board_after, start, result_on}
 
 -- a step by its flags: haltOnFailure, flunkOnFailure, alwaysRun
 abbrev step : Bool → Bool → Bool → StepPlan
@@ -46,17 +46,17 @@ abbrev exclusive : List LockUse
 exclusive = record { lock = 0; mode = Exclusive } ∷ []
 
 -- the board after a call on one build
-abbrev called : {T : Type 0} → (Standing → Course → Outcome T) → Standing → ℕ → Standing
+abbrev called : {T : Type 0} → (BoardState → BuildState → Outcome T) → BoardState → ℕ → BoardState
 called call b id = board_after b id (on_build (call b) b id)
 
 -- three ready workers of one slot, a lock of two holders, and four builds
-abbrev four : Standing
+abbrev four : BoardState
 four =
     let b = with_ready (with_ready (with_ready (opening (1 ∷ 1 ∷ 1 ∷ []) (2 ∷ [])) 0 true) 1 true) 2 true in
     with_build (with_build (with_build (with_build b (one 0 counting)) (one 1 counting)) (one 2 exclusive)) (one 0 counting)
 
 -- two of them run
-abbrev two_run : Standing
+abbrev two_run : BoardState
 two_run = called start (called start four 0) 1
 
 first_starts : answer_of (on_build (start four) four 0) ≡ Ok (record { worker = 0; next = Step 0 })
@@ -69,14 +69,14 @@ slot_is_taken : answer_of (on_build (start two_run) two_run 3) ≡ Err NoWorker
 slot_is_taken = refl
 
 -- one of them is over, and released
-abbrev one_runs : Standing
+abbrev one_runs : BoardState
 one_runs = called (λ _. release) (called (λ _. finish Success) two_run 0) 0
 
 exclusive_waits_on : answer_of (on_build (start one_runs) one_runs 2) ≡ Err LockHeld
 exclusive_waits_on = refl
 
 -- the other fails, and is released too
-abbrev none_runs : Standing
+abbrev none_runs : BoardState
 none_runs = called (λ _. release) (called (λ _. finish Failure) one_runs 1) 1
 
 failure_is_the_result : result_on none_runs 1 ≡ Ok (Some Failure)

@@ -11,9 +11,9 @@ use Rattle.bm_board.specs.declared.plan.Mode.TheVariants.{Counting, Exclusive}
 use Rattle.bm_board.specs.declared.plan.Build.{Build}
 use Rattle.bm_board.specs.declared.worker_slots.WorkerSlots.{WorkerSlots}
 use Rattle.bm_board.specs.Locks.{is_use, are_distinct, are_good, may_have}
-use Rattle.bm_board.specs.ScheduledBuild.{Course, is_holding, waiting, IsSameHolder}
-use Rattle.bm_board.specs.Board.{Standing, occupies, holds_lock, occupied, holders, most_builds}
-use Rattle.bm_board.specs.Kept.{Tally, place_share, lock_share, are_free, IsTaken, is_known, IsKept}
+use Rattle.bm_board.specs.ScheduledBuild.{BuildState, is_holding, waiting, IsSameHolder}
+use Rattle.bm_board.specs.Board.{BoardState, occupies, holds_lock, occupied, holders, most_builds}
+use Rattle.bm_board.specs.Kept.{HeldCounts, place_share, lock_share, are_free, IsTaken, is_known, IsKept}
 use Rattle.bm_board.proofs.Uses.{used_passes, one_mode}
 use Rattle.bm_board.proofs.Places.{with_job}
 
@@ -42,12 +42,12 @@ count_falls p xs i x y b l e before now =
     omega (arith, count_by-set p xs i y x l, none, some)
 
 -- what is known of the build at a place
-pub known_at : (b : Standing) (t : Tally) (id : ℕ) (job : Course) → id < length b.jobs → job ≡ get_or b.jobs id job → IsKept b t → IsTrue (is_known (length b.workers) (length b.maxima) job)
+pub known_at : (b : BoardState) (t : HeldCounts) (id : ℕ) (job : BuildState) → id < length b.jobs → job ≡ get_or b.jobs id job → IsKept b t → IsTrue (is_known (length b.workers) (length b.maxima) job)
 known_at b t id job l e kept =
-    subst (λ (j : Course). IsTrue (is_known (length b.workers) (length b.maxima) j)) (sym e) (kept.known id job l)
+    subst (λ (j : BuildState). IsTrue (is_known (length b.workers) (length b.maxima) j)) (sym e) (kept.known id job l)
 
 -- a board whose builds hold what they held is kept
-pub kept_alike : (b : Standing) (t : Tally) (jobs : List Course) → length jobs ≤ most_builds → All (λ job. IsTrue (is_known (length b.workers) (length b.maxima) job)) jobs → ((w : ℕ) → occupied w jobs ≡ occupied w b.jobs) → ((mode : Mode) (lock : ℕ) → holders mode lock jobs ≡ holders mode lock b.jobs) → IsKept b t → IsKept (record { workers = b.workers; maxima = b.maxima; jobs = jobs }) t
+pub kept_alike : (b : BoardState) (t : HeldCounts) (jobs : List BuildState) → length jobs ≤ most_builds → All (λ job. IsTrue (is_known (length b.workers) (length b.maxima) job)) jobs → ((w : ℕ) → occupied w jobs ≡ occupied w b.jobs) → ((mode : Mode) (lock : ℕ) → holders mode lock jobs ≡ holders mode lock b.jobs) → IsKept b t → IsKept (record { workers = b.workers; maxima = b.maxima; jobs = jobs }) t
 kept_alike b t jobs few known places locks kept =
     record {
       few = few;
@@ -69,7 +69,7 @@ kept_alike b t jobs few known places locks kept =
     }
 
 -- a build that holds what it held leaves the board kept
-pub kept_same : (b : Standing) (t : Tally) (id : ℕ) (job new : Course) → id < length b.jobs → job ≡ get_or b.jobs id job → IsSameHolder job new → IsKept b t → IsKept (with_job b id new) t
+pub kept_same : (b : BoardState) (t : HeldCounts) (id : ℕ) (job new : BuildState) → id < length b.jobs → job ≡ get_or b.jobs id job → IsSameHolder job new → IsKept b t → IsKept (with_job b id new) t
 kept_same b t id job new l e same kept =
     let known = known_at b t id job l e kept in
     kept_alike b t (set b.jobs id new)
@@ -83,24 +83,24 @@ kept_same b t id job new l e same kept =
     kept
 
 -- the build's worker has a free slot, and each of its locks may be had
-pub record IsStartable (b : Standing) (t : Tally) (job : Course) : Type 0 where
+pub record IsStartable (b : BoardState) (t : HeldCounts) (job : BuildState) : Type 0 where
   pub place : slice_index t.taken job.build.worker < slice_index (map (λ worker. worker.slots) b.workers) job.build.worker
   pub locks : are_free t b.maxima job.build.locks ≡ true
   pub distinct : are_distinct job.build.locks ≡ true
 
 -- a build that starts keeps what it is, and holds from then on
-pub record Starts (job new : Course) : Type 0 where
+pub record Starts (job new : BuildState) : Type 0 where
   pub build : new.build ≡ job.build
   pub before : is_holding job.phase ≡ false
   pub now : is_holding new.phase ≡ true
 
-places_grow : (b : Standing) (id : ℕ) (job new : Course) → id < length b.jobs → job ≡ get_or b.jobs id job → Starts job new → (w : ℕ) → occupied w (set b.jobs id new) ≡ occupied w b.jobs + place_share w job.build
+places_grow : (b : BoardState) (id : ℕ) (job new : BuildState) → id < length b.jobs → job ≡ get_or b.jobs id job → Starts job new → (w : ℕ) → occupied w (set b.jobs id new) ≡ occupied w b.jobs + place_share w job.build
 places_grow b id job new l e s w =
     count_grows (occupies w) b.jobs id job new (job.build.worker == w) l e
     (ap (λ h. h && (job.build.worker == w)) s.before)
     (ap (λ h. h && (new.build.worker == w)) s.now ∙ ap (λ build. build.worker == w) s.build)
 
-locks_grow : (b : Standing) (id : ℕ) (job new : Course) → id < length b.jobs → job ≡ get_or b.jobs id job → Starts job new → (mode : Mode) (lock : ℕ) → holders mode lock (set b.jobs id new) ≡ holders mode lock b.jobs + lock_share mode lock job.build
+locks_grow : (b : BoardState) (id : ℕ) (job new : BuildState) → id < length b.jobs → job ≡ get_or b.jobs id job → Starts job new → (mode : Mode) (lock : ℕ) → holders mode lock (set b.jobs id new) ≡ holders mode lock b.jobs + lock_share mode lock job.build
 locks_grow b id job new l e s mode lock =
     count_grows (holds_lock mode lock) b.jobs id job new (list_any (is_use mode lock) job.build.locks) l e
     (ap (λ h. h && list_any (is_use mode lock) job.build.locks) s.before)
@@ -119,7 +119,7 @@ exclusive_fits maximum counting exclusive h =
     (eqb-true exclusive 0 parts.0, eqb-true counting 0 parts.1)
 
 -- what the use of a lock says of its holders
-lock_fits : (b : Standing) (t : Tally) (job : Course) → IsStartable b t job → (mode : Mode) (lock : ℕ) → list_any (is_use mode lock) job.build.locks ≡ true → may_have mode (slice_index b.maxima lock) (slice_index t.counting lock) (slice_index t.exclusive lock) ≡ true
+lock_fits : (b : BoardState) (t : HeldCounts) (job : BuildState) → IsStartable b t job → (mode : Mode) (lock : ℕ) → list_any (is_use mode lock) job.build.locks ≡ true → may_have mode (slice_index b.maxima lock) (slice_index t.counting lock) (slice_index t.exclusive lock) ≡ true
 lock_fits b t job s mode lock e =
     used_passes (λ m k. may_have m (slice_index b.maxima k) (slice_index t.counting k) (slice_index t.exclusive k)) mode lock job.build.locks s.locks e
 
@@ -141,13 +141,13 @@ lock_stays_fine maximum counting exclusive false false hc he one fine =
     record { few = omega (arith, fine.few); one = omega (arith, fine.one); alone = λ some. omega (arith, fine.alone (omega (arith, some))) }
 
 -- the counts kept of a lock are its holders
-fits_holders : (b : Standing) (t : Tally) (mode : Mode) (lock : ℕ) → lock < length b.maxima → IsKept b t → may_have mode (slice_index b.maxima lock) (slice_index t.counting lock) (slice_index t.exclusive lock) ≡ true → may_have mode (slice_index b.maxima lock) (holders Counting lock b.jobs) (holders Exclusive lock b.jobs) ≡ true
+fits_holders : (b : BoardState) (t : HeldCounts) (mode : Mode) (lock : ℕ) → lock < length b.maxima → IsKept b t → may_have mode (slice_index b.maxima lock) (slice_index t.counting lock) (slice_index t.exclusive lock) ≡ true → may_have mode (slice_index b.maxima lock) (holders Counting lock b.jobs) (holders Exclusive lock b.jobs) ≡ true
 fits_holders b t mode lock low kept h =
     ap (λ n. may_have mode (slice_index b.maxima lock) n (holders Exclusive lock b.jobs)) (sym (kept.counts.shared lock low))
     ∙ ap (λ n. may_have mode (slice_index b.maxima lock) (slice_index t.counting lock) n) (sym (kept.counts.alone lock low)) ∙ h
 
 -- a worker with a free slot has enough for one build more
-slot_fits : (b : Standing) (t : Tally) (job : Course) (w after : ℕ) → w < length b.workers → after ≡ occupied w b.jobs + place_share w job.build → IsStartable b t job → IsKept b t → after ≤ slice_index (map (λ worker. worker.slots) b.workers) w
+slot_fits : (b : BoardState) (t : HeldCounts) (job : BuildState) (w after : ℕ) → w < length b.workers → after ≡ occupied w b.jobs + place_share w job.build → IsStartable b t job → IsKept b t → after ≤ slice_index (map (λ worker. worker.slots) b.workers) w
 slot_fits b t job w after low e free kept =
     elim (cases_Bool (job.build.worker == w)) [
       | inl same ↦
@@ -160,7 +160,7 @@ slot_fits b t job w after low e free kept =
     ]
 
 -- the board of a started build is kept
-pub kept_started : (b : Standing) (t t' : Tally) (id : ℕ) (job new : Course) → id < length b.jobs → job ≡ get_or b.jobs id job → Starts job new → IsStartable b t job → IsTaken t t' job.build → IsKept b t → IsKept (with_job b id new) t'
+pub kept_started : (b : BoardState) (t t' : HeldCounts) (id : ℕ) (job new : BuildState) → id < length b.jobs → job ≡ get_or b.jobs id job → Starts job new → IsStartable b t job → IsTaken t t' job.build → IsKept b t → IsKept (with_job b id new) t'
 kept_started b t t' id job new l e s free more kept =
     let known = known_at b t id job l e kept in
     let places = places_grow b id job new l e s in
@@ -193,27 +193,27 @@ kept_started b t t' id job new l e s free more kept =
     }
 
 -- a build that is released keeps what it is, and held until then
-pub record Stops (job new : Course) : Type 0 where
+pub record Stops (job new : BuildState) : Type 0 where
   pub build : new.build ≡ job.build
   pub before : is_holding job.phase ≡ true
   pub now : is_holding new.phase ≡ false
 
 -- the worker's builds are one fewer after a release
-pub places_fall : (b : Standing) (id : ℕ) (job new : Course) → id < length b.jobs → job ≡ get_or b.jobs id job → Stops job new → (w : ℕ) → occupied w b.jobs ≡ occupied w (set b.jobs id new) + place_share w job.build
+pub places_fall : (b : BoardState) (id : ℕ) (job new : BuildState) → id < length b.jobs → job ≡ get_or b.jobs id job → Stops job new → (w : ℕ) → occupied w b.jobs ≡ occupied w (set b.jobs id new) + place_share w job.build
 places_fall b id job new l e s w =
     count_falls (occupies w) b.jobs id job new (job.build.worker == w) l e
     (ap (λ h. h && (job.build.worker == w)) s.before)
     (ap (λ h. h && (new.build.worker == w)) s.now)
 
 -- the holders of each of its locks are one fewer
-pub locks_fall : (b : Standing) (id : ℕ) (job new : Course) → id < length b.jobs → job ≡ get_or b.jobs id job → Stops job new → (mode : Mode) (lock : ℕ) → holders mode lock b.jobs ≡ holders mode lock (set b.jobs id new) + lock_share mode lock job.build
+pub locks_fall : (b : BoardState) (id : ℕ) (job new : BuildState) → id < length b.jobs → job ≡ get_or b.jobs id job → Stops job new → (mode : Mode) (lock : ℕ) → holders mode lock b.jobs ≡ holders mode lock (set b.jobs id new) + lock_share mode lock job.build
 locks_fall b id job new l e s mode lock =
     count_falls (holds_lock mode lock) b.jobs id job new (list_any (is_use mode lock) job.build.locks) l e
     (ap (λ h. h && list_any (is_use mode lock) job.build.locks) s.before)
     (ap (λ h. h && list_any (is_use mode lock) new.build.locks) s.now)
 
 -- the board of a released build is kept
-pub kept_released : (b : Standing) (t t' : Tally) (id : ℕ) (job new : Course) → id < length b.jobs → job ≡ get_or b.jobs id job → Stops job new → IsTaken t' t job.build → IsKept b t → IsKept (with_job b id new) t'
+pub kept_released : (b : BoardState) (t t' : HeldCounts) (id : ℕ) (job new : BuildState) → id < length b.jobs → job ≡ get_or b.jobs id job → Stops job new → IsTaken t' t job.build → IsKept b t → IsKept (with_job b id new) t'
 kept_released b t t' id job new l e s more kept =
     let known = known_at b t id job l e kept in
     let places = places_fall b id job new l e s in
@@ -245,20 +245,17 @@ waits_uncounted p xs y h =
     omega (arith, sum_by-append (λ x. cond (p x) 1 0) xs (y ∷ []), none)
 
 -- the board with a build more that waits is kept
-pub kept_added : (b : Standing) (t : Tally) (build : Build) (jobs : List Course) (added : Bool) → jobs ≡ cond added (b.jobs ++ waiting build ∷ []) b.jobs → nat_lt build.worker (length b.workers) ≡ true → are_good (length b.maxima) build.locks ≡ true → length b.jobs < most_builds → IsKept b t → IsKept (record { workers = b.workers; maxima = b.maxima; jobs = jobs }) t
-kept_added b t build jobs false e worker locks room kept =
-    subst (λ (js : List Course). IsKept (record { workers = b.workers; maxima = b.maxima; jobs = js }) t) (sym e) kept
-kept_added b t build jobs true e worker locks room kept =
-    subst (λ (js : List Course). IsKept (record { workers = b.workers; maxima = b.maxima; jobs = js }) t) (sym e)
-    (kept_alike b t (b.jobs ++ waiting build ∷ [])
+pub kept_added : (b : BoardState) (t : HeldCounts) (build : Build) → nat_lt build.worker (length b.workers) ≡ true → are_good (length b.maxima) build.locks ≡ true → length b.jobs < most_builds → IsKept b t → IsKept (record { workers = b.workers; maxima = b.maxima; jobs = b.jobs ++ waiting build ∷ [] }) t
+kept_added b t build worker locks room kept =
+    kept_alike b t (b.jobs ++ waiting build ∷ [])
     (omega (arith, room, length-append b.jobs (waiting build ∷ [])))
     (All-push (λ j. IsTrue (is_known (length b.workers) (length b.maxima) j)) b.jobs (waiting build) kept.known (and_from _ _ worker locks))
     (λ w. waits_uncounted (occupies w) b.jobs (waiting build) refl)
     (λ mode lock. waits_uncounted (holds_lock mode lock) b.jobs (waiting build) refl)
-    kept)
+    kept
 
 -- the board with a worker's readiness changed is kept
-pub kept_ready : (b : Standing) (t : Tally) (w : ℕ) (old : WorkerSlots) (ready : Bool) → old ≡ get_or b.workers w old → IsKept b t → IsKept (record { workers = set b.workers w (record { slots = old.slots; ready = ready }); maxima = b.maxima; jobs = b.jobs }) t
+pub kept_ready : (b : BoardState) (t : HeldCounts) (w : ℕ) (old : WorkerSlots) (ready : Bool) → old ≡ get_or b.workers w old → IsKept b t → IsKept (record { workers = set b.workers w (record { slots = old.slots; ready = ready }); maxima = b.maxima; jobs = b.jobs }) t
 kept_ready b t w old ready e kept =
     let new : WorkerSlots = record { slots = old.slots; ready = ready } in
     let len = length-set b.workers w new in

@@ -2,4 +2,6 @@ pub mod Uses
 pub mod Places
 pub mod Keeping
 pub mod Starting
+pub mod Waiting
+pub mod Counting
 mod Examples

@@ -16,19 +16,19 @@ use Rattle.bm_board.specs.declared.worker_slots.WorkerSlots.{WorkerSlots}
 use Rattle.bm_board.specs.declared.scheduled_build.Started.{Started}
 use Rattle.bm_board.specs.declared.refusal.BoardRefusal.TheVariants.{NotWaiting, NoWorker, LockHeld}
 use Rattle.bm_board.specs.Locks.{may_have, are_good, are_distinct}
-use Rattle.bm_board.specs.ScheduledBuild.{Course, Outcome, is_waiting, is_holding, phase_of, started, first_of, answer_of}
-use Rattle.bm_board.specs.Board.{Standing, occupied, holders, has_place, is_free, start, on_build, board_after}
-use Rattle.bm_board.specs.Kept.{Tally, are_free, is_known, HasRoom, IsKept}
+use Rattle.bm_board.specs.ScheduledBuild.{BuildState, Outcome, is_waiting, is_holding, phase_of, started, first_of, answer_of}
+use Rattle.bm_board.specs.Board.{BoardState, occupied, holders, has_place, is_free, start, on_build, board_after}
+use Rattle.bm_board.specs.Kept.{HeldCounts, are_free, is_known, HasRoom, IsKept}
 use Rattle.bm_board.proofs.Uses.{all_alike, each_passes, same_mode}
 use Rattle.bm_board.proofs.Places.{on_place, with_job}
 use Rattle.bm_board.proofs.Keeping.{known_at, counting_fits, exclusive_fits, Starts, IsStartable}
 
 -- what a start does where the build waits, the worker has a place and the locks may be had, or not
-abbrev pub chosen : Course → Bool → Bool → Bool → Outcome Started
+abbrev pub chosen : BuildState → Bool → Bool → Bool → Outcome Started
 chosen job waits place free =
     cond waits (cond place (cond free (Ok (started job, record { worker = job.build.worker; next = first_of job })) (Err LockHeld)) (Err NoWorker)) (Err NotWaiting)
 
-pub start_chosen : (b now : Standing) (id : ℕ) (job : Course) (waits place free : Bool) → b ≡ now → id < length b.jobs → job ≡ get_or b.jobs id job → is_waiting job.phase ≡ waits → has_place b job.build.worker ≡ place → list_all (is_free b) job.build.locks ≡ free → on_build (start now) now id ≡ chosen job waits place free
+pub start_chosen : (b now : BoardState) (id : ℕ) (job : BuildState) (waits place free : Bool) → b ≡ now → id < length b.jobs → job ≡ get_or b.jobs id job → is_waiting job.phase ≡ waits → has_place b job.build.worker ≡ place → list_all (is_free b) job.build.locks ≡ free → on_build (start now) now id ≡ chosen job waits place free
 start_chosen b now id job waits place free v l e hw hp hf =
     ap (λ z. on_build (start z) z id) (sym v) ∙ on_place (start b) b id job l e
     ∙ ap (λ w. chosen job w (has_place b job.build.worker) (list_all (is_free b) job.build.locks)) hw
@@ -36,7 +36,7 @@ start_chosen b now id job waits place free v l e hw hp hf =
     ∙ ap (λ f. chosen job waits place f) hf
 
 -- the worker's place, by the slots that are counted
-pub has_place_is : (b : Standing) (t : Tally) (w : ℕ) (had : WorkerSlots) → w < length b.workers → had ≡ get_or b.workers w had → IsKept b t → has_place b w ≡ (had.ready && nat_lt (slice_index t.taken w) had.slots)
+pub has_place_is : (b : BoardState) (t : HeldCounts) (w : ℕ) (had : WorkerSlots) → w < length b.workers → had ≡ get_or b.workers w had → IsKept b t → has_place b w ≡ (had.ready && nat_lt (slice_index t.taken w) had.slots)
 has_place_is b t w had l e kept =
     let found = slice_get-get_or b.workers w had l in
     ap (λ o. option_map_or (λ (worker : WorkerSlots). worker.ready && nat_lt (occupied w b.jobs) worker.slots) o false) found
@@ -44,7 +44,7 @@ has_place_is b t w had l e kept =
     ∙ ap (λ n. had.ready && nat_lt n had.slots) (sym (kept.counts.slots w l))
 
 -- the locks that may be had, by the holders that are counted
-pub are_free_is : (b : Standing) (t : Tally) (uses : List LockUse) → list_all (λ u. nat_lt u.lock (length b.maxima)) uses ≡ true → IsKept b t → list_all (is_free b) uses ≡ are_free t b.maxima uses
+pub are_free_is : (b : BoardState) (t : HeldCounts) (uses : List LockUse) → list_all (λ u. nat_lt u.lock (length b.maxima)) uses ≡ true → IsKept b t → list_all (is_free b) uses ≡ are_free t b.maxima uses
 are_free_is b t uses there kept =
     all_alike (is_free b) (λ u. may_have u.mode (slice_index b.maxima u.lock) (slice_index t.counting u.lock) (slice_index t.exclusive u.lock)) uses
     (λ i d l.
@@ -54,7 +54,7 @@ are_free_is b t uses there kept =
     ∙ ap (λ n. may_have u.mode (slice_index b.maxima u.lock) (slice_index t.counting u.lock) n) (sym (kept.counts.alone u.lock low)))
 
 -- a start, by what its tests found
-pub start_by : (b now : Standing) (t : Tally) (id : ℕ) (job : Course) (build : Build) (had : WorkerSlots) (taken : ℕ) (waits place free : Bool) → b ≡ now → id < length b.jobs → job ≡ get_or b.jobs id job → IsKept b t → build ≡ job.build → is_waiting job.phase ≡ waits → had ≡ get_or b.workers build.worker had → taken ≡ slice_index t.taken build.worker → (had.ready && nat_lt taken had.slots) ≡ place → are_free t b.maxima build.locks ≡ free → on_build (start now) now id ≡ chosen job waits place free
+pub start_by : (b now : BoardState) (t : HeldCounts) (id : ℕ) (job : BuildState) (build : Build) (had : WorkerSlots) (taken : ℕ) (waits place free : Bool) → b ≡ now → id < length b.jobs → job ≡ get_or b.jobs id job → IsKept b t → build ≡ job.build → is_waiting job.phase ≡ waits → had ≡ get_or b.workers build.worker had → taken ≡ slice_index t.taken build.worker → (had.ready && nat_lt taken had.slots) ≡ place → are_free t b.maxima build.locks ≡ free → on_build (start now) now id ≡ chosen job waits place free
 start_by b now t id job build had taken waits place free v l e kept hb hw at ht hp hf =
     let known = and_parts (nat_lt job.build.worker (length b.workers)) (are_good (length b.maxima) job.build.locks) (known_at b t id job l e kept) in
     let good = and_parts (list_all (λ u. nat_lt u.lock (length b.maxima)) job.build.locks) (are_distinct job.build.locks) known.1 in
@@ -67,13 +67,13 @@ start_by b now t id job build had taken waits place free v l e kept hb hw at ht 
     start_chosen b now id job waits place free v l e hw placed freed
 
 -- the answer of a start
-pub started_answer : (job other : Course) (build : Build) (next : Next) → job ≡ other → build ≡ job.build → next ≡ first_of other → Ok (record { worker = build.worker; next = next }) ≡ answer_of (chosen job true true true)
+pub started_answer : (job other : BuildState) (build : Build) (next : Next) → job ≡ other → build ≡ job.build → next ≡ first_of other → Ok (record { worker = build.worker; next = next }) ≡ answer_of (chosen job true true true)
 started_answer job other build next same hb hn =
     ap (λ (x : Build). Ok (record { worker = x.worker; next = next })) hb
     ∙ ap (λ n. Ok (record { worker = job.build.worker; next = n })) (hn ∙ ap first_of (sym same))
 
 -- the board after a start
-pub started_board : (b now : Standing) (id : ℕ) (job other new : Course) → b ≡ now → job ≡ other → new ≡ started other → with_job b id new ≡ board_after now id (chosen job true true true)
+pub started_board : (b now : BoardState) (id : ℕ) (job other new : BuildState) → b ≡ now → job ≡ other → new ≡ started other → with_job b id new ≡ board_after now id (chosen job true true true)
 started_board b now id job other new v same hn =
     ap (λ j. with_job b id j) (hn ∙ ap started (sym same)) ∙ ap (λ z. with_job z id (started job)) v
 
@@ -88,17 +88,22 @@ pub started_holds : (next : Next) → is_holding (phase_of next) ≡ true
 started_holds (Step step) = refl
 started_holds (Ended result) = refl
 
+-- a started build waits no longer
+pub started_waits_not : (next : Next) → is_waiting (phase_of next) ≡ false
+started_waits_not (Step step) = refl
+started_waits_not (Ended result) = refl
+
 -- a build that starts
-pub starts : (job new : Course) → is_waiting job.phase ≡ true → new ≡ started job → Starts job new
+pub starts : (job new : BuildState) → is_waiting job.phase ≡ true → new ≡ started job → Starts job new
 starts job new hw hn =
     record {
-      build = ap (λ (j : Course). j.build) hn;
+      build = ap (λ (j : BuildState). j.build) hn;
       before = waiting_holds_none job.phase hw;
-      now = ap (λ (j : Course). is_holding j.phase) hn ∙ started_holds (first_of job);
+      now = ap (λ (j : BuildState). is_holding j.phase) hn ∙ started_holds (first_of job);
     }
 
 -- the tests of a start found that the build may start
-pub startable : (b : Standing) (t : Tally) (id : ℕ) (job : Course) (build : Build) (had : WorkerSlots) (taken : ℕ) → id < length b.jobs → job ≡ get_or b.jobs id job → IsKept b t → build ≡ job.build → had ≡ get_or b.workers build.worker had → taken ≡ slice_index t.taken build.worker → taken < had.slots → are_free t b.maxima build.locks ≡ true → IsStartable b t job
+pub startable : (b : BoardState) (t : HeldCounts) (id : ℕ) (job : BuildState) (build : Build) (had : WorkerSlots) (taken : ℕ) → id < length b.jobs → job ≡ get_or b.jobs id job → IsKept b t → build ≡ job.build → had ≡ get_or b.workers build.worker had → taken ≡ slice_index t.taken build.worker → taken < had.slots → are_free t b.maxima build.locks ≡ true → IsStartable b t job
 startable b t id job build had taken l e kept hb at ht lt hf =
     let known = and_parts (nat_lt job.build.worker (length b.workers)) (are_good (length b.maxima) job.build.locks) (known_at b t id job l e kept) in
     let good = and_parts (list_all (λ u. nat_lt u.lock (length b.maxima)) job.build.locks) (are_distinct job.build.locks) known.1 in
@@ -113,7 +118,7 @@ startable b t id job build had taken l e kept hb at ht lt hf =
     }
 
 -- the counts of a build that may start stay in their types
-pub has_room : (b : Standing) (t : Tally) (job : Course) (build : Build) → build ≡ job.build → IsKept b t → IsTrue (is_known (length b.workers) (length b.maxima) job) → slice_index t.taken build.worker + 1 < 2 ^ 8 → All (λ m. m < 2 ^ 32) b.maxima → are_free t b.maxima build.locks ≡ true → HasRoom t build
+pub has_room : (b : BoardState) (t : HeldCounts) (job : BuildState) (build : Build) → build ≡ job.build → IsKept b t → IsTrue (is_known (length b.workers) (length b.maxima) job) → slice_index t.taken build.worker + 1 < 2 ^ 8 → All (λ m. m < 2 ^ 32) b.maxima → are_free t b.maxima build.locks ≡ true → HasRoom t build
 has_room b t job build hb kept known room fits hf =
     let parts = and_parts (nat_lt job.build.worker (length b.workers)) (are_good (length b.maxima) job.build.locks) known in
     let good = and_parts (list_all (λ u. nat_lt u.lock (length b.maxima)) job.build.locks) (are_distinct job.build.locks) parts.1 in

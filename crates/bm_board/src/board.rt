@@ -23,16 +23,16 @@ const MOST_BUILDS: usize = 10_000;
 pub struct Board {
     workers: Vec<WorkerSlots>,
     maxima: Vec<u32>,
-    // What the builds hold, counted.
+    // What the builds hold and wait for, counted.
     counts: Counts,
     jobs: Vec<ScheduledBuild>,
 }
 
 impl Model for Board {
-    ghost use Rattle.bm_board.specs.Board.{Standing};
-    ghost use Rattle.bm_board.specs.Kept.{IsKept};
+    ghost use Rattle.bm_board.specs.Board.{BoardState};
+    ghost use Rattle.bm_board.specs.Kept.{IsCounted};
 
-    ghost Value = { Standing };
+    ghost Value = { BoardState };
 
     ghost view = { λ b. record {
       workers = b.workers.items;
@@ -40,13 +40,13 @@ impl Model for Board {
       jobs = b.jobs.items;
     } };
 
-    ghost invariant = { λ b. IsKept
+    ghost invariant = { λ b. IsCounted
         (record { workers = b.workers.items; maxima = b.maxima.items; jobs = b.jobs.items })
         b.counts };
 }
 
 impl Board {
-    ghost use Rattle.bm_board.specs.Board.{IsWithinLimits, add_refusal, board_after, on_build, opening, result_on, start, with_build, with_ready};
+    ghost use Rattle.bm_board.specs.Board.{IsWithinLimits, add_refusal, board_after, has_build, is_ready, is_wanted, on_build, opening, result_on, start, with_build, with_ready, worker_of};
     ghost use Rattle.bm_board.specs.ScheduledBuild.{answer_of, cancel, finish, give_up, release, waits_for};
 
     /// A board of workers with these many slots, none ready, and of locks with these maxima.
@@ -75,6 +75,45 @@ impl Board {
         ensures { result ≡ length self.now.workers }
     {
         self.workers.as_slice().len()
+    }
+
+    /// How many builds there are, of all that were added.
+    pub fn builds(&self) -> usize
+        ensures { result ≡ length self.now.jobs }
+    {
+        self.jobs.as_slice().len()
+    }
+
+    /// Whether the worker is there and takes builds.
+    pub fn is_ready(&self, worker: usize) -> bool
+        ensures { result ≡ is_ready self.now worker }
+    {
+        match self.workers.get(worker) {
+            Some(worker) => worker.ready,
+            None => false,
+        }
+    }
+
+    /// Whether a build waits for the worker.
+    pub fn is_wanted(&self, worker: usize) -> bool
+        ensures { result ≡ is_wanted self.now worker }
+    {
+        self.counts.waiting(worker) > 0
+    }
+
+    /// Whether a build of the worker was started, and hasn't given its slot back.
+    pub fn has_build(&self, worker: usize) -> bool
+        ensures { result ≡ has_build self.now worker }
+    {
+        worker < self.workers.len() && self.counts.taken(worker) > 0
+    }
+
+    /// The worker of a build, None where there is no such build.
+    pub fn worker_of(&self, id: u64) -> Option<usize>
+        ensures { result ≡ worker_of self.now id }
+    {
+        let job = self.jobs.get(id as usize)?;
+        Some(job.build().worker)
     }
 
     /// What holds of every board: each lock has one exclusive holder, or at most its maximum of
@@ -115,9 +154,13 @@ impl Board {
         if id >= MOST_BUILDS {
             return Err((build, BoardRefusal::Full));
         }
+        let worker = build.worker;
         let job = ScheduledBuild::new(*self.jobs.allocator(), build);
         match self.jobs.push(job) {
-            Ok(()) => Ok(id as u64),
+            Ok(()) => {
+                self.counts.add_waiting(worker);
+                Ok(id as u64)
+            }
             Err(failed) => Err((failed.value.into_build(), BoardRefusal::Mem)),
         }
     }
@@ -154,6 +197,7 @@ impl Board {
         let Ok(outcomes) = Outcomes::skipped(*self.jobs.allocator(), steps) else {
             return Err(BoardRefusal::Mem);
         };
+        self.counts.remove_waiting(worker);
         self.counts.take(build);
         let next = self.jobs[place].start(outcomes);
         Ok(Started { worker, next })
@@ -184,7 +228,14 @@ impl Board {
         if place >= self.jobs.len() {
             return Err(BoardRefusal::NoBuild);
         }
-        self.jobs[place].cancel()
+        let job = &mut self.jobs[place];
+        let waited = job.is_waiting();
+        let worker = job.build().worker;
+        let answer = job.cancel();
+        if waited {
+            self.counts.remove_waiting(worker);
+        }
+        answer
     }
 
     /// The result of a build, None before its end.
@@ -235,7 +286,14 @@ impl Board {
         if place >= self.jobs.len() {
             return Err(BoardRefusal::NoBuild);
         }
-        self.jobs[place].give_up()
+        let job = &mut self.jobs[place];
+        let waited = job.is_waiting();
+        let worker = job.build().worker;
+        let answer = job.give_up();
+        if waited {
+            self.counts.remove_waiting(worker);
+        }
+        answer
     }
 }
 

@@ -1,8 +1,8 @@
-//! How many slots are taken and how often each lock is held.
+//! How many slots are taken, how often each lock is held, and how many builds wait.
 
-ghost use Rattle.std.specs.Prelude.{◌≡◌, ◌<◌, ◌≤◌, ◌^◌, All, length, replicate, slice_index, IfOk};
+ghost use Rattle.std.specs.Prelude.{◌≡◌, ◌+◌, ◌<◌, ◌≤◌, ◌^◌, All, length, replicate, slice_index, IfOk};
 ghost use Rattle.std.specs.List.{list_all};
-ghost use Rattle.bm_board.specs.Kept.{HasRoom, IsHeld, IsListed, IsTaken, are_free};
+ghost use Rattle.bm_board.specs.Kept.{HasRoom, IsHeld, IsListed, IsOneMore, IsTaken, are_free};
 ghost use Rattle.bm_board.specs.Locks.{may_have};
 
 use crate::locks;
@@ -10,7 +10,8 @@ use crate::plan::{Build, LockUse, Mode};
 use std::alloc::{AllocError, Global};
 use std::marker::Model;
 
-/// What the builds of a board hold, counted as it changes.
+/// What the builds of a board hold and wait for, counted as they change. No call but `new` takes
+/// memory.
 #[derive(Drop)]
 pub struct Counts {
     // Of each worker, how many slots are taken.
@@ -18,50 +19,90 @@ pub struct Counts {
     // Of each lock, how many builds hold it in each mode.
     counting: Vec<u32>,
     exclusive: Vec<u32>,
+    // Of each worker, how many builds wait for it.
+    waiting: Vec<u32>,
 }
 
 impl Model for Counts {
-    ghost use Rattle.bm_board.specs.Kept.{Tally};
+    ghost use Rattle.bm_board.specs.Kept.{BoardCounts};
 
-    ghost Value = { Tally };
+    ghost Value = { BoardCounts };
 
     ghost view = { λ c. record {
-      taken = c.taken.items;
-      counting = c.counting.items;
-      exclusive = c.exclusive.items;
+      held = record {
+        taken = c.taken.items;
+        counting = c.counting.items;
+        exclusive = c.exclusive.items;
+      };
+      waiting = c.waiting.items;
     } };
 }
 
 impl Counts {
-    /// Nothing is held.
+    /// Nothing is held, and no build waits.
     pub fn new(alloc: Global, workers: usize, locks: usize) -> Result<Counts, AllocError>
         ensures { IfOk result (λ c. c ≡ record {
-          taken = replicate workers 0;
-          counting = replicate locks 0;
-          exclusive = replicate locks 0;
+          held = record {
+            taken = replicate workers 0;
+            counting = replicate locks 0;
+            exclusive = replicate locks 0;
+          };
+          waiting = replicate workers 0;
         }) }
     {
         Ok(Counts {
             taken: vec![in alloc; 0; workers]?,
             counting: vec![in alloc; 0; locks]?,
             exclusive: vec![in alloc; 0; locks]?,
+            waiting: vec![in alloc; 0; workers]?,
         })
     }
 
     /// How many slots of the worker are taken.
     pub fn taken(&self, worker: usize) -> u8
-        requires { worker < length self.now.taken }
-        ensures { result ≡ slice_index self.now.taken worker }
+        requires { worker < length self.now.held.taken }
+        ensures { result ≡ slice_index self.now.held.taken worker }
     {
         self.taken[worker]
     }
 
+    /// How many builds wait for the worker; 0 where there is no such worker.
+    pub fn waiting(&self, worker: usize) -> u32
+        ensures { result ≡ slice_index self.now.waiting worker }
+    {
+        if worker < self.waiting.len() {
+            self.waiting[worker]
+        } else {
+            0
+        }
+    }
+
+    /// One build more waits for the worker.
+    pub fn add_waiting(&mut self, worker: usize)
+        requires there { worker < length self.old.waiting }
+        requires room { slice_index self.old.waiting worker + 1 < 2 ^ 32 }
+        ensures held { self.new.held ≡ self.old.held }
+        ensures more { IsOneMore self.old.waiting self.new.waiting worker }
+    {
+        self.waiting[worker] += 1;
+    }
+
+    /// One build fewer waits for the worker.
+    pub fn remove_waiting(&mut self, worker: usize)
+        requires there { worker < length self.old.waiting }
+        requires some { 0 < slice_index self.old.waiting worker }
+        ensures held { self.new.held ≡ self.old.held }
+        ensures fewer { IsOneMore self.new.waiting self.old.waiting worker }
+    {
+        self.waiting[worker] -= 1;
+    }
+
     /// Whether each lock of the build may be had.
     pub fn are_free(&self, maxima: &[u32], build: &Build) -> bool
-        requires listed { IsListed self.now build.now }
-        requires maxima { length maxima.now ≡ length self.now.counting }
-        requires maxima_too { length maxima.now ≡ length self.now.exclusive }
-        ensures free { result ≡ are_free self.now maxima.now build.now.locks }
+        requires listed { IsListed self.now.held build.now }
+        requires maxima { length maxima.now ≡ length self.now.held.counting }
+        requires maxima_too { length maxima.now ≡ length self.now.held.exclusive }
+        ensures free { result ≡ are_free self.now.held maxima.now build.now.locks }
         ensures small { All (λ m. m < 2 ^ 32) maxima.now }
     {
         are_free(
@@ -74,9 +115,10 @@ impl Counts {
 
     /// Counts what a build takes.
     pub fn take(&mut self, build: &Build)
-        requires listed { IsListed self.old build.now }
-        requires room { HasRoom self.old build.now }
-        ensures { IsTaken self.old self.new build.now }
+        requires listed { IsListed self.old.held build.now }
+        requires room { HasRoom self.old.held build.now }
+        ensures held { IsTaken self.old.held self.new.held build.now }
+        ensures waiting { self.new.waiting ≡ self.old.waiting }
     {
         let uses = build.locks.as_slice();
         self.taken[build.worker] += 1;
@@ -86,9 +128,10 @@ impl Counts {
 
     /// Counts no longer what a build took.
     pub fn give(&mut self, build: &Build)
-        requires listed { IsListed self.old build.now }
-        requires held { IsHeld self.old build.now }
-        ensures { IsTaken self.new self.old build.now }
+        requires listed { IsListed self.old.held build.now }
+        requires held { IsHeld self.old.held build.now }
+        ensures held { IsTaken self.new.held self.old.held build.now }
+        ensures waiting { self.new.waiting ≡ self.old.waiting }
     {
         let uses = build.locks.as_slice();
         self.taken[build.worker] -= 1;

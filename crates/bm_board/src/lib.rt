@@ -1,5 +1,9 @@
 //! The board of builds: which build runs on which worker, the locks that it holds, its steps and
 //! its result (Buildbot manual: "Build Steps", "Interlocks", "Results").
+//!
+//! Promised: each call does just what its definition says, and refuses in the order of its
+//! definition. No worker runs more builds than it has slots, and no lock is held beyond its maximum.
+//! A body could still want memory.
 #![tactic(auto)]
 
 mod board;

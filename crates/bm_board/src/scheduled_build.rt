@@ -41,9 +41,9 @@ pub struct ScheduledBuild {
 
 impl Model for ScheduledBuild {
     ghost use Rattle.std.specs.Prelude.{IsTrue, length};
-    ghost use Rattle.bm_board.specs.ScheduledBuild.{Course, is_sound};
+    ghost use Rattle.bm_board.specs.ScheduledBuild.{BuildState, is_sound};
 
-    ghost Value = { Course };
+    ghost Value = { BuildState };
 
     ghost view = { λ j. record { build = j.build; phase = j.phase; outcomes = j.outcomes } };
 
@@ -114,6 +114,7 @@ impl ScheduledBuild {
         ensures answer { result ≡ answer_of (finish outcome self.old) }
         ensures job { self.new ≡ job_after self.old (finish outcome self.old) }
         ensures holder { IsSameHolder self.old self.new }
+        ensures waits { is_waiting self.new.phase ≡ is_waiting self.old.phase }
     {
         let Phase::Running { step, cancelled } = self.phase else {
             return Err(BoardRefusal::NotRunning);
@@ -137,6 +138,7 @@ impl ScheduledBuild {
         ensures answer { result ≡ answer_of (cancel self.old) }
         ensures job { self.new ≡ job_after self.old (cancel self.old) }
         ensures holder { IsSameHolder self.old self.new }
+        ensures waits { is_waiting self.new.phase ≡ false }
     {
         match self.phase {
             Phase::Waiting => {
@@ -162,6 +164,7 @@ impl ScheduledBuild {
         ensures answer { result ≡ answer_of (give_up self.old) }
         ensures job { self.new ≡ job_after self.old (give_up self.old) }
         ensures holder { IsSameHolder self.old self.new }
+        ensures waits { is_waiting self.new.phase ≡ false }
     {
         if !self.is_waiting() {
             return Err(BoardRefusal::NotWaiting);
@@ -187,6 +190,7 @@ impl ScheduledBuild {
         ensures build { self.new.build ≡ self.old.build }
         ensures before { is_holding self.old.phase ≡ true }
         ensures after { is_holding self.new.phase ≡ false }
+        ensures waits { is_waiting self.new.phase ≡ is_waiting self.old.phase }
     {
         if let Phase::Over { result, .. } = self.phase {
             self.phase = Phase::Over {

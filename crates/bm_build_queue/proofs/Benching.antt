@@ -6,7 +6,7 @@ use Rattle.std.proofs.lemmas.Option.{slice_get_past}
 use Rattle.bm_lane.specs.Ends.{Watched}
 use Rattle.bm_board.specs.declared.refusal.BoardRefusal.TheVariants.{NoBuild}
 use Rattle.bm_board.specs.ScheduledBuild.{result_in}
-use Rattle.bm_board.specs.Board.{Standing}
+use Rattle.bm_board.specs.Board.{BoardState}
 use Rattle.bm_build_queue.specs.ViewerPools.{Benched, IsTaken}
 use Rattle.bm_build_queue.specs.BuildQueue.{HasResult, IsOver}
 
@@ -44,6 +44,6 @@ left_at bs now w b left (Some v) s e l h =
     }
 
 -- each build before a number that no build has has its result
-pub over : (b : Standing) (n : ℕ) → length b.jobs ≤ n → ((k : ℕ) → k < n → HasResult b k) → IsOver b
+pub over : (b : BoardState) (n : ℕ) → length b.jobs ≤ n → ((k : ℕ) → k < n → HasResult b k) → IsOver b
 over b n l each =
     record { number = n; none = (NoBuild, ap (λ o. option_map_or (λ job. Ok (result_in job.phase)) o (Err NoBuild)) (slice_get_past b.jobs n l)); each = each }

@@ -7,26 +7,26 @@ use Rattle.std.proofs.lemmas.List.{length-set}
 use Rattle.std.proofs.lemmas.List.Sums.{count_by-le-length, sum_by-cons}
 use Rattle.std.proofs.Math.Seq.{map-set_same}
 use Rattle.bm_board.specs.declared.scheduled_build.Phase.{Phase}
-use Rattle.bm_board.specs.ScheduledBuild.{Course, is_waiting, is_holding, waiting}
-use Rattle.bm_board.specs.Board.{Standing, most_builds}
+use Rattle.bm_board.specs.ScheduledBuild.{BuildState, is_waiting, is_holding, waiting}
+use Rattle.bm_board.specs.Board.{BoardState, most_builds}
 use Rattle.bm_board.proofs.Places.{with_job}
 use Rattle.bm_board.proofs.Keeping.{count_by-set}
 use Rattle.bm_build_queue.specs.Counted.{IsCounted, IsOneMore}
 
 -- the build passes the test, and is the worker's
-abbrev pub is_his : (Phase → Bool) → ℕ → Course → Bool
+abbrev pub is_his : (Phase → Bool) → ℕ → BuildState → Bool
 is_his test w job = test job.phase && job.build.worker == w
 
 -- how many builds of the worker pass the test
-abbrev pub tally : (Phase → Bool) → List Course → ℕ → ℕ
+abbrev pub tally : (Phase → Bool) → List BuildState → ℕ → ℕ
 tally test jobs w = count_by (is_his test w) jobs
 
 -- the build at a place is changed, and stays the same worker's
-pub record IsChange (b : Standing) (id : ℕ) (job new : Course) : Type 0 where
+pub record IsChange (b : BoardState) (id : ℕ) (job new : BuildState) : Type 0 where
   pub found : slice_get b.jobs id ≡ Some job
   pub build : new.build ≡ job.build
 
-change : (test : Phase → Bool) (b : Standing) (id : ℕ) (job new : Course) (w : ℕ) → IsChange b id job new
+change : (test : Phase → Bool) (b : BoardState) (id : ℕ) (job new : BuildState) (w : ℕ) → IsChange b id job new
     → tally test (set b.jobs id new) w + cond (test job.phase && job.build.worker == w) 1 0
     ≡ tally test b.jobs w + cond (test new.phase && job.build.worker == w) 1 0
 change test b id job new w c =
@@ -35,14 +35,14 @@ change test b id job new w c =
     ∙ ap (λ build. tally test b.jobs w + cond (test new.phase && build.worker == w) 1 0) c.build
 
 -- these counts are those of the builds that pass the test
-abbrev pub AreOf : (Phase → Bool) → List ℕ → List Course → Type 0
+abbrev pub AreOf : (Phase → Bool) → List ℕ → List BuildState → Type 0
 AreOf test counts jobs = (w : ℕ) → slice_index counts w ≡ tally test jobs w
 
 both : (a b : Bool) (p q : Bool) → p ≡ a → q ≡ b → ◌≡◌ {A = ℕ} (cond (p && q) 1 0) (cond (a && b) 1 0)
 both a b p q e h = ap (λ x. cond (x && q) 1 0) e ∙ ap (λ y. cond (a && y) 1 0) h
 
 -- they stay where the change isn't seen by the test
-pub stay : (test : Phase → Bool) (counts : List ℕ) (b : Standing) (id : ℕ) (job new : Course) → IsChange b id job new
+pub stay : (test : Phase → Bool) (counts : List ℕ) (b : BoardState) (id : ℕ) (job new : BuildState) → IsChange b id job new
     → test new.phase ≡ test job.phase → AreOf test counts b.jobs → AreOf test counts (set b.jobs id new)
 stay test counts b id job new c same are w =
     let here = change test b id job new w c in
@@ -51,7 +51,7 @@ stay test counts b id job new c same are w =
     omega (arith, are w, here, alike)
 
 -- one less passes it
-pub fall : (test : Phase → Bool) (counts less : List ℕ) (b : Standing) (id : ℕ) (job new : Course) → IsChange b id job new
+pub fall : (test : Phase → Bool) (counts less : List ℕ) (b : BoardState) (id : ℕ) (job new : BuildState) → IsChange b id job new
     → test job.phase ≡ true → test new.phase ≡ false → (0 < slice_index counts job.build.worker → IsOneMore less counts job.build.worker)
     → AreOf test counts b.jobs → AreOf test less (set b.jobs id new) × (length less ≡ length counts)
 fall test counts less b id job new c before now one are =
@@ -65,7 +65,7 @@ fall test counts less b id job new c before now one are =
     (λ w. omega (arith, are w, change test b id job new w c, old w, young w, more.counts w), sym more.each)
 
 -- one more passes it
-pub grow : (test : Phase → Bool) (counts more : List ℕ) (b : Standing) (id : ℕ) (job new : Course) → IsChange b id job new
+pub grow : (test : Phase → Bool) (counts more : List ℕ) (b : BoardState) (id : ℕ) (job new : BuildState) → IsChange b id job new
     → test job.phase ≡ false → test new.phase ≡ true → length b.jobs ≤ most_builds
     → (slice_index counts job.build.worker + 1 < 2 ^ 64 → IsOneMore counts more job.build.worker)
     → AreOf test counts b.jobs → AreOf test more (set b.jobs id new) × (length more ≡ length counts)
@@ -80,14 +80,14 @@ grow test counts more b id job new c before now few one are =
     (λ w. omega (arith, are w, change test b id job new w c, old w, young w, up.counts w), up.each)
 
 -- what is counted beside a board with one build changed
-counted : (b : Standing) (owners waiting running waiting' running' : List ℕ) (id : ℕ) (job new : Course) → IsChange b id job new
+counted : (b : BoardState) (owners waiting running waiting' running' : List ℕ) (id : ℕ) (job new : BuildState) → IsChange b id job new
     → AreOf is_waiting waiting' (set b.jobs id new) × (length waiting' ≡ length waiting)
     → AreOf is_holding running' (set b.jobs id new) × (length running' ≡ length running)
     → IsCounted b owners waiting running → IsCounted (with_job b id new) owners waiting' running'
 counted b owners waiting running waiting' running' id job new c wait run kept =
     record {
-      builds = kept.builds ∙ sym (map-set_same (λ (x : Course). x.build.worker) b.jobs id new job
-          (ap (λ build. build.worker) c.build ∙ ap (λ (x : Course). x.build.worker) (sym (get_or_from_slice_get b.jobs id job job c.found))));
+      builds = kept.builds ∙ sym (map-set_same (λ (x : BuildState). x.build.worker) b.jobs id new job
+          (ap (λ build. build.worker) c.build ∙ ap (λ (x : BuildState). x.build.worker) (sym (get_or_from_slice_get b.jobs id job job c.found))));
       few = omega (arith, kept.few, length-set b.jobs id new);
       each_waiting = wait.1 ∙ kept.each_waiting;
       each_running = run.1 ∙ kept.each_running;
@@ -96,7 +96,7 @@ counted b owners waiting running waiting' running' id job new c wait run kept =
     }
 
 -- a change that no count sees
-pub counted_quiet : (b : Standing) (owners waiting running : List ℕ) (id : ℕ) (job new : Course) → IsChange b id job new
+pub counted_quiet : (b : BoardState) (owners waiting running : List ℕ) (id : ℕ) (job new : BuildState) → IsChange b id job new
     → is_waiting new.phase ≡ is_waiting job.phase → is_holding new.phase ≡ is_holding job.phase
     → IsCounted b owners waiting running → IsCounted (with_job b id new) owners waiting running
 counted_quiet b owners waiting running id job new c wait hold kept =
@@ -104,7 +104,7 @@ counted_quiet b owners waiting running id job new c wait hold kept =
     (stay is_waiting waiting b id job new c wait kept.waits, refl) (stay is_holding running b id job new c hold kept.runs, refl) kept
 
 -- a build that waited ends without a start
-pub counted_ended : (b : Standing) (owners waiting less running : List ℕ) (id : ℕ) (job new : Course) → IsChange b id job new
+pub counted_ended : (b : BoardState) (owners waiting less running : List ℕ) (id : ℕ) (job new : BuildState) → IsChange b id job new
     → is_waiting job.phase ≡ true → is_waiting new.phase ≡ false → is_holding new.phase ≡ is_holding job.phase
     → (0 < slice_index waiting job.build.worker → IsOneMore less waiting job.build.worker)
     → IsCounted b owners waiting running → IsCounted (with_job b id new) owners less running
@@ -113,7 +113,7 @@ counted_ended b owners waiting less running id job new c before now hold one kep
     (fall is_waiting waiting less b id job new c before now one kept.waits) (stay is_holding running b id job new c hold kept.runs, refl) kept
 
 -- a build gives its slot back
-pub counted_released : (b : Standing) (owners waiting running less : List ℕ) (id : ℕ) (job new : Course) → IsChange b id job new
+pub counted_released : (b : BoardState) (owners waiting running less : List ℕ) (id : ℕ) (job new : BuildState) → IsChange b id job new
     → is_waiting new.phase ≡ is_waiting job.phase → is_holding job.phase ≡ true → is_holding new.phase ≡ false
     → (0 < slice_index running job.build.worker → IsOneMore less running job.build.worker)
     → IsCounted b owners waiting running → IsCounted (with_job b id new) owners waiting less
@@ -122,7 +122,7 @@ counted_released b owners waiting running less id job new c wait before now one 
     (stay is_waiting waiting b id job new c wait kept.waits, refl) (fall is_holding running less b id job new c before now one kept.runs) kept
 
 -- a build that waited starts
-pub counted_started : (b : Standing) (owners waiting less running more : List ℕ) (id : ℕ) (job new : Course) → IsChange b id job new
+pub counted_started : (b : BoardState) (owners waiting less running more : List ℕ) (id : ℕ) (job new : BuildState) → IsChange b id job new
     → is_waiting job.phase ≡ true → is_waiting new.phase ≡ false → is_holding job.phase ≡ false → is_holding new.phase ≡ true
     → (0 < slice_index waiting job.build.worker → IsOneMore less waiting job.build.worker)
     → (slice_index running job.build.worker + 1 < 2 ^ 64 → IsOneMore running more job.build.worker)

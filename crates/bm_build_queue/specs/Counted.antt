@@ -2,11 +2,11 @@
 -- how many hold a slot of it.
 use Rattle.std.specs.Prelude.{◌≡◌, ◌≤◌, ◌+◌, ℕ, ◌==◌, if◌then◌else◌, List, length, map, count_by, slice_get, slice_index}
 use Rattle.std.specs.Option.{option_map_or}
-use Rattle.bm_board.specs.Board.{Standing, most_builds, occupied}
+use Rattle.bm_board.specs.Board.{BoardState, most_builds, occupied}
 use Rattle.bm_board.specs.ScheduledBuild.{waits_for}
 
 -- of each build its worker, and of each worker how many builds wait for it and hold a slot of it
-pub record IsCounted (b : Standing) (owners waiting running : List ℕ) : Type 0 where
+pub record IsCounted (b : BoardState) (owners waiting running : List ℕ) : Type 0 where
   pub builds : owners ≡ map (λ job. job.build.worker) b.jobs
   pub few : length b.jobs ≤ most_builds
   pub each_waiting : length waiting ≡ length b.workers
@@ -15,7 +15,7 @@ pub record IsCounted (b : Standing) (owners waiting running : List ℕ) : Type 0
   pub runs : (w : ℕ) → slice_index running w ≡ occupied w b.jobs
 
 -- the worker of the build of this number; 0 where there is no such build
-abbrev pub worker_of : Standing → ℕ → ℕ
+abbrev pub worker_of : BoardState → ℕ → ℕ
 worker_of b number = option_map_or (λ job. job.build.worker) (slice_get b.jobs number) 0
 
 -- these counts have one more of the worker

@@ -23,10 +23,10 @@ pub struct CountedBoard {
 }
 
 impl Model for CountedBoard {
-    ghost use Rattle.bm_board.specs.Board.{Standing};
+    ghost use Rattle.bm_board.specs.Board.{BoardState};
     ghost use Rattle.bm_build_queue.specs.Counted.{IsCounted};
 
-    ghost Value = { Standing };
+    ghost Value = { BoardState };
 
     ghost view = { λ b. b.board };
 

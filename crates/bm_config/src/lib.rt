@@ -1,10 +1,9 @@
 //! The configuration of a build master: what a text in TOML (toml.io, version 1.1) says of its
-//! addresses, workers, locks and builds.
+//! addresses, workers, locks and builds, or the first key at fault.
 //!
-//! Promised: [`read_config`] answers the configuration that `specs/Config.antt` reads in the text's
-//! table, or the first key at fault in it. Which table a text says is the promise of `toml`.
-//!
-//! A body could still answer want of memory for any text: tests run it on memory that suffices.
+//! Promised: what `read_config` makes is what the text's tree says, and the fault that is told is the
+//! first one. A body could still want memory. That a text is the tree that it spells is the word of
+//! the crate of TOML.
 #![tactic(auto)]
 
 mod builds;

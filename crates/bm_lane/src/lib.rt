@@ -1,11 +1,12 @@
 //! A lane for running threads: a reader's end that takes the events of a worker's connection, a
-//! writer's end that shows their items to viewers, and viewers that never wait. Each end is owned
-//! by one thread at a time.
+//! writer's end that shows their items to viewers, and viewers that never wait.
 //!
 //! An event's item goes through a bounded queue from the reader's end to the writer's, which
-//! publishes the book of all that it showed; viewers read the published book without a lock. When
-//! the ends come together again, [`settle`] ties what each was shown to the one trace of the lane.
-//! A block's lines are shared by the trace, the queue and both copies of the book.
+//! publishes the book of all that it showed; viewers read the published book without a lock.
+//!
+//! Promised: what viewers see is a beginning of the items of the lane's trace, never less than
+//! before, and [`settle`] ties all ends to one trace. A body could still be busy though its queue has
+//! room by now, want memory, and drain nothing: tests find these.
 #![tactic(auto)]
 
 mod blank;

@@ -1,4 +1,4 @@
--- What a desk's calls carry stays what is pending in its lane.
+-- What a state's calls carry stays what is pending in its lane.
 use Rattle.std.proofs.Common.{◌≡◌, refl, sym, ◌∙◌, ap, subst, ℕ, Bool, true, false, not, ◌&&◌, List, [], ◌∷◌, ◌++◌, Option, Some, None, Result, Ok, Err, inl, inr, rules}
 use Rattle.std.specs.Prelude.{◌⊎◌, is_none, nat_lt, ◌^◌, ◌+◌, if◌then◌else◌}
 use Rattle.bm_session.proofs.Pushed.{is_cut-push}
@@ -311,7 +311,7 @@ pub given_up : (lane lane2 : Heard) (carry : Carried) (r : Result Reply (Event �
 given_up lane lane2 carry (Ok reply) h (l, is, none) = moved carry carry (with_event lane Down) lane2 l refl (after-down lane.trace carry h)
 given_up lane lane2 carry (Err back) h (l, is, refuses) = moved carry carry lane lane2 l refl h
 
--- A desk that is new
+-- A state that is new
 
 pub fresh : (t : Trace) (resumable : Bool) (carry : Carried) → t ≡ [] → carry ≡ new_carried resumable → CarriesPending carry t
 fresh t resumable carry e c =

@@ -1,4 +1,4 @@
 pub mod Carrying
 pub mod Declining
 pub mod Serving
-pub mod Standings
+pub mod ConnectionStates

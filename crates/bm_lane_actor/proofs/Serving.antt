@@ -1,4 +1,4 @@
--- What calls do on a desk that has a link, and on one that has none.
+-- What calls do on a state that has a link, and on one that has none.
 use Rattle.std.proofs.Common.{◌≡◌, refl, sym, ◌∙◌, ap, subst, ℕ, Bool, true, false, not, ◌||◌, List, length, Option, Some, None, Result, Ok, Err}
 use Rattle.std.specs.Prelude.{◌==◌, is_some, if◌then◌else◌}
 use Rattle.bm_session.proofs.Pushed.{is_up-push}
@@ -18,37 +18,37 @@ use Rattle.bm_link.specs.Carries.{Carried}
 use Rattle.bm_link.specs.Control.{ClosesFor, PingsFor}
 use Rattle.bm_link.specs.Link.{LinkState, Turned}
 use Rattle.bm_link.specs.Orders.{Starts as LinkStarts, Interrupts as LinkInterrupts}
-use Rattle.bm_lane_actor.specs.ResumeTimer.{Term, begun, dismissed}
-use Rattle.bm_lane_actor.specs.declared.mailbox.Told.{Told}
+use Rattle.bm_lane_actor.specs.ResumeTimer.{TimerView, begun, dismissed}
+use Rattle.bm_lane_actor.specs.declared.order_outcome.OrderOutcome.{OrderOutcome}
 use Rattle.bm_lane_actor.specs.declared.connection_state.ConnectionState.TheVariants.{Up, Cut, Down}
-use Rattle.bm_lane_actor.specs.LaneEvents.{is_awaited, standing_of}
+use Rattle.bm_lane_actor.specs.LaneEvents.{is_awaited, connection_of}
 use Rattle.bm_link.specs.Laws.{CarriesPending}
 use Rattle.bm_lane_actor.proofs.Carrying.{attached as carries_attached}
-use Rattle.bm_lane_actor.specs.LaneStates.{Seat, kept, counting, term_in, renewed, told_start, told_interrupt, TakesUp, Attaches, Turns, Starts, Interrupts, ShutsDown, Pings, Closes}
+use Rattle.bm_lane_actor.specs.LaneStates.{LaneView, kept, counting, timer_in, renewed, start_outcome, interrupt_outcome, TakesUp, Attaches, Turns, Starts, Interrupts, ShutsDown, Pings, Closes}
 
 -- after a login ticks are counted just where the lane is cut
-counted : (u k x : Bool) (term : Term)
-    → is_some (term_in (if u then Up else (if k then Cut else Down)) (if u || x then begun term else term)).cut
+counted : (u k x : Bool) (term : TimerView)
+    → is_some (timer_in (if u then Up else (if k then Cut else Down)) (if u || x then begun term else term)).cut
     ≡ is_awaited (if u then Up else (if k then Cut else Down))
 counted true k x term = refl
 counted false true x term = refl
 counted false false x term = refl
 
 -- that, by the words that are compared
-pub renews : (lane lane2 : Heard) (events : ℕ) (term term1 term2 : Term) → events ≡ length lane.trace
+pub renews : (lane lane2 : Heard) (events : ℕ) (term term1 term2 : TimerView) → events ≡ length lane.trace
     → term1 ≡ renewed events lane2 term → term2 ≡ counting lane2 term1 → term2 ≡ counting lane2 (renewed (length lane.trace) lane2 term)
 renews lane lane2 events term term1 term2 e r c =
-    c ∙ ap (λ (t : Term). counting lane2 t) (r ∙ ap (λ (n : ℕ). renewed n lane2 term) e)
+    c ∙ ap (λ (t : TimerView). counting lane2 t) (r ∙ ap (λ (n : ℕ). renewed n lane2 term) e)
 
 -- ticks are counted just while the lane is cut
-ticked : (u k : Bool) (term : Term) → is_some term.cut ≡ is_awaited (if u then Up else (if k then Cut else Down))
-    → is_some (term_in (if u then Up else (if k then Cut else Down)) term).cut ≡ is_awaited (if u then Up else (if k then Cut else Down))
+ticked : (u k : Bool) (term : TimerView) → is_some term.cut ≡ is_awaited (if u then Up else (if k then Cut else Down))
+    → is_some (timer_in (if u then Up else (if k then Cut else Down)) term).cut ≡ is_awaited (if u then Up else (if k then Cut else Down))
 ticked true k term h = h
 ticked false true term h = refl
 ticked false false term h = refl
 
-ticked-down : (u k : Bool) (term : Term) → u ≡ false
-    → is_some (term_in (if u then Up else (if k then Cut else Down)) term).cut ≡ is_awaited (if u then Up else (if k then Cut else Down))
+ticked-down : (u k : Bool) (term : TimerView) → u ≡ false
+    → is_some (timer_in (if u then Up else (if k then Cut else Down)) term).cut ≡ is_awaited (if u then Up else (if k then Cut else Down))
 ticked-down true k term e = cc
 ticked-down false true term e = refl
 ticked-down false false term e = refl
@@ -59,25 +59,25 @@ module _ {S : Type 0} where
   held false link h = refl
 
   -- a lane that is given up keeps no link, and one that refuses that stays as it was
-  pub let_go : (lane lane2 : Heard) (link second : Option (LinkState S)) (term term2 : Term) (r : Result Reply (Event × HearRefusal))
-      → is_some link ≡ is_up lane.trace → is_some term.cut ≡ is_awaited (standing_of lane.trace) → Hears lane event.Down r lane2
+  pub let_go : (lane lane2 : Heard) (link second : Option (LinkState S)) (term term2 : TimerView) (r : Result Reply (Event × HearRefusal))
+      → is_some link ≡ is_up lane.trace → is_some term.cut ≡ is_awaited (connection_of lane.trace) → Hears lane event.Down r lane2
       → second ≡ kept lane2 link → term2 ≡ counting lane2 term
-      → (is_some second ≡ is_up lane2.trace) × (is_some term2.cut ≡ is_awaited (standing_of lane2.trace))
+      → (is_some second ≡ is_up lane2.trace) × (is_some term2.cut ≡ is_awaited (connection_of lane2.trace))
   let_go lane lane2 link second term term2 (Ok reply) has counts (l, is, none) k c =
       let d : is_up lane2.trace ≡ false = ap (λ (y : Heard). is_up y.trace) l ∙ is_up-push lane.trace event.Down in (
         ap (λ (x : Option (LinkState S)). is_some x) k ∙ subst (λ (b : Bool). is_some (if b then link else None) ≡ b) (sym d) refl,
-        ap (λ (x : Term). is_some x.cut) c ∙ ticked-down (is_up lane2.trace) (is_cut lane2.trace) term d,
+        ap (λ (x : TimerView). is_some x.cut) c ∙ ticked-down (is_up lane2.trace) (is_cut lane2.trace) term d,
       )
   let_go lane lane2 link second term term2 (Err back) has counts (l, is, refuses) k c = (
     ap (λ (x : Option (LinkState S)). is_some x) k ∙ subst (λ (y : Heard). is_some (kept y link) ≡ is_up y.trace) (sym l) (held (is_up lane.trace) link has),
-    ap (λ (x : Term). is_some x.cut) c
-        ∙ subst (λ (y : Heard). is_some (counting y term).cut ≡ is_awaited (standing_of y.trace)) (sym l) (ticked (is_up lane.trace) (is_cut lane.trace) term counts),
+    ap (λ (x : TimerView). is_some x.cut) c
+        ∙ subst (λ (y : Heard). is_some (counting y term).cut ≡ is_awaited (connection_of y.trace)) (sym l) (ticked (is_up lane.trace) (is_cut lane.trace) term counts),
   )
 
-  pub attached : (contents : S → Option (List ℕ)) (link : LinkState S) (lane : Heard) (carry : Carried) (first : Option (LinkState S)) (term : Term)
-      (r : Result Attached LinkFault) (lane2 : Heard) (carry2 : Carried) (second place : Option (LinkState S)) (term2 : Term)
+  pub attached : (contents : S → Option (List ℕ)) (link : LinkState S) (lane : Heard) (carry : Carried) (first : Option (LinkState S)) (term : TimerView)
+      (r : Result Attached LinkFault) (lane2 : Heard) (carry2 : Carried) (second place : Option (LinkState S)) (term2 : TimerView)
       → is_some first ≡ false → TakesUp contents link lane carry term r second lane2 carry2 term2 → place ≡ second
-      → Attaches contents link first (record { lane = lane; carry = carry; link = first; tenure = term }) r (record { lane = lane2; carry = carry2; link = place; tenure = term2 })
+      → Attaches contents link first (record { lane = lane; carry = carry; link = first; timer = term }) r (record { lane = lane2; carry = carry2; link = place; timer = term2 })
   attached contents link lane carry None term r lane2 carry2 second place term2 none h same =
       subst (λ (x : Option (LinkState S)). TakesUp contents link lane carry term r x lane2 carry2 term2) (sym same) h
   attached contents link lane carry (Some first) term r lane2 carry2 second place term2 none h same = cc
@@ -88,44 +88,44 @@ module _ {S : Type 0} where
 
   -- the lane has the link while it is up, ticks are counted while it is cut, and what is carried is
   -- pending
-  pub seated : (contents : S → Option (List ℕ)) (link : LinkState S) (lane : Heard) (carry : Carried) (term : Term)
-      (r : Result Attached LinkFault) (lane2 : Heard) (carry2 : Carried) (second place : Option (LinkState S)) (term2 : Term)
+  pub stands : (contents : S → Option (List ℕ)) (link : LinkState S) (lane : Heard) (carry : Carried) (term : TimerView)
+      (r : Result Attached LinkFault) (lane2 : Heard) (carry2 : Carried) (second place : Option (LinkState S)) (term2 : TimerView)
       → CarriesPending carry lane.trace
       → TakesUp contents link lane carry term r second lane2 carry2 term2 → place ≡ second
-      → (is_some place ≡ is_up lane2.trace) × (is_some term2.cut ≡ is_awaited (standing_of lane2.trace))
+      → (is_some place ≡ is_up lane2.trace) × (is_some term2.cut ≡ is_awaited (connection_of lane2.trace))
       × CarriesPending carry2 lane2.trace
-  seated contents link lane carry term r lane2 carry2 second place term2 h (l2, t, k, c) same = (
+  stands contents link lane carry term r lane2 carry2 second place term2 h (l2, t, k, c) same = (
     ap (λ (x : Option (LinkState S)). is_some x) (same ∙ k) ∙ kept-while (is_up lane2.trace) l2,
-    ap (λ (x : Term). is_some x.cut) c ∙ counted (is_up lane2.trace) (is_cut lane2.trace) (not (length lane.trace == length lane2.trace)) term,
+    ap (λ (x : TimerView). is_some x.cut) c ∙ counted (is_up lane2.trace) (is_cut lane2.trace) (not (length lane.trace == length lane2.trace)) term,
     carries_attached contents link.login link l2 lane lane2 carry carry2 r h t,
   )
 
-  pub turned : (remaining contents : S → Option (List ℕ)) (old new : Seat S) (l l2 : LinkState S) (r : Result Turn LinkFault)
+  pub turned : (remaining contents : S → Option (List ℕ)) (old new : LaneView S) (l l2 : LinkState S) (r : Result Turn LinkFault)
       → old.link ≡ Some l → Turned remaining contents l.stage l old.lane old.carry r l2 new.lane new.carry
-      → new.link ≡ kept new.lane (Some l2) → new.tenure ≡ counting new.lane old.tenure → Turns remaining contents old.link old r new
+      → new.link ≡ kept new.lane (Some l2) → new.timer ≡ counting new.lane old.timer → Turns remaining contents old.link old r new
   turned remaining contents old new l l2 r is t k c = subst (λ (x : Option (LinkState S)). Turns remaining contents x old r new) (sym is) (l2, t, (k, c))
 
-  pub started : (contents : S → Option (List ℕ)) (argv : List (List ℕ)) (old new : Seat S) (l l2 : LinkState S) (r : Result ℕ LinkFault) (t : Told)
+  pub started : (contents : S → Option (List ℕ)) (argv : List (List ℕ)) (old new : LaneView S) (l l2 : LinkState S) (r : Result ℕ LinkFault) (t : OrderOutcome)
       → old.link ≡ Some l → LinkStarts contents argv l.stage l old.lane old.carry r l2 new.lane new.carry
-      → new.link ≡ kept new.lane (Some l2) → new.tenure ≡ counting new.lane old.tenure
-      → t ≡ told_start (not (commands old.lane.trace == commands new.lane.trace)) r → Starts contents argv old.link old t new
+      → new.link ≡ kept new.lane (Some l2) → new.timer ≡ counting new.lane old.timer
+      → t ≡ start_outcome (not (commands old.lane.trace == commands new.lane.trace)) r → Starts contents argv old.link old t new
   started contents argv old new l l2 r t is h k c e = subst (λ (x : Option (LinkState S)). Starts contents argv x old t new) (sym is) (r, l2, h, (k, c), e)
 
-  pub interrupted : (contents : S → Option (List ℕ)) (command : ℕ) (old new : Seat S) (l l2 : LinkState S) (r : Result (Unit {0}) LinkFault) (t : Told)
+  pub interrupted : (contents : S → Option (List ℕ)) (command : ℕ) (old new : LaneView S) (l l2 : LinkState S) (r : Result (Unit {0}) LinkFault) (t : OrderOutcome)
       → old.link ≡ Some l → LinkInterrupts contents command l.stage l old.lane old.carry r l2 new.lane new.carry
-      → new.link ≡ kept new.lane (Some l2) → new.tenure ≡ counting new.lane old.tenure
-      → t ≡ told_interrupt (not (orders old.lane.trace == orders new.lane.trace)) r → Interrupts contents command old.link old t new
+      → new.link ≡ kept new.lane (Some l2) → new.timer ≡ counting new.lane old.timer
+      → t ≡ interrupt_outcome (not (orders old.lane.trace == orders new.lane.trace)) r → Interrupts contents command old.link old t new
   interrupted contents command old new l l2 r t is h k c e = subst (λ (x : Option (LinkState S)). Interrupts contents command x old t new) (sym is) (r, l2, h, (k, c), e)
 
-  pub shut_down : (contents : S → Option (List ℕ)) (old new : Seat S) (l l2 : LinkState S) (r : Result (Unit {0}) LinkFault)
+  pub shut_down : (contents : S → Option (List ℕ)) (old new : LaneView S) (l l2 : LinkState S) (r : Result (Unit {0}) LinkFault)
       → old.link ≡ Some l → AsksFor contents Shutdown l.stage l old.carry r l2 new.carry
-      → new.link ≡ Some l2 → new.lane ≡ old.lane → new.tenure ≡ dismissed old.tenure → ShutsDown contents old.link old new
+      → new.link ≡ Some l2 → new.lane ≡ old.lane → new.timer ≡ dismissed old.timer → ShutsDown contents old.link old new
   shut_down contents old new l l2 r is h k lane c = subst (λ (x : Option (LinkState S)). ShutsDown contents x old new) (sym is) (r, l2, h, k, lane, c)
 
-  pub pinged : (contents : S → Option (List ℕ)) (old new : Seat S) (l l2 : LinkState S) (r : Result (Unit {0}) LinkFault)
+  pub pinged : (contents : S → Option (List ℕ)) (old new : LaneView S) (l l2 : LinkState S) (r : Result (Unit {0}) LinkFault)
       → old.link ≡ Some l → PingsFor contents l.stage l old.carry r l2 → new ≡ record old { link = Some l2 } → Pings contents old.link old new
   pinged contents old new l l2 r is h same = subst (λ (x : Option (LinkState S)). Pings contents x old new) (sym is) (r, l2, h, same)
 
-  pub closed : (contents : S → Option (List ℕ)) (old new : Seat S) (l l2 : LinkState S) (r : Result (Unit {0}) LinkFault)
+  pub closed : (contents : S → Option (List ℕ)) (old new : LaneView S) (l l2 : LinkState S) (r : Result (Unit {0}) LinkFault)
       → old.link ≡ Some l → ClosesFor contents l.stage l r l2 → new ≡ record old { link = Some l2 } → Closes contents old.link old new
   closed contents old new l l2 r is h same = subst (λ (x : Option (LinkState S)). Closes contents x old new) (sym is) (r, l2, h, same)

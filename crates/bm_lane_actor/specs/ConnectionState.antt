@@ -1,4 +1,4 @@
--- How a lane stands to its worker.
+-- How a lane is connected to its worker.
 use Rattle.std.specs.Prelude.{Bool, true, false}
 use Rattle.bm_lane_actor.specs.declared.connection_state.ConnectionState.{ConnectionState}
 use Rattle.bm_lane_actor.specs.declared.connection_state.ConnectionState.TheVariants.{Up}

@@ -1,27 +1,32 @@
--- What the foreman is told of a lane.
-use Rattle.std.specs.Prelude.{Bool, true, false, if◌then◌else◌, Option, Some, None}
+-- What happens to a lane, and what follows from it.
+use Rattle.std.specs.Prelude.{ℕ, Bool, true, false, if◌then◌else◌, List, ◌++◌, codes, Option, Some, None}
 use Rattle.bm_session.specs.Trace.{Trace, is_up, is_cut}
 use Rattle.bm_session.specs.declared.refusal.Refusal.TheVariants.{Mem, Full}
 use Rattle.bm_lane.specs.declared.refusals.HearRefusal.TheVariants.{Session}
+use Rattle.bm_latent.specs.declared.worker_event.WorkerEvent.{WorkerEvent}
+use Rattle.bm_latent.specs.declared.worker_event.WorkerEvent.TheVariants as worker
 use Rattle.bm_link.specs.declared.fault.LinkFault.{LinkFault}
 use Rattle.bm_link.specs.declared.fault.LinkFault.TheVariants as fault
+use Rattle.bm_operator.specs.OneLine.{one_line}
+use Rattle.bm_operator.specs.Remark.{login_line, lost_line}
 use Rattle.bm_operator.specs.declared.reasons.LossCause.{LossCause}
 use Rattle.bm_operator.specs.declared.reasons.LossCause.TheVariants as loss
-use Rattle.bm_lane_actor.specs.declared.lane_event.LaneEvent.{LaneEvent}
-use Rattle.bm_lane_actor.specs.declared.lane_event.LaneEvent.TheVariants as notice
 use Rattle.bm_lane_actor.specs.declared.connection_state.ConnectionState.{ConnectionState}
 use Rattle.bm_lane_actor.specs.declared.connection_state.ConnectionState.TheVariants.{Up, Cut, Down}
+use Rattle.bm_lane_actor.specs.declared.lane_event.LaneEvent.{LaneEvent}
+use Rattle.bm_lane_actor.specs.declared.lane_event.LaneEvent.TheVariants as event
+use Rattle.bm_lane_actor.specs.LoginRefusals.{refusal_of}
 
-abbrev pub standing_of : Trace → ConnectionState
-standing_of t = if is_up t then Up else (if is_cut t then Cut else Down)
+abbrev pub connection_of : Trace → ConnectionState
+connection_of t = if is_up t then Up else (if is_cut t then Cut else Down)
 
 -- what is told where no login came: a lane that was up and is cut was cut; one that was up or cut
 -- and is neither was lost
-abbrev pub notice_of : ConnectionState → ConnectionState → LossCause → Option LaneEvent
-notice_of Up Cut cause = Some (notice.Cut cause)
-notice_of Up Down cause = Some (notice.Lost cause)
-notice_of Cut Down cause = Some (notice.Lost cause)
-notice_of _ _ cause = None
+abbrev pub event_after : ConnectionState → ConnectionState → LossCause → Option LaneEvent
+event_after Up Cut cause = Some (event.Cut cause)
+event_after Up Down cause = Some (event.Lost cause)
+event_after Cut Down cause = Some (event.Lost cause)
+event_after _ _ cause = None
 
 -- why a lane whose link failed so is cut or given up
 abbrev pub loss_of : LinkFault → LossCause
@@ -39,3 +44,28 @@ loss_of _ = loss.Closed
 abbrev pub is_awaited : ConnectionState → Bool
 is_awaited Cut = true
 is_awaited _ = false
+
+-- what has happened to the lane's worker, if anything has
+abbrev pub event_of : LaneEvent → Option WorkerEvent
+event_of event.Attached = Some worker.Attached
+event_of event.Resumed = Some worker.Attached
+event_of (event.Cut c) = Some worker.Cut
+event_of (event.Lost c) = Some worker.Lost
+event_of (event.Declined f from) = None
+event_of event.Filled = None
+
+-- the lane takes nothing more: that was refused, or a session or a login ended by it
+abbrev pub fills : LaneEvent → Bool
+fills (event.Lost loss.Full) = true
+fills (event.Declined fault.Full from) = true
+fills event.Filled = true
+fills e = false
+
+-- the line that tells an operator of it, by the name of the lane's worker
+abbrev pub event_line : List ℕ → LaneEvent → List ℕ
+event_line name event.Attached = codes "worker " ++ (one_line name ++ codes " logged in\n")
+event_line name event.Resumed = codes "worker " ++ (one_line name ++ codes " resumed\n")
+event_line name (event.Cut c) = lost_line name (codes " cut, ") c
+event_line name (event.Lost c) = lost_line name (codes " lost, ") c
+event_line name (event.Declined f from) = login_line name from (refusal_of f)
+event_line name event.Filled = codes "worker " ++ (one_line name ++ codes " full\n")

@@ -1,11 +1,19 @@
--- A reader has to believe these. Desks: what a lane's desk is, and what each of its calls does to the
--- lane. Notices: what the foreman is told. Greeting: what a connection is once it has logged in.
+-- All of these must be believed. LaneStates: what the state of a lane's actor is, and what each of
+-- its calls does to the lane. ConnectionState, ResumeTimer, PeerTimer, StepMeter: how a lane is
+-- connected, and what is counted on it.
 pub mod LaneStates
+pub mod ConnectionState
+pub mod ResumeTimer
+pub mod PeerTimer
+pub mod StepMeter
+-- LaneEvents: what is told of a lane, and what follows. Login: what a connection is once it has
+-- logged in. LoginRefusals: why another one was not taken up.
 pub mod LaneEvents
-pub mod Greeting
--- Ports: what a build's port to a lane is, and answers. Heard: how many bytes an update carries.
+pub mod Login
+pub mod LoginRefusals
+-- Ports: what a build's port to a lane is, and answers. ByteCount: how many bytes an update carries.
 pub mod Ports
-pub mod Heard
+pub mod ByteCount
 -- What a gate of a pool answers, and how many connections may wait for their login.
 pub mod Gates
 pub mod LoginLimits

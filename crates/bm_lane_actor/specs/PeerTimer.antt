@@ -1,12 +1,12 @@
 -- When a silent worker is asked for a sign of life, and when it is taken for dead.
 use Rattle.std.specs.Prelude.{ℕ, ◌-◌, ◌==◌, Bool, true, false, ◌&&◌, ◌||◌, not, nat_le, if◌then◌else◌, Option, Some, None}
 use Rattle.std.specs.Option.{option_map_or}
-use Rattle.bm_lane_actor.specs.declared.peer_timer.Care.{Care}
-use Rattle.bm_lane_actor.specs.declared.peer_timer.Care.TheVariants as care
+use Rattle.bm_lane_actor.specs.declared.peer_timer.PeerAction.{PeerAction}
+use Rattle.bm_lane_actor.specs.declared.peer_timer.PeerAction.TheVariants as action
 
 -- the count of what came from the worker, when it was first seen, whether the worker was asked
 -- since, and since when another connection asks for its lane; times are in milliseconds
-pub record Silence : Type 0 where
+pub record PeerView : Type 0 where
   pub count : ℕ
   pub since : ℕ
   pub asked : Bool
@@ -21,11 +21,11 @@ dead_after = 60000
 abbrev pub answer_within : ℕ
 answer_within = 1500
 
-abbrev pub started : ℕ → ℕ → Silence
+abbrev pub started : ℕ → ℕ → PeerView
 started count now = record { count = count; since = now; asked = false; wanted = None }
 
 -- another count says that the worker lives
-abbrev pub heard_at : ℕ → ℕ → Silence → Silence
+abbrev pub heard_at : ℕ → ℕ → PeerView → PeerView
 heard_at count now s = if s.count == count then s else started count now
 
 -- the worker doesn't answer though another connection asks for its lane
@@ -33,14 +33,14 @@ abbrev pub is_unanswered : ℕ → Option ℕ → Bool
 is_unanswered now wanted = option_map_or (λ since. nat_le answer_within (now - since)) wanted false
 
 -- it is asked once for each silence
-abbrev pub care_at : ℕ → Silence → Care
-care_at now s =
-    if is_unanswered now s.wanted || nat_le dead_after (now - s.since) then care.GiveUp
-    else (if nat_le ask_after (now - s.since) && not s.asked then care.Ask else care.Nothing)
+abbrev pub action_at : ℕ → PeerView → PeerAction
+action_at now s =
+    if is_unanswered now s.wanted || nat_le dead_after (now - s.since) then action.GiveUp
+    else (if nat_le ask_after (now - s.since) && not s.asked then action.Ask else action.Nothing)
 
-abbrev pub after_care : Care → Silence → Silence
-after_care care.Ask s = record s { asked = true }
-after_care _ s = s
+abbrev pub after_action : PeerAction → PeerView → PeerView
+after_action action.Ask s = record s { asked = true }
+after_action _ s = s
 
-abbrev pub wanted_at : ℕ → Silence → Silence
+abbrev pub wanted_at : ℕ → PeerView → PeerView
 wanted_at now s = record s { asked = true; wanted = Some now }

@@ -4,21 +4,21 @@ use Rattle.std.specs.Option.{option_map_or}
 
 -- how many ticks a worker may take to come back, how many have passed since the cut, if there was
 -- one (as many as it may take, where more have), and whether nobody is awaited
-pub record Term : Type 0 where
+pub record TimerView : Type 0 where
   pub limit : ℕ
   pub cut : Option ℕ
   pub dismissed : Bool
 
 -- a lane that is not cut, and whose worker is awaited after a cut
-abbrev pub kept : ℕ → Term
+abbrev pub kept : ℕ → TimerView
 kept limit = record { limit = limit; cut = None; dismissed = false }
 
 -- a connection was attached, or the lane was given up
-abbrev pub begun : Term → Term
+abbrev pub begun : TimerView → TimerView
 begun t = kept t.limit
 
 -- the connection was cut
-abbrev pub cut_off : Term → Term
+abbrev pub cut_off : TimerView → TimerView
 cut_off t =
     record {
       limit = t.limit;
@@ -27,7 +27,7 @@ cut_off t =
     }
 
 -- the worker was told to shut down, or its process ended
-abbrev pub dismissed : Term → Term
+abbrev pub dismissed : TimerView → TimerView
 dismissed t = record { limit = t.limit; cut = t.cut; dismissed = true }
 
 -- one tick more has passed
@@ -35,7 +35,7 @@ abbrev pub one_more : ℕ → ℕ → Option ℕ
 one_more limit ticks = Some (if nat_lt ticks limit then ticks + 1 else ticks)
 
 -- a tick passed: it counts where the lane is cut
-abbrev pub passed : Term → Term
+abbrev pub passed : TimerView → TimerView
 passed t =
     record {
       limit = t.limit;
@@ -45,5 +45,5 @@ passed t =
 
 -- the lane is to be given up: it is cut, and nobody is awaited or as many ticks have passed as the
 -- worker may take
-abbrev pub is_over : Term → Bool
+abbrev pub is_over : TimerView → Bool
 is_over t = option_map_or (λ ticks. t.dismissed || nat_le t.limit ticks) t.cut false

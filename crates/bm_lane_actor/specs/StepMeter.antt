@@ -7,33 +7,33 @@ use Rattle.bm_operator.specs.declared.reasons.StepLimit.TheVariants.{Bytes, Tick
 
 -- the limits of a step, of which 0 is none; the ticks until it reached one, or since; and which one
 -- it has reached
-pub record Metered : Type 0 where
+pub record MeterView : Type 0 where
   pub max_bytes : ℕ
   pub timeout_ticks : ℕ
   pub ticks : ℕ
   pub reached : Option StepLimit
 
 -- a command that was just started
-abbrev pub fresh : ℕ → ℕ → Metered
+abbrev pub fresh : ℕ → ℕ → MeterView
 fresh max_bytes timeout_ticks =
     record { max_bytes = max_bytes; timeout_ticks = timeout_ticks; ticks = 0; reached = None }
 
 -- one tick more, up to 2^32-1
-abbrev pub later : Metered → ℕ
+abbrev pub later : MeterView → ℕ
 later m = min (m.ticks + 1) (2 ^ 32 - 1)
 
 -- the limit that a command has reached that carried so many bytes
-abbrev pub limit_at : Metered → ℕ → Option StepLimit
+abbrev pub limit_at : MeterView → ℕ → Option StepLimit
 limit_at m bytes =
     if nat_lt 0 m.max_bytes && nat_lt m.max_bytes bytes then Some Bytes
     else (if nat_lt 0 m.timeout_ticks && nat_le m.timeout_ticks (later m) then Some Ticks else None)
 
 -- the limit that it reaches now, for the first time
-abbrev pub reached_at : Metered → ℕ → Option StepLimit
+abbrev pub reached_at : MeterView → ℕ → Option StepLimit
 reached_at m bytes = if is_some m.reached then None else limit_at m bytes
 
 -- the meter a tick later: ticks count anew once a limit is reached
-abbrev pub meter_after : Metered → ℕ → Metered
+abbrev pub meter_after : MeterView → ℕ → MeterView
 meter_after m bytes =
     record {
       max_bytes = m.max_bytes;
@@ -43,10 +43,10 @@ meter_after m bytes =
     }
 
 -- 1,000 ticks after a limit was reached the end of the command isn't waited for any more
-abbrev pub is_given_up : Metered → Bool
+abbrev pub is_given_up : MeterView → Bool
 is_given_up m = is_some m.reached && nat_le 1000 m.ticks
 
 -- how a step ends whose command ended so
-abbrev pub outcome_of : Metered → Results → Results
+abbrev pub outcome_of : MeterView → Results → Results
 outcome_of m Retry = Retry
 outcome_of m ended = if is_some m.reached then Exception else ended

@@ -2,7 +2,7 @@
 
 ghost use Rattle.std.specs.Prelude.{◌≡◌, ◌+◌, ◌-◌, ◌^◌, fold, min, length};
 ghost use Rattle.bm_lines.specs.Lines.{content_of};
-ghost use Rattle.bm_lane_actor.specs.Heard.{carried};
+ghost use Rattle.bm_lane_actor.specs.ByteCount.{carried};
 
 use bm_lines::LogLines;
 use bm_session::{Body, Event};
@@ -10,21 +10,21 @@ use std::alloc::{AllocError, Global};
 use std::sync::Arc;
 use std::sync::atomic::{AtomicU64, Ordering};
 
-/// How many bytes the updates of one command carried, shared by the clerk that hears them and the
+/// How many bytes the updates of one command carried, shared by the actor that hears them and the
 /// build that asks.
 pub type ByteCount = Arc<AtomicU64, Global>;
 
 /// A command whose build asks how many bytes its updates carried.
 #[derive(Drop)]
-struct Counted {
+struct CountedCommand {
     command: u64,
     bytes: ByteCount,
 }
 
 /// The commands of a lane whose builds ask how many bytes their updates carried.
 #[derive(Drop)]
-pub(crate) struct Heard {
-    counted: Vec<Counted>,
+pub(crate) struct ByteCounts {
+    commands: Vec<CountedCommand>,
 }
 
 /// How many bytes these parts of an update carry, as the web gives them: each line's letter, text
@@ -32,39 +32,42 @@ pub(crate) struct Heard {
 fn carried(parts: &[LogLines]) -> u64
     ensures { result ≡ carried parts.now }
 {
-    parts.iter().fold(0, |sum, part| more(sum, part.block.content().len() as u64))
+    parts.iter().fold(
+        0,
+        |sum, part| add_bytes(sum, part.block.content().len() as u64),
+    )
 }
 
-fn more(sum: u64, bytes: u64) -> u64
+fn add_bytes(sum: u64, bytes: u64) -> u64
     ensures { result ≡ min (sum + bytes) (2 ^ 64 - 1) }
 {
     sum.saturating_add(bytes)
 }
 
-impl Heard {
+impl ByteCounts {
     /// No command.
-    pub fn new(alloc: Global) -> Heard {
-        Heard {
-            counted: Vec::new(alloc),
+    pub fn new(alloc: Global) -> ByteCounts {
+        ByteCounts {
+            commands: Vec::new(alloc),
         }
     }
 
     /// Makes room for one command more. Want of memory changes nothing.
     pub fn reserve(&mut self) -> Result<(), AllocError> {
-        self.counted.reserve(1)
+        self.commands.reserve(1)
     }
 
     /// A command was started, whose build asks by this count.
     pub fn begin(&mut self, command: u64, bytes: ByteCount) -> Result<(), AllocError> {
-        self.counted.push(Counted { command, bytes })?;
+        self.commands.push(CountedCommand { command, bytes })?;
         Ok(())
     }
 
     /// The build of a command asks no more.
     pub fn end(&mut self, command: u64) {
-        let place = self.counted.iter().position(|one| one.command == command);
+        let place = self.commands.iter().position(|one| one.command == command);
         if let Some(place) = place {
-            drop(self.counted.swap_remove(place));
+            drop(self.commands.swap_remove(place));
         }
     }
 
@@ -73,7 +76,7 @@ impl Heard {
         let Event::In(_, Body::Update { command, batch, .. }) = event else {
             return;
         };
-        for counted in self.counted.iter() {
+        for counted in self.commands.iter() {
             if counted.command == *command {
                 let bytes = carried(batch.parts());
                 counted.bytes.fetch_add(bytes, Ordering::SeqCst);

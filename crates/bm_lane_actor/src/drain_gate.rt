@@ -1,35 +1,32 @@
 //! A gate under which a pool of writers sleeps while no lane has anything.
 //!
-//! A clerk rings after each event. Each worker remembers how often the bell had been rung when its
-//! round of the lanes began, and sleeps after a whole round without an item, as long as the bell
-//! was not rung since.
+//! A lane's actor calls `wake` after each event. Each worker of the pool remembers how many such
+//! calls there had been when its round of the lanes began. It sleeps after a whole round without an
+//! item, as long as there was no call since.
 
 ghost use Rattle.std.specs.Prelude.{◌≡◌};
 ghost use Rattle.bm_lane_actor.specs.Gates.{is_whole_round, pass_of};
 
 use bm_lane::{Drained, Gate, Pass};
+use bm_latent::TICK_MS;
 use std::alloc::{AllocError, Global};
 use std::sync::Wait;
 use std::sync::atomic::{AtomicBool, AtomicU64, Ordering};
 use std::thread;
 use std::time::{Clock, Duration};
 
-/// How long a worker sleeps at most and rests after want of memory, and how long a clerk rests at
-/// most after Busy, in milliseconds.
-const TICK: u64 = 10;
-
-/// What the clerk and the workers tell each other of a lane.
+/// What the actor of a lane and the workers tell each other.
 #[derive(Drop)]
-struct Line {
+struct LaneFlags {
     /// 1 where the queue may have an item that no worker goes for.
     full: AtomicU64,
     /// How many items were taken from it.
     took: AtomicU64,
-    /// 1 while the clerk waits for a place.
+    /// 1 while the actor waits for a place.
     waits: AtomicU64,
 }
 
-impl Line {
+impl LaneFlags {
     /// Whether the queue may have an item. The worker that is told so goes for it.
     fn claim(&self) -> bool {
         self.full.load(Ordering::SeqCst) == 1 && self.full.swap(0, Ordering::SeqCst) == 1
@@ -38,20 +35,22 @@ impl Line {
 
 /// What a worker knows of its round.
 #[derive(Drop)]
-struct Round {
-    /// How often the bell had been rung when the round began.
-    rung: AtomicU64,
+struct WorkerRound {
+    /// How many calls of `wake` there had been when the round began.
+    wakes: AtomicU64,
     /// How many lanes of the round had nothing.
     idle: AtomicU64,
 }
 
-/// Wakes workers, and the clerks that met Busy.
+/// Wakes workers, and the actors that met Busy. A worker sleeps for a tick at most, and rests as
+/// long after want of memory. An actor waits for a tick at most after Busy.
 #[derive(Drop)]
 pub struct DrainGate<R: Wait + Clock + Drop> {
     rt: R,
-    lines: Vec<Line>,
-    rounds: Vec<Round>,
-    rung: AtomicU64,
+    lanes: Vec<LaneFlags>,
+    rounds: Vec<WorkerRound>,
+    /// How many calls of `wake` and `stop` there were.
+    wakes: AtomicU64,
     asleep: AtomicU64,
     stopped: AtomicBool,
 }
@@ -80,16 +79,16 @@ fn is_whole_round(idle: u64, lanes: u64) -> bool
 }
 
 impl<R: Wait + Clock + Drop> DrainGate<R> {
-    /// A bell for so many lanes and so many workers of the pool.
+    /// A gate for so many lanes and so many workers of the pool.
     pub fn new(
         rt: R,
         alloc: Global,
-        lanes: usize,
+        lane_count: usize,
         workers: usize,
     ) -> Result<DrainGate<R>, AllocError> {
-        let mut lines = Vec::new(alloc);
-        for _ in 0..lanes {
-            lines.push(Line {
+        let mut lanes = Vec::new(alloc);
+        for _ in 0..lane_count {
+            lanes.push(LaneFlags {
                 full: AtomicU64::new(0),
                 took: AtomicU64::new(0),
                 waits: AtomicU64::new(0),
@@ -97,88 +96,88 @@ impl<R: Wait + Clock + Drop> DrainGate<R> {
         }
         let mut rounds = Vec::new(alloc);
         for _ in 0..workers {
-            rounds.push(Round {
-                rung: AtomicU64::new(0),
+            rounds.push(WorkerRound {
+                wakes: AtomicU64::new(0),
                 idle: AtomicU64::new(0),
             })?;
         }
         Ok(DrainGate {
             rt,
-            lines,
+            lanes,
             rounds,
-            rung: AtomicU64::new(0),
+            wakes: AtomicU64::new(0),
             asleep: AtomicU64::new(0),
             stopped: AtomicBool::new(false),
         })
     }
 
     /// Tells that the lane may have an item.
-    pub fn ring(&self, lane: usize) {
-        if let Some(line) = self.lines.get(lane) {
-            line.full.store(1, Ordering::SeqCst);
+    pub fn wake(&self, lane: usize) {
+        if let Some(flags) = self.lanes.get(lane) {
+            flags.full.store(1, Ordering::SeqCst);
         }
-        self.rung.fetch_add(1, Ordering::SeqCst);
+        self.wakes.fetch_add(1, Ordering::SeqCst);
         if self.asleep.load(Ordering::SeqCst) > 0 {
-            self.rung.wake_one();
+            self.wakes.wake_one();
         }
     }
 
     /// Ends the workers at their next turn.
     pub fn stop(&self) {
         self.stopped.store(true, Ordering::SeqCst);
-        self.rung.fetch_add(1, Ordering::SeqCst);
-        self.rung.wake_all();
+        self.wakes.fetch_add(1, Ordering::SeqCst);
+        self.wakes.wake_all();
     }
 
     /// How many items were taken from the lane's queue.
     pub(crate) fn took(&self, lane: usize) -> u64 {
-        match self.lines.get(lane) {
-            Some(line) => line.took.load(Ordering::SeqCst),
+        match self.lanes.get(lane) {
+            Some(flags) => flags.took.load(Ordering::SeqCst),
             None => 0,
         }
     }
 
     /// Waits until more items were taken from the lane's queue than that; a tick at most.
     pub(crate) fn wait_for_place(&self, lane: usize, took: u64) {
-        let tick = Duration::from_millis(TICK);
-        if let Some(line) = self.lines.get(lane) {
-            line.waits.store(1, Ordering::SeqCst);
-            line.took.park_timeout(&self.rt, low(took), tick);
-            line.waits.store(0, Ordering::SeqCst);
+        let tick = Duration::from_millis(TICK_MS);
+        if let Some(flags) = self.lanes.get(lane) {
+            flags.waits.store(1, Ordering::SeqCst);
+            flags.took.park_timeout(&self.rt, low(took), tick);
+            flags.waits.store(0, Ordering::SeqCst);
         }
     }
 
-    /// A lane had nothing: after a whole round of such lanes the worker sleeps, unless the bell was
-    /// rung since it began. It wakes by itself within a tick, so that a pool that is ended from
+    /// A lane had nothing: after a whole round of such lanes the worker sleeps, unless `wake` was
+    /// called since it began. It wakes by itself within a tick, so that a pool that is ended from
     /// within ends.
-    fn rest(&self, round: &Round) {
+    fn rest(&self, round: &WorkerRound) {
         let idle = round.idle.load(Ordering::SeqCst).saturating_add(1);
-        if !is_whole_round(idle, self.lines.len() as u64) {
+        if !is_whole_round(idle, self.lanes.len() as u64) {
             round.idle.store(idle, Ordering::SeqCst);
             return;
         }
         self.asleep.fetch_add(1, Ordering::SeqCst);
-        let rung = low(round.rung.load(Ordering::SeqCst));
-        self.rung
-            .park_timeout(&self.rt, rung, Duration::from_millis(TICK));
+        let wakes = low(round.wakes.load(Ordering::SeqCst));
+        self.wakes
+            .park_timeout(&self.rt, wakes, Duration::from_millis(TICK_MS));
         self.asleep.fetch_sub(1, Ordering::SeqCst);
         self.begin(round);
     }
 
-    fn begin(&self, round: &Round) {
+    fn begin(&self, round: &WorkerRound) {
         round
-            .rung
-            .store(self.rung.load(Ordering::SeqCst), Ordering::SeqCst);
+            .wakes
+            .store(self.wakes.load(Ordering::SeqCst), Ordering::SeqCst);
         round.idle.store(0, Ordering::SeqCst);
     }
 }
 
 impl<R: Wait + Clock + Drop> Gate for DrainGate<R> {
     fn pass(&self, worker: usize, lane: usize) -> Pass {
-        let (Some(line), Some(round)) = (self.lines.get(lane), self.rounds.get(worker)) else {
+        let (Some(flags), Some(round)) = (self.lanes.get(lane), self.rounds.get(worker)) else {
             return Pass::Stop;
         };
-        let pass = pass_of(self.stopped.load(Ordering::SeqCst), line.claim());
+        let pass = pass_of(self.stopped.load(Ordering::SeqCst), flags.claim());
         match pass {
             Pass::Go => self.begin(round),
             Pass::Skip => self.rest(round),
@@ -188,21 +187,21 @@ impl<R: Wait + Clock + Drop> Gate for DrainGate<R> {
     }
 
     fn done(&self, _worker: usize, lane: usize, answer: Result<Drained, AllocError>) {
-        let Some(line) = self.lines.get(lane) else {
+        let Some(flags) = self.lanes.get(lane) else {
             return;
         };
         match answer {
             Ok(Drained::Took) => {
-                line.full.store(1, Ordering::SeqCst);
-                line.took.fetch_add(1, Ordering::SeqCst);
-                if line.waits.load(Ordering::SeqCst) == 1 {
-                    line.took.wake_one();
+                flags.full.store(1, Ordering::SeqCst);
+                flags.took.fetch_add(1, Ordering::SeqCst);
+                if flags.waits.load(Ordering::SeqCst) == 1 {
+                    flags.took.wake_one();
                 }
             }
             Ok(Drained::Empty) => {}
             Err(_) => {
-                thread::sleep(&self.rt, Duration::from_millis(TICK));
-                line.full.store(1, Ordering::SeqCst);
+                thread::sleep(&self.rt, Duration::from_millis(TICK_MS));
+                flags.full.store(1, Ordering::SeqCst);
             }
         }
     }

@@ -1,15 +1,19 @@
-//! What the foreman is told of a lane.
+//! What happens to a lane, and what follows from it for its worker and its operator.
 
 ghost use Rattle.std.specs.Prelude.{◌≡◌};
-ghost use Rattle.bm_lane_actor.specs.LaneEvents.{loss_of, notice_of, standing_of};
+ghost use Rattle.bm_operator.specs.Remark.{remark_line};
+ghost use Rattle.bm_lane_actor.specs.LaneEvents.{connection_of, event_after, event_line, event_of, fills, loss_of};
 
+use crate::connection_state::ConnectionState;
+use crate::login_refusal::refusal_of;
 use bm_lane::{HearRefusal, ReaderEnd, Yard};
+use bm_latent::WorkerEvent;
 use bm_link::LinkFault;
-use bm_operator::{LossCause, ConnectionState};
+use bm_operator::{LossCause, Remark};
 use bm_session::Refusal;
 use std::net::SocketAddr;
 
-/// What a clerk tells the foreman.
+/// What the actor of a lane tells.
 #[derive(Clone, Copy, PartialEq, Eq)]
 pub enum LaneEvent {
     /// The worker logged in, and a session begins. Where its lane was cut, `Lost` comes before.
@@ -29,8 +33,8 @@ pub enum LaneEvent {
 }
 
 /// How the lane stands.
-pub(crate) fn standing_of<Y: Yard>(reader: &ReaderEnd<Y>) -> ConnectionState
-    ensures { result ≡ standing_of reader.now.trace }
+pub(crate) fn connection_of<Y: Yard>(reader: &ReaderEnd<Y>) -> ConnectionState
+    ensures { result ≡ connection_of reader.now.trace }
 {
     if reader.is_up() {
         ConnectionState::Up
@@ -42,12 +46,18 @@ pub(crate) fn standing_of<Y: Yard>(reader: &ReaderEnd<Y>) -> ConnectionState
 }
 
 /// What is to be told of a lane that stood so and now stands so, where no login came.
-pub(crate) fn notice_of(before: ConnectionState, after: ConnectionState, cause: LossCause) -> Option<LaneEvent>
-    ensures { result ≡ notice_of before after cause }
+pub(crate) fn event_after(
+    before: ConnectionState,
+    after: ConnectionState,
+    cause: LossCause,
+) -> Option<LaneEvent>
+    ensures { result ≡ event_after before after cause }
 {
     match (before, after) {
         (ConnectionState::Up, ConnectionState::Cut) => Some(LaneEvent::Cut(cause)),
-        (ConnectionState::Up | ConnectionState::Cut, ConnectionState::Down) => Some(LaneEvent::Lost(cause)),
+        (ConnectionState::Up | ConnectionState::Cut, ConnectionState::Down) => Some(LaneEvent::Lost(
+            cause,
+        )),
         _ => None,
     }
 }
@@ -63,5 +73,47 @@ pub(crate) fn loss_of(fault: LinkFault) -> LossCause
         LinkFault::Mem | LinkFault::Arena | LinkFault::Lane(HearRefusal::Session(Refusal::Mem)) =>
             LossCause::Memory,
         LinkFault::Closed | LinkFault::Lane(_) => LossCause::Closed,
+    }
+}
+
+/// What has happened to the lane's worker, if anything has.
+pub fn event_of(event: LaneEvent) -> Option<WorkerEvent>
+    ensures { result ≡ event_of event }
+{
+    match event {
+        LaneEvent::Attached | LaneEvent::Resumed => Some(WorkerEvent::Attached),
+        LaneEvent::Cut(_) => Some(WorkerEvent::Cut),
+        LaneEvent::Lost(_) => Some(WorkerEvent::Lost),
+        LaneEvent::Declined(..) | LaneEvent::Filled => None,
+    }
+}
+
+/// Whether it says that the lane takes nothing more.
+pub fn fills(event: LaneEvent) -> bool
+    ensures { result ≡ fills event }
+{
+    match event {
+        LaneEvent::Lost(LossCause::Full)
+        | LaneEvent::Declined(LinkFault::Full, _)
+        | LaneEvent::Filled => true,
+        _ => false,
+    }
+}
+
+/// What an operator is told of it, where the lane's worker has this name.
+pub fn remark_of(event: LaneEvent, worker: &str) -> Remark<'_>
+    ensures { remark_line result ≡ event_line worker.now event }
+{
+    match event {
+        LaneEvent::Attached => Remark::LoggedIn { worker },
+        LaneEvent::Resumed => Remark::Resumed { worker },
+        LaneEvent::Cut(cause) => Remark::Cut { worker, cause },
+        LaneEvent::Lost(cause) => Remark::Lost { worker, cause },
+        LaneEvent::Declined(fault, from) => Remark::LoginRefused {
+            name: worker,
+            from,
+            why: refusal_of(fault),
+        },
+        LaneEvent::Filled => Remark::Filled { worker },
     }
 }

@@ -6,17 +6,17 @@ ghost use Rattle.bm_link.specs.Carries.{new_carried};
 ghost use Rattle.bm_link.specs.Laws.{CarriesPending};
 ghost use Rattle.bm_link.specs.Texts.{AreShort};
 ghost use Rattle.bm_lane_actor.specs.ConnectionState.{keeps_link};
-ghost use Rattle.bm_lane_actor.specs.ResumeTimer.{kept as kept_term, dismissed};
-ghost use Rattle.bm_lane_actor.specs.LaneStates.{counting, kept, renewed, rest_of, term_in, Attaches, Closes, Expires, GivesUp, Interrupts, Pings, ShutsDown, Starts, TakesUp, Ticks, Turns, with_term};
-ghost use Rattle.bm_lane_actor.specs.LaneEvents.{standing_of};
+ghost use Rattle.bm_lane_actor.specs.ResumeTimer.{kept as kept_timer, dismissed};
+ghost use Rattle.bm_lane_actor.specs.LaneStates.{counting, kept, renewed, rest_of, timer_in, Attaches, Closes, Expires, GivesUp, Interrupts, Pings, ShutsDown, Starts, TakesUp, Ticks, Turns, with_timer};
+ghost use Rattle.bm_lane_actor.specs.LaneEvents.{connection_of};
 
-use crate::lane_event::standing_of;
-use crate::mailbox::Told;
-use crate::told::{told_interrupt, told_start, told_unlinked};
+use crate::connection_state::ConnectionState;
+use crate::lane_event::connection_of;
+use crate::order_outcome::{OrderOutcome, interrupt_outcome, start_outcome, unlinked_outcome};
+use crate::resume_timer::ResumeTimer;
 use bm_lane::{HearRefusal, ReaderEnd, Yard};
 use bm_lines::Text;
 use bm_link::{Ask, Attached, LinkFault, MasterLink, ResumeState, Turn};
-use bm_operator::{ResumeTimer, ConnectionState};
 use bm_session::Event;
 use bumpalo::Bump;
 use std::alloc::Global;
@@ -33,36 +33,36 @@ pub struct LaneState<Y: Yard, S> {
     reader: ReaderEnd<Y>,
     carry: ResumeState,
     link: Option<MasterLink<S>>,
-    tenure: ResumeTimer,
+    timer: ResumeTimer,
 }
 
 impl<Y: Yard, S> Model for LaneState<Y, S> {
     ghost use Rattle.std.specs.Prelude.{◌≡◌, is_some};
     ghost use Rattle.bm_session.specs.Trace.{is_up};
     ghost use Rattle.bm_link.specs.Laws.{CarriesPending};
-    ghost use Rattle.bm_lane_actor.specs.LaneStates.{Seat};
-    ghost use Rattle.bm_lane_actor.specs.LaneEvents.{is_awaited, standing_of};
+    ghost use Rattle.bm_lane_actor.specs.LaneStates.{LaneView};
+    ghost use Rattle.bm_lane_actor.specs.LaneEvents.{is_awaited, connection_of};
 
-    ghost Value = { Seat S };
+    ghost Value = { LaneView S };
 
     ghost view = { λ d. record {
       lane = d.reader;
       carry = d.carry;
       link = d.link;
-      tenure = d.tenure;
+      timer = d.timer;
     } };
 
     ghost invariant = { λ d. (is_some d.link ≡ is_up d.reader.trace)
-        × (is_some d.tenure.cut ≡ is_awaited (standing_of d.reader.trace))
+        × (is_some d.timer.cut ≡ is_awaited (connection_of d.reader.trace))
         × CarriesPending d.carry d.reader.trace };
 }
 
-/// What a clerk waits for.
+/// What an actor waits for.
 #[derive(Clone, Copy, PartialEq, Eq)]
 pub(crate) enum Rest {
-    /// An order: the lane is down.
-    LaneRequest,
-    /// An order, but for a look at the link now and then: the worker has nothing to say.
+    /// A request: the lane is down.
+    Request,
+    /// A request, but for a look at the link now and then: the worker has nothing to say.
     Glance,
     /// A message of the worker.
     Message,
@@ -75,35 +75,35 @@ pub(crate) enum Rest {
 fn settle<Y: Yard, S: Drop>(
     reader: &ReaderEnd<Y>,
     link: &mut Option<MasterLink<S>>,
-    tenure: &mut ResumeTimer,
+    timer: &mut ResumeTimer,
 )
     ensures link { link.new ≡ kept reader.now link.old }
-    ensures tenure { tenure.new ≡ counting reader.now tenure.old }
+    ensures timer { timer.new ≡ counting reader.now timer.old }
     ensures taken { was_taken reader.now.trace ≡ true }
 {
     let _events = reader.trace();
-    let standing = standing_of(reader);
-    keep(link, standing);
-    count(tenure, standing);
+    let connection = connection_of(reader);
+    keep(link, connection);
+    count(timer, connection);
 }
 
 /// Lets the link of a lane go that keeps none.
-fn keep<S: Drop>(link: &mut Option<MasterLink<S>>, standing: ConnectionState)
-    ensures { link.new ≡ (if keeps_link standing then link.old else None) }
+fn keep<S: Drop>(link: &mut Option<MasterLink<S>>, connection: ConnectionState)
+    ensures { link.new ≡ (if keeps_link connection then link.old else None) }
 {
-    if !standing.keeps_link() {
+    if !connection.keeps_link() {
         *link = None;
     }
 }
 
 /// Counts ticks while the lane is cut.
-fn count(tenure: &mut ResumeTimer, standing: ConnectionState)
-    ensures { tenure.new ≡ term_in standing tenure.old }
+fn count(timer: &mut ResumeTimer, connection: ConnectionState)
+    ensures { timer.new ≡ timer_in connection timer.old }
 {
-    match standing {
+    match connection {
         ConnectionState::Up => {}
-        ConnectionState::Cut => tenure.cut(),
-        ConnectionState::Down => tenure.end(),
+        ConnectionState::Cut => timer.cut(),
+        ConnectionState::Down => timer.begin(),
     }
 }
 
@@ -115,11 +115,11 @@ fn put<S: Drop>(place: &mut Option<MasterLink<S>>, link: Option<MasterLink<S>>)
 
 /// After a login at a lane that had so many events: the count begins anew where it had more of
 /// them.
-fn renew<Y: Yard>(reader: &ReaderEnd<Y>, events: usize, tenure: &mut ResumeTimer)
-    ensures { tenure.new ≡ renewed events reader.now tenure.old }
+fn renew<Y: Yard>(reader: &ReaderEnd<Y>, events: usize, timer: &mut ResumeTimer)
+    ensures { timer.new ≡ renewed events reader.now timer.old }
 {
     if reader.is_up() || events != reader.trace().len() {
-        tenure.begin();
+        timer.begin();
     }
 }
 
@@ -130,18 +130,18 @@ fn take_up<Y: Yard, S: Read + Write + Drop, R: Wait>(
     alloc: Global,
     reader: &mut ReaderEnd<Y>,
     carry: &mut ResumeState,
-    tenure: &mut ResumeTimer,
+    timer: &mut ResumeTimer,
     link: MasterLink<S>,
 ) -> (Result<Attached, LinkFault>, Option<MasterLink<S>>)
-    ensures { TakesUp S.contents link reader.old carry.old tenure.old result.0 result.1 reader.new
-        carry.new tenure.new }
+    ensures { TakesUp S.contents link reader.old carry.old timer.old result.0 result.1 reader.new
+        carry.new timer.new }
 {
     let mut link = link;
     let events = reader.trace().len();
     let answer = link.attach(rt, alloc, reader, carry);
-    renew(reader, events, tenure);
+    renew(reader, events, timer);
     let mut link = Some(link);
-    settle(reader, &mut link, tenure);
+    settle(reader, &mut link, timer);
     (answer, link)
 }
 
@@ -168,7 +168,7 @@ fn decline<Y: Yard, S: Read + Write + Drop, R: Wait>(
 }
 
 impl<Y: Yard, S> LaneState<Y, S> {
-    /// The desk of a lane that had no event. Its worker may take `resume_ticks` ticks to resume a
+    /// The state of a lane that had no event. Its worker may take `resume_ticks` ticks to resume a
     /// session after a cut; where these are 0, no session is ever resumed. It takes no memory.
     #[tactic(auto, using(crate::proofs::Carrying::fresh))]
     pub fn new(alloc: Global, reader: ReaderEnd<Y>, resume_ticks: u32) -> LaneState<Y, S>
@@ -176,21 +176,21 @@ impl<Y: Yard, S> LaneState<Y, S> {
         ensures lane { result.lane ≡ reader }
         ensures carry { result.carry ≡ new_carried (nat_lt 0 resume_ticks) }
         ensures link { result.link ≡ None }
-        ensures tenure { result.tenure ≡ kept_term resume_ticks }
+        ensures timer { result.timer ≡ kept_timer resume_ticks }
     {
         LaneState {
             reader,
             carry: ResumeState::new(alloc, resume_ticks > 0),
             link: None,
-            tenure: ResumeTimer::new(resume_ticks),
+            timer: ResumeTimer::new(resume_ticks),
         }
     }
 
-    /// How the lane stands.
-    pub(crate) fn standing(&self) -> ConnectionState
-        ensures { result ≡ standing_of self.now.lane.trace }
+    /// How the lane is connected.
+    pub(crate) fn connection(&self) -> ConnectionState
+        ensures { result ≡ connection_of self.now.lane.trace }
     {
-        standing_of(&self.reader)
+        connection_of(&self.reader)
     }
 
     /// The last event of the lane, if it had one.
@@ -200,17 +200,17 @@ impl<Y: Yard, S> LaneState<Y, S> {
 
     /// What is waited for. `is_lively`: the worker has something to say.
     pub(crate) fn rest(&self, is_lively: bool) -> Rest
-        ensures { result ≡ rest_of is_lively (standing_of self.now.lane.trace) }
+        ensures { result ≡ rest_of is_lively (connection_of self.now.lane.trace) }
     {
-        match self.standing() {
+        match self.connection() {
             ConnectionState::Up if is_lively => Rest::Message,
             ConnectionState::Up => Rest::Glance,
             ConnectionState::Cut => Rest::Tick,
-            ConnectionState::Down => Rest::LaneRequest,
+            ConnectionState::Down => Rest::Request,
         }
     }
 
-    /// What holds of every desk: what it carries are the orders of its lane that have no answer, in
+    /// What holds of every state: what it carries are the orders of its lane that have no answer, in
     /// order, by their numbers, so that a link which resumes the session sends just those again. It
     /// does nothing when it runs.
     pub fn carries_what_is_pending(&self)
@@ -270,7 +270,7 @@ impl<Y: Yard, S: Read + Write + Drop> LaneState<Y, S> {
             alloc,
             &mut self.reader,
             &mut self.carry,
-            &mut self.tenure,
+            &mut self.timer,
             link,
         );
         put(&mut self.link, link);
@@ -295,36 +295,36 @@ impl<Y: Yard, S: Read + Write + Drop> LaneState<Y, S> {
             return Ok(Turn::Quiet);
         };
         let answer = link.turn(rt, alloc, arena, &mut self.reader, &mut self.carry);
-        settle(&self.reader, &mut self.link, &mut self.tenure);
+        settle(&self.reader, &mut self.link, &mut self.timer);
         answer
     }
 
     /// Starts a command with these words. Nothing is sent on a lane without a link: a cut one is to
     /// be tried later, and one that was given up refuses.
-    pub fn start<R: Wait>(&mut self, rt: &R, alloc: Global, argv: &[Text]) -> Told
+    pub fn start<R: Wait>(&mut self, rt: &R, alloc: Global, argv: &[Text]) -> OrderOutcome
         requires { AreShort argv.now }
         ensures { Starts S.contents argv.now self.old.link self.old result self.new }
     {
         let Some(link) = &mut self.link else {
-            return told_unlinked(&self.reader);
+            return unlinked_outcome(&self.reader);
         };
         let command = self.reader.next_command();
         let answer = link.start(rt, alloc, &mut self.reader, &mut self.carry, argv);
-        settle(&self.reader, &mut self.link, &mut self.tenure);
-        told_start(answer, command != self.reader.next_command())
+        settle(&self.reader, &mut self.link, &mut self.timer);
+        start_outcome(answer, command != self.reader.next_command())
     }
 
     /// Interrupts a command, as `start` starts one.
-    pub fn interrupt<R: Wait>(&mut self, rt: &R, alloc: Global, command: u64) -> Told
+    pub fn interrupt<R: Wait>(&mut self, rt: &R, alloc: Global, command: u64) -> OrderOutcome
         ensures { Interrupts S.contents command self.old.link self.old result self.new }
     {
         let Some(link) = &mut self.link else {
-            return told_unlinked(&self.reader);
+            return unlinked_outcome(&self.reader);
         };
         let order = self.reader.next_order();
         let answer = link.interrupt(rt, alloc, &mut self.reader, &mut self.carry, command);
-        settle(&self.reader, &mut self.link, &mut self.tenure);
-        told_interrupt(answer, order != self.reader.next_order())
+        settle(&self.reader, &mut self.link, &mut self.timer);
+        interrupt_outcome(answer, order != self.reader.next_order())
     }
 
     /// Asks the worker to shut down, where the lane has a link. From now on a cut lane is given up
@@ -333,7 +333,7 @@ impl<Y: Yard, S: Read + Write + Drop> LaneState<Y, S> {
     pub fn shut_down(&mut self, alloc: Global)
         ensures { ShutsDown S.contents self.old.link self.old self.new }
     {
-        self.tenure.dismiss();
+        self.timer.dismiss();
         if let Some(link) = &mut self.link {
             let _ = link.ask(alloc, &mut self.carry, Ask::Shutdown);
         }
@@ -363,9 +363,9 @@ impl<Y: Yard, S: Read + Write + Drop> LaneState<Y, S> {
 
     /// The worker's process has ended: from now on a cut lane is given up at once.
     pub fn dismiss(&mut self)
-        ensures { self.new ≡ with_term self.old (dismissed self.old.tenure) }
+        ensures { self.new ≡ with_timer self.old (dismissed self.old.timer) }
     {
-        self.tenure.dismiss();
+        self.timer.dismiss();
     }
 
     /// Gives the session up, if there is one. False where that has to wait until the lane's queue
@@ -376,7 +376,7 @@ impl<Y: Yard, S: Read + Write + Drop> LaneState<Y, S> {
         if let Err((_, HearRefusal::Busy)) = self.reader.down(rt) {
             return false;
         }
-        settle(&self.reader, &mut self.link, &mut self.tenure);
+        settle(&self.reader, &mut self.link, &mut self.timer);
         true
     }
 
@@ -384,7 +384,7 @@ impl<Y: Yard, S: Read + Write + Drop> LaneState<Y, S> {
     pub fn expire<R: Wait>(&mut self, rt: &R)
         ensures { Expires self.old self.new }
     {
-        if self.tenure.is_over() {
+        if self.timer.is_over() {
             self.give_up(rt);
         }
     }
@@ -394,7 +394,7 @@ impl<Y: Yard, S: Read + Write + Drop> LaneState<Y, S> {
     pub fn tick<R: Wait>(&mut self, rt: &R)
         ensures { Ticks self.old self.new }
     {
-        self.tenure.tick();
+        self.timer.tick();
         self.expire(rt);
     }
 }

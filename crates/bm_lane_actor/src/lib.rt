@@ -1,31 +1,45 @@
-//! What runs round one lane of a build master: the clerk that owns the lane's reader's end, the
-//! door through which orders and links come to it, the greeting of a new connection, the port of a
-//! build, and the gate under which a pool of writers sleeps.
+//! The actor of one lane of a build master, and what works with it.
 //!
-//! A lane has one clerk, in a thread of its own. It alone calls the lane's link, and it serves its
-//! door until it is told to leave, so whoever orders something is answered. What it decides stands
-//! in [`LaneState`]; its loop only waits.
+//! A lane has one actor, in a thread of its own ([`serve_lane`]), which alone calls the lane's link.
+//! Requests and links come to it by a [`Mailbox`], and it answers each until it is told to leave.
+//! [`log_in`] brings a new connection there, [`LanePort`] a build, [`DrainGate`] lets the pool of
+//! writers sleep. What the actor decides is in [`LaneState`], and proved: what each call does to
+//! lane, link and timers, and that the orders without an answer are those sent again. The loops
+//! round it have no clauses: a body could wait too long, take a request twice or tell no event.
 #![tactic(auto)]
 
+mod byte_count;
+mod connection_state;
 mod drain_gate;
-mod greeting;
-mod heard;
 mod lane_actor;
 mod lane_event;
+mod lane_request;
 mod lane_state;
+mod login;
 mod login_limit;
+mod login_refusal;
 mod mailbox;
+mod order_outcome;
+mod peer_timer;
 mod port;
+mod resume_timer;
+mod step_meter;
 mod stream;
-mod told;
 
+pub use byte_count::ByteCount;
+pub use connection_state::ConnectionState;
 pub use drain_gate::DrainGate;
-pub use greeting::greet;
-pub use heard::ByteCount;
-pub use lane_actor::{Tell, serve_lane};
-pub use lane_event::LaneEvent;
+pub use lane_actor::{EventSink, serve_lane};
+pub use lane_event::{LaneEvent, event_of, fills, remark_of};
+pub use lane_request::{LaneRequest, LaneSignal};
 pub use lane_state::LaneState;
-pub use login_limit::{LoginLimit, MOST_GUESTS};
-pub use mailbox::{LaneHandle, LaneRequest, Mailbox, Signal, Told, open_door};
+pub use login::log_in;
+pub use login_limit::{LoginLimit, MOST_PENDING_LOGINS};
+pub use login_refusal::{refusal_in, refusal_of, refusal_remark};
+pub use mailbox::{LaneHandle, Mailbox, Mailboxes, handle_of, open_mailbox, open_mailboxes};
+pub use order_outcome::OrderOutcome;
+pub use peer_timer::{ANSWER_WITHIN_MS, ASK_AFTER_MS, DEAD_AFTER_MS, PeerAction, PeerTimer};
 pub use port::{LanePort, Watch};
+pub use resume_timer::ResumeTimer;
+pub use step_meter::StepMeter;
 pub use stream::{LOGIN_MS, Timed, WorkerStream};

@@ -1,9 +1,9 @@
-//! The greeting of a new connection: its handshake and its login.
+//! The login of a new connection: its handshake, and the hand-over to its lane.
 
 ghost use Rattle.std.specs.Prelude.{◌≡◌, IfOk, IfSome, slice_get};
-ghost use Rattle.bm_lane_actor.specs.Greeting.{IsLoggedIn};
+ghost use Rattle.bm_lane_actor.specs.Login.{IsLoggedIn};
 
-use crate::mailbox::{Handed, LaneHandle};
+use crate::mailbox::{HandOver, LaneHandle, handle_of};
 use crate::stream::{Timed, WorkerStream};
 use bm_lines::Text;
 use bm_link::{LinkFault, MasterLink, User};
@@ -22,7 +22,7 @@ const MOST_NAME: usize = 256;
 
 /// A worker that has logged in: the place of its user, and its link.
 #[derive(Drop)]
-struct Visitor<S> {
+struct LoggedIn<S> {
     place: usize,
     link: MasterLink<S>,
 }
@@ -38,13 +38,13 @@ fn stranger<S: Read + Write + Drop>(alloc: Global, link: &MasterLink<S>) -> Opti
 
 /// Agrees on a WebSocket over the stream, and reads the login. `refused` becomes the name of one
 /// that is refused as one of no user.
-fn admit<S: Read + Write + Drop>(
+fn accept<S: Read + Write + Drop>(
     alloc: Global,
     stream: S,
     users: &[User],
     refused: &mut Option<Text>,
-) -> Result<Visitor<S>, LinkFault>
-    ensures { IfOk result (λ v. IsLoggedIn S.remaining S.contents users.now v.place v.link) }
+) -> Result<LoggedIn<S>, LinkFault>
+    ensures { IfOk result (λ w. IsLoggedIn S.remaining S.contents users.now w.place w.link) }
 {
     let mut link = match MasterLink::accept(alloc, stream) {
         Ok(link) => link,
@@ -53,7 +53,7 @@ fn admit<S: Read + Write + Drop>(
     let mut arena = Bump::new(alloc);
     arena.set_allocation_limit(Some(MOST_LOGIN_BYTES));
     match link.login(alloc, &mut arena, users) {
-        Ok(place) => Ok(Visitor { place, link }),
+        Ok(place) => Ok(LoggedIn { place, link }),
         Err(fault) => {
             *refused = stranger(alloc, &link);
             Err(fault)
@@ -68,53 +68,46 @@ fn name_of(users: &[User], place: usize) -> Option<Text>
     users.get(place)?.name.copy().ok()
 }
 
-/// The door of the lane with this number.
-fn door_of<S: Drop>(doors: &[LaneHandle<S>], lane: usize) -> Option<&LaneHandle<S>>
-    ensures { IfSome result (λ door. door.now ≡ lane) }
-{
-    doors.iter().find(|door| door.lane() == lane as u64)
-}
-
-/// Hands a visitor's link through the door of its own lane. Where that has no room the worker is
+/// Hands a worker's link to the actor of its own lane. Where the mailbox has no room the worker is
 /// told `busy`.
 ///
 /// # Errors
 ///
-/// `Closed` where the clerk has left; `Busy` of the lane where its door has no room.
-fn hand<S: Read + Write + Drop, R: Wait + Clock>(
+/// `Closed` where the actor has left; `Busy` of the lane where its mailbox has no room.
+fn hand_over<S: Read + Write + Drop, R: Wait + Clock>(
     rt: &R,
     alloc: Global,
-    door: &LaneHandle<S>,
-    visitor: Visitor<S>,
+    handle: &LaneHandle<S>,
+    worker: LoggedIn<S>,
 ) -> Result<(), LinkFault>
-    requires { door.now ≡ visitor.place }
+    requires { handle.now ≡ worker.place }
 {
-    match door.attach(rt, visitor.link) {
-        Handed::Taken => Ok(()),
-        Handed::Back(link) => {
+    match handle.attach(rt, worker.link) {
+        HandOver::Taken => Ok(()),
+        HandOver::Back(link) => {
             let mut link = link;
             Err(link.put_off(alloc))
         }
-        Handed::Left => Err(LinkFault::Closed),
+        HandOver::Left => Err(LinkFault::Closed),
     }
 }
 
-/// Greets a worker on a new connection, within some 10 seconds, and hands its link through its
-/// lane's door. The result is the number of the lane, which is the place of the worker's user.
+/// Logs a worker in on a new connection, within some 10 seconds, and hands its link to the actor of
+/// its lane. The result is the number of the lane, which is the place of the worker's user.
 /// `refused` becomes the name of a login that is refused: as one of no user, where that isn't long,
-/// or at its lane's door.
+/// or at its lane's mailbox.
 ///
 /// # Errors
 ///
-/// Those of the link's `accept` and `login`; `Closed` where the lane's clerk has left; `Busy` of
-/// the lane where its door has no room; `Stream` also where the time is over. Nothing is left of
+/// Those of the link's `accept` and `login`; `Closed` where the lane's actor has left; `Busy` of
+/// the lane where its mailbox has no room; `Stream` also where the time is over. Nothing is left of
 /// the connection then.
-pub fn greet<S, R>(
+pub fn log_in<S, R>(
     rt: &R,
     alloc: Global,
     stream: WorkerStream<S, R>,
     users: &[User],
-    doors: &[LaneHandle<WorkerStream<S, R>>],
+    handles: &[LaneHandle<WorkerStream<S, R>>],
     refused: &mut Option<Text>,
 ) -> Result<usize, LinkFault>
 where
@@ -125,16 +118,16 @@ where
     if stream.bound_calls().is_err() {
         return Err(LinkFault::Stream);
     }
-    let visitor = match admit(alloc, stream, users, refused) {
-        Ok(visitor) => visitor,
+    let worker = match accept(alloc, stream, users, refused) {
+        Ok(worker) => worker,
         Err(fault) => return Err(fault),
     };
-    visitor.link.get_ref().let_in();
-    let place = visitor.place;
-    let Some(door) = door_of(doors, place) else {
+    worker.link.get_ref().set_logged_in();
+    let place = worker.place;
+    let Some(handle) = handle_of(handles, place) else {
         return Err(LinkFault::Closed);
     };
-    match hand(rt, alloc, door, visitor) {
+    match hand_over(rt, alloc, handle, worker) {
         Ok(()) => Ok(place),
         Err(fault) => {
             *refused = name_of(users, place);

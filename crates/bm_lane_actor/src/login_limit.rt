@@ -6,32 +6,32 @@ ghost use Rattle.bm_lane_actor.specs.LoginLimits.{has_room, entered, left};
 use std::marker::Model;
 use std::sync::{Mutex, Wait};
 
-/// The most connections that have not logged in.
-pub const MOST_GUESTS: u64 = 256;
+/// The most connections at once that have not logged in.
+pub const MOST_PENDING_LOGINS: u64 = 256;
 
-/// How many connections have not logged in: no more than `MOST_GUESTS`.
+/// How many connections have not logged in: no more than `MOST_PENDING_LOGINS`.
 #[derive(Drop)]
-struct Count {
+struct LoginCount {
     inside: u64,
 }
 
-impl Model for Count {
+impl Model for LoginCount {
     ghost use Rattle.std.specs.Prelude.{ℕ, ◌≤◌};
-    ghost use Rattle.bm_lane_actor.specs.LoginLimits.{most_guests};
+    ghost use Rattle.bm_lane_actor.specs.LoginLimits.{most_pending_logins};
 
     ghost Value = { ℕ };
 
     ghost view = { λ c. c.inside };
 
-    ghost invariant = { λ c. c.inside ≤ most_guests };
+    ghost invariant = { λ c. c.inside ≤ most_pending_logins };
 }
 
-impl Count {
+impl LoginCount {
     fn enter(&mut self) -> bool
         ensures answer { result ≡ has_room self.old }
         ensures count { self.new ≡ entered self.old }
     {
-        if self.inside >= MOST_GUESTS {
+        if self.inside >= MOST_PENDING_LOGINS {
             return false;
         }
         self.inside += 1;
@@ -48,14 +48,14 @@ impl Count {
 /// The connections that have not logged in, by their number alone.
 #[derive(Drop)]
 pub struct LoginLimit {
-    count: Mutex<Count>,
+    count: Mutex<LoginCount>,
 }
 
 impl LoginLimit {
     /// Nobody has connected.
     pub fn new() -> LoginLimit {
         LoginLimit {
-            count: Mutex::new(Count { inside: 0 }),
+            count: Mutex::new(LoginCount { inside: 0 }),
         }
     }
 

@@ -1,9 +1,10 @@
-//! The door of a lane's clerk: what the clerk is told through it, and what it answers.
+//! The mailbox of a lane's actor: the requests that wait in it, and the signals beside them.
 
 ghost use Rattle.std.specs.Prelude.{◌≡◌, IfOk, IfSome};
+ghost use Rattle.bm_session.specs.Trace.{below};
 
-use crate::heard::ByteCount;
-use bm_board::Words;
+use crate::lane_request::{LaneRequest, LaneSignal};
+use bm_latent::TICK_MS;
 use bm_link::MasterLink;
 use crossbeam_channel::{Receiver, RecvTimeoutError, SendTimeoutError, Sender, bounded};
 use std::alloc::{AllocError, Global};
@@ -12,104 +13,55 @@ use std::sync::atomic::{AtomicBool, Ordering};
 use std::sync::{Arc, Wait};
 use std::time::{Clock, Duration};
 
-/// How many orders a door holds before those who order have to wait.
-const ROOM: usize = 64;
+/// How many requests a mailbox holds before those who send have to wait.
+const MOST_REQUESTS: usize = 64;
 
-/// How long an answer is waited for before the door is looked at again, in milliseconds.
-const TICK: u64 = 10;
-
-/// How long a link waits for room at the door, in milliseconds.
+/// How long a link waits for room in a mailbox, in milliseconds.
 const ATTACH_MS: u64 = 1_000;
-
-/// What a lane's clerk is told in its turn.
-#[derive(Drop)]
-pub enum LaneRequest<S> {
-    /// A link of the lane's worker has logged in.
-    Attach(MasterLink<S>),
-    /// Start a command with these words, count what its updates carry, and answer what came of it.
-    Start(Words, ByteCount, Sender<Told, Global>),
-    /// Interrupt this command, and answer what came of it.
-    Interrupt(u64, Sender<Told, Global>),
-    /// The build of this command, which was started, asks for it no more.
-    Seen(u64),
-    /// Answer once all that happened to the lane so far was told.
-    Settle(Sender<(), Global>),
-    /// Look at the signals.
-    Look,
-}
-
-/// What a lane's clerk is told before what waits at its door, by who never waits for it.
-#[derive(Clone, Copy, PartialEq, Eq)]
-pub enum Signal {
-    /// Ask the worker to shut down: from then on its session isn't resumed.
-    ShutDown,
-    /// The worker's process has ended: its session isn't resumed.
-    Ended,
-    /// Give the session up, and hand the lane's end back.
-    Leave,
-}
 
 /// Which signals were given, and not taken.
 #[derive(Drop)]
-struct Signals {
+struct SignalFlags {
     shut_down: AtomicBool,
     ended: AtomicBool,
     leave: AtomicBool,
 }
 
-impl Signals {
-    fn new() -> Signals {
-        Signals {
+impl SignalFlags {
+    fn new() -> SignalFlags {
+        SignalFlags {
             shut_down: AtomicBool::new(false),
             ended: AtomicBool::new(false),
             leave: AtomicBool::new(false),
         }
     }
 
-    fn flag(&self, signal: Signal) -> &AtomicBool {
+    fn flag(&self, signal: LaneSignal) -> &AtomicBool {
         match signal {
-            Signal::ShutDown => &self.shut_down,
-            Signal::Ended => &self.ended,
-            Signal::Leave => &self.leave,
+            LaneSignal::ShutDown => &self.shut_down,
+            LaneSignal::Ended => &self.ended,
+            LaneSignal::Leave => &self.leave,
         }
     }
 }
 
-/// What becomes of a link that is handed through a door.
+/// What became of a link that was sent to a mailbox.
 #[derive(Drop)]
-pub(crate) enum Handed<S> {
+pub(crate) enum HandOver<S> {
     Taken,
-    /// The door had no room for it.
+    /// The mailbox had no room for it.
     Back(MasterLink<S>),
-    /// The clerk has left.
+    /// The actor has left.
     Left,
 }
 
-/// What came of an order to start or to interrupt a command.
-#[derive(Clone, Copy, PartialEq, Eq)]
-pub enum Told {
-    /// The command with this number was started.
-    Started(u64),
-    /// The command was interrupted.
-    Interrupted,
-    /// Nothing was done, and it may be tried again: the lane is cut and may be resumed, or it is
-    /// busy.
-    Later,
-    /// The lane was given up, or refuses the order.
-    Refused,
-    /// The lane has had as many events as it may.
-    Full,
-    /// Nothing was done: an order doesn't carry as many words, or as long ones.
-    TooLong,
-}
-
-/// The end of a door for those who order. Contracts see the number of its lane.
+/// The end of a mailbox for those who send. Contracts see the number of its lane.
 #[derive(Drop)]
 pub struct LaneHandle<S> {
     lane: u64,
     sender: Sender<LaneRequest<S>, Global>,
-    signals: Arc<Signals, Global>,
-    /// Set once the clerk has left.
+    signals: Arc<SignalFlags, Global>,
+    /// Set once the actor has left.
     is_shut: Arc<AtomicBool, Global>,
 }
 
@@ -118,15 +70,15 @@ impl<S> Model for LaneHandle<S> {
 
     ghost Value = { ℕ };
 
-    ghost view = { λ d. d.lane };
+    ghost view = { λ h. h.lane };
 }
 
-/// The end of a door for the lane's clerk. Contracts see the number of its lane.
+/// The end of a mailbox for the lane's actor. Contracts see the number of its lane.
 #[derive(Drop)]
 pub struct Mailbox<S> {
     lane: u64,
     receiver: Receiver<LaneRequest<S>, Global>,
-    signals: Arc<Signals, Global>,
+    signals: Arc<SignalFlags, Global>,
     is_shut: Arc<AtomicBool, Global>,
 }
 
@@ -135,39 +87,68 @@ impl<S> Model for Mailbox<S> {
 
     ghost Value = { ℕ };
 
-    ghost view = { λ i. i.lane };
+    ghost view = { λ m. m.lane };
 }
 
-/// The door of a lane's clerk, by both its ends.
-pub fn open_door<S: Drop>(
+/// The mailbox of a lane's actor, by both its ends.
+pub fn open_mailbox<S: Drop>(
     alloc: Global,
     lane: u64,
 ) -> Result<(LaneHandle<S>, Mailbox<S>), AllocError>
-    ensures door { IfOk result (λ ends. ends.0 ≡ lane) }
-    ensures inbox { IfOk result (λ ends. ends.1 ≡ lane) }
+    ensures handle { IfOk result (λ ends. ends.0 ≡ lane) }
+    ensures mailbox { IfOk result (λ ends. ends.1 ≡ lane) }
 {
-    let (sender, receiver) = bounded(alloc, ROOM)?;
+    let (sender, receiver) = bounded(alloc, MOST_REQUESTS)?;
     let is_shut = Arc::new(alloc, AtomicBool::new(false))?;
-    let signals = Arc::new(alloc, Signals::new())?;
-    let door = LaneHandle {
+    let signals = Arc::new(alloc, SignalFlags::new())?;
+    let handle = LaneHandle {
         lane,
         sender,
         signals: Arc::try_clone(&signals)?,
         is_shut: Arc::try_clone(&is_shut)?,
     };
-    let inbox = Mailbox {
+    let mailbox = Mailbox {
         lane,
         receiver,
         signals,
         is_shut,
     };
-    Ok((door, inbox))
+    Ok((handle, mailbox))
+}
+
+/// The mailboxes of lane 0, lane 1 and so on, by both their ends.
+#[derive(Drop)]
+pub struct Mailboxes<S: Drop> {
+    pub handles: Vec<LaneHandle<S>>,
+    pub mailboxes: Vec<Mailbox<S>>,
+}
+
+/// The mailboxes of so many lanes.
+pub fn open_mailboxes<S: Drop>(alloc: Global, lanes: usize) -> Result<Mailboxes<S>, AllocError>
+    ensures handles { IfOk result (λ all. all.handles.items ≡ below lanes) }
+    ensures mailboxes { IfOk result (λ all. all.mailboxes.items ≡ below lanes) }
+{
+    let mut handles = Vec::new(alloc);
+    let mut mailboxes = Vec::new(alloc);
+    for lane in 0..lanes {
+        let (handle, mailbox) = open_mailbox(alloc, lane as u64)?;
+        handles.push(handle)?;
+        mailboxes.push(mailbox)?;
+    }
+    Ok(Mailboxes { handles, mailboxes })
+}
+
+/// The handle of the lane of this number. None where there is none.
+pub fn handle_of<S: Drop>(handles: &[LaneHandle<S>], lane: usize) -> Option<&LaneHandle<S>>
+    ensures { IfSome result (λ handle. handle.now ≡ lane) }
+{
+    handles.iter().find(|handle| handle.lane() == lane as u64)
 }
 
 impl<S: Drop> LaneHandle<S> {
-    /// Another end of the same door.
+    /// Another end of the same mailbox.
     pub fn copy(&self) -> Result<LaneHandle<S>, AllocError>
-        ensures { IfOk result (λ door. door ≡ self.now) }
+        ensures { IfOk result (λ handle. handle ≡ self.now) }
     {
         Ok(LaneHandle {
             lane: self.lane,
@@ -184,44 +165,45 @@ impl<S: Drop> LaneHandle<S> {
         self.lane
     }
 
-    /// Tells the clerk, once its door has room. It answers false where the clerk has left.
-    pub fn tell<R: Wait>(&self, rt: &R, order: LaneRequest<S>) -> bool {
-        !self.is_shut() && self.sender.send(rt, order).is_ok()
+    /// Sends the actor a request, once its mailbox has room. It answers false where the actor has
+    /// left.
+    pub fn tell<R: Wait>(&self, rt: &R, request: LaneRequest<S>) -> bool {
+        !self.is_shut() && self.sender.send(rt, request).is_ok()
     }
 
-    /// Hands the clerk a link that has logged in. It comes back where the door has no room for a
-    /// second.
-    pub(crate) fn attach<R: Wait + Clock>(&self, rt: &R, link: MasterLink<S>) -> Handed<S> {
+    /// Hands the actor a link that has logged in. It comes back where the mailbox has no room for
+    /// a second.
+    pub(crate) fn attach<R: Wait + Clock>(&self, rt: &R, link: MasterLink<S>) -> HandOver<S> {
         if self.is_shut() {
-            return Handed::Left;
+            return HandOver::Left;
         }
         let most = Duration::from_millis(ATTACH_MS);
         match self
             .sender
             .send_timeout(rt, LaneRequest::Attach(link), most)
         {
-            Ok(()) => Handed::Taken,
-            Err(SendTimeoutError::Timeout(LaneRequest::Attach(link))) => Handed::Back(link),
-            Err(_) => Handed::Left,
+            Ok(()) => HandOver::Taken,
+            Err(SendTimeoutError::Timeout(LaneRequest::Attach(link))) => HandOver::Back(link),
+            Err(_) => HandOver::Left,
         }
     }
 
-    /// Gives the clerk a signal, and doesn't wait for it. Where the door is full the clerk looks
-    /// at it all the same, after its next order.
-    pub fn signal<R: Wait>(&self, rt: &R, signal: Signal) {
+    /// Gives the actor a signal, and doesn't wait for it. Where the mailbox is full the actor looks
+    /// at it all the same, after its next request.
+    pub fn signal<R: Wait>(&self, rt: &R, signal: LaneSignal) {
         self.signals.flag(signal).store(true, Ordering::SeqCst);
         let _ = self.sender.try_send(rt, LaneRequest::Look);
     }
 
-    /// What the clerk answers to an order that it was told. None where it has left before: an order
-    /// that nobody takes stays in the door, and what would answer it with it.
+    /// What the actor answers to a request that it was sent. None where it has left before: a
+    /// request that nobody takes stays in the mailbox, and what would answer it with it.
     pub(crate) fn answer<A: Drop, R: Wait + Clock>(
         &self,
         rt: &R,
-        told: &Receiver<A, Global>,
+        answers: &Receiver<A, Global>,
     ) -> Option<A> {
         for _ in rt.forever() {
-            match told.recv_timeout(rt, Duration::from_millis(TICK)) {
+            match answers.recv_timeout(rt, Duration::from_millis(TICK_MS)) {
                 Ok(answer) => return Some(answer),
                 Err(RecvTimeoutError::Timeout) if !self.is_shut() => {}
                 Err(_) => return None,
@@ -235,12 +217,12 @@ impl<S: Drop> LaneHandle<S> {
     }
 }
 
-/// What came through a door.
+/// What was found in a mailbox.
 #[derive(Drop)]
-pub(crate) enum Next<S> {
-    LaneRequest(LaneRequest<S>),
+pub(crate) enum Received<S> {
+    Request(LaneRequest<S>),
     Nothing,
-    /// Nobody is left who could order.
+    /// Nobody is left who could send.
     Left,
 }
 
@@ -252,30 +234,30 @@ impl<S: Drop> Mailbox<S> {
         self.lane
     }
 
-    /// The clerk leaves: from now on nobody who orders waits for it.
+    /// The actor leaves: from now on nobody who sends waits for it.
     pub(crate) fn shut(&self) {
         self.is_shut.store(true, Ordering::SeqCst);
     }
 
     /// Whether the signal was given, told once.
-    pub(crate) fn takes(&self, signal: Signal) -> bool {
+    pub(crate) fn takes(&self, signal: LaneSignal) -> bool {
         self.signals.flag(signal).swap(false, Ordering::SeqCst)
     }
 
-    /// The next order, if it comes within this time.
-    pub(crate) fn wait_for<R: Wait + Clock>(&self, rt: &R, most: Duration) -> Next<S> {
+    /// The next request, if it comes within this time.
+    pub(crate) fn wait_for<R: Wait + Clock>(&self, rt: &R, most: Duration) -> Received<S> {
         match self.receiver.recv_timeout(rt, most) {
-            Ok(order) => Next::LaneRequest(order),
-            Err(RecvTimeoutError::Timeout) => Next::Nothing,
-            Err(RecvTimeoutError::Disconnected) => Next::Left,
+            Ok(request) => Received::Request(request),
+            Err(RecvTimeoutError::Timeout) => Received::Nothing,
+            Err(RecvTimeoutError::Disconnected) => Received::Left,
         }
     }
 
-    /// The next order, if there is one.
-    pub(crate) fn look<R: Wait>(&self, rt: &R) -> Next<S> {
+    /// The next request, if there is one.
+    pub(crate) fn look<R: Wait>(&self, rt: &R) -> Received<S> {
         match self.receiver.try_recv(rt) {
-            Ok(order) => Next::LaneRequest(order),
-            Err(_) => Next::Nothing,
+            Ok(request) => Received::Request(request),
+            Err(_) => Received::Nothing,
         }
     }
 }

@@ -1,47 +1,65 @@
-//! What a build is told of what it orders.
+//! What came of an order to start or to interrupt a command.
 
 ghost use Rattle.std.specs.Prelude.{◌≡◌};
-ghost use Rattle.bm_lane_actor.specs.LaneStates.{told_interrupt, told_start, told_unlinked};
+ghost use Rattle.bm_lane_actor.specs.LaneStates.{interrupt_outcome, start_outcome, unlinked_outcome};
 
-use crate::mailbox::Told;
 use bm_lane::{HearRefusal, ReaderEnd, Yard};
 use bm_link::LinkFault;
 use bm_session::Refusal;
 
-/// What a build is told of a start, by the link's answer and whether the lane took the order.
-pub(crate) fn told_start(answer: Result<u64, LinkFault>, is_taken: bool) -> Told
-    ensures { result ≡ told_start is_taken answer }
+/// What came of an order to start or to interrupt a command.
+#[derive(Clone, Copy, PartialEq, Eq)]
+pub enum OrderOutcome {
+    /// The command with this number was started.
+    Started(u64),
+    /// The command was interrupted.
+    Interrupted,
+    /// Nothing was done, and it may be tried again: the lane is cut and may be resumed, or it is
+    /// busy.
+    Later,
+    /// The lane was given up, or refuses the order.
+    Refused,
+    /// The lane has had as many events as it may.
+    Full,
+    /// Nothing was done: an order doesn't carry as many words, or as long ones.
+    TooLong,
+}
+
+/// What came of a start, by the link's answer and whether the lane took the order.
+pub(crate) fn start_outcome(answer: Result<u64, LinkFault>, is_taken: bool) -> OrderOutcome
+    ensures { result ≡ start_outcome is_taken answer }
 {
     match answer {
-        Ok(command) => Told::Started(command),
-        Err(LinkFault::Lane(HearRefusal::Busy)) => Told::Later,
-        Err(LinkFault::Lane(HearRefusal::Session(Refusal::Full))) => Told::Full,
-        Err(LinkFault::Lane(HearRefusal::Session(_))) => Told::Refused,
-        Err(_) if is_taken => Told::Refused,
-        Err(_) => Told::Later,
+        Ok(command) => OrderOutcome::Started(command),
+        Err(LinkFault::Lane(HearRefusal::Busy)) => OrderOutcome::Later,
+        Err(LinkFault::Lane(HearRefusal::Session(Refusal::Full))) => OrderOutcome::Full,
+        Err(LinkFault::Lane(HearRefusal::Session(_))) => OrderOutcome::Refused,
+        Err(_) if is_taken => OrderOutcome::Refused,
+        Err(_) => OrderOutcome::Later,
     }
 }
 
-/// What a build is told of an interruption.
-pub(crate) fn told_interrupt(answer: Result<(), LinkFault>, is_taken: bool) -> Told
-    ensures { result ≡ told_interrupt is_taken answer }
+/// What came of an interruption, told likewise.
+pub(crate) fn interrupt_outcome(answer: Result<(), LinkFault>, is_taken: bool) -> OrderOutcome
+    ensures { result ≡ interrupt_outcome is_taken answer }
 {
     match answer {
-        Ok(()) => Told::Interrupted,
-        Err(LinkFault::Lane(HearRefusal::Busy | HearRefusal::Session(Refusal::Mem))) => Told::Later,
-        Err(LinkFault::Lane(HearRefusal::Session(_))) => Told::Refused,
-        Err(_) if is_taken => Told::Interrupted,
-        Err(_) => Told::Later,
+        Ok(()) => OrderOutcome::Interrupted,
+        Err(LinkFault::Lane(HearRefusal::Busy | HearRefusal::Session(Refusal::Mem))) =>
+            OrderOutcome::Later,
+        Err(LinkFault::Lane(HearRefusal::Session(_))) => OrderOutcome::Refused,
+        Err(_) if is_taken => OrderOutcome::Interrupted,
+        Err(_) => OrderOutcome::Later,
     }
 }
 
-/// What a build is told where the lane has no link.
-pub(crate) fn told_unlinked<Y: Yard>(reader: &ReaderEnd<Y>) -> Told
-    ensures { result ≡ told_unlinked reader.now }
+/// What comes of an order to a lane without a link.
+pub(crate) fn unlinked_outcome<Y: Yard>(reader: &ReaderEnd<Y>) -> OrderOutcome
+    ensures { result ≡ unlinked_outcome reader.now }
 {
     if reader.is_cut() {
-        Told::Later
+        OrderOutcome::Later
     } else {
-        Told::Refused
+        OrderOutcome::Refused
     }
 }

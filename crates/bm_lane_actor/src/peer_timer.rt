@@ -2,7 +2,7 @@
 
 ghost use Rattle.std.specs.Prelude.{◌≡◌};
 ghost use Rattle.std.specs.Option.{is_some};
-ghost use Rattle.bm_lane_actor.specs.PeerTimer.{after_care, care_at, heard_at, started, wanted_at};
+ghost use Rattle.bm_lane_actor.specs.PeerTimer.{after_action, action_at, heard_at, started, wanted_at};
 
 use std::marker::Model;
 
@@ -17,7 +17,7 @@ pub const ANSWER_WITHIN_MS: u64 = 1_500;
 
 /// What is to be done about a worker.
 #[derive(Clone, Copy, Debug, PartialEq, Eq)]
-pub enum Care {
+pub enum PeerAction {
     Nothing,
     /// It is asked for a sign of life.
     Ask,
@@ -39,9 +39,9 @@ pub struct PeerTimer {
 }
 
 impl Model for PeerTimer {
-    ghost use Rattle.bm_lane_actor.specs.PeerTimer.{Silence};
+    ghost use Rattle.bm_lane_actor.specs.PeerTimer.{PeerView};
 
-    ghost Value = { Silence };
+    ghost Value = { PeerView };
 
     ghost view = { λ t. record {
       count = t.count;
@@ -73,35 +73,35 @@ impl PeerTimer {
         }
     }
 
-    fn care(&self, now: u64) -> Care
-        ensures { result ≡ care_at now self.now }
+    fn action(&self, now: u64) -> PeerAction
+        ensures { result ≡ action_at now self.now }
     {
         let silent = now.saturating_sub(self.since);
         if let Some(since) = self.wanted {
             if ANSWER_WITHIN_MS <= now.saturating_sub(since) {
-                return Care::GiveUp;
+                return PeerAction::GiveUp;
             }
         }
         if DEAD_AFTER_MS <= silent {
-            Care::GiveUp
+            PeerAction::GiveUp
         } else if ASK_AFTER_MS <= silent && !self.is_asked {
-            Care::Ask
+            PeerAction::Ask
         } else {
-            Care::Nothing
+            PeerAction::Nothing
         }
     }
 
     /// What is to be done now. It is asked once for each silence.
-    pub fn look(&mut self, count: u64, now: u64) -> Care
-        ensures care { result ≡ care_at now (heard_at count now self.old) }
-        ensures timer { self.new ≡ after_care result (heard_at count now self.old) }
+    pub fn look(&mut self, count: u64, now: u64) -> PeerAction
+        ensures action { result ≡ action_at now (heard_at count now self.old) }
+        ensures timer { self.new ≡ after_action result (heard_at count now self.old) }
     {
         self.hear(count, now);
-        let care = self.care(now);
-        if care == Care::Ask {
+        let action = self.action(now);
+        if action == PeerAction::Ask {
             self.is_asked = true;
         }
-        care
+        action
     }
 
     /// Another connection asks for the worker's lane, for which the worker is asked now.

@@ -1,15 +1,19 @@
-//! A build's port to its worker's lane: it orders through the lane's door, and looks through a
+//! A build's port to its worker's lane: it sends requests by the lane's handle, and looks through a
 //! viewer of its own.
 
 ghost use Rattle.std.specs.Prelude.{◌≡◌, ◌≤◌, ◌++◌, false, codes, length, IfSome};
-ghost use Rattle.bm_lane_actor.specs.Ports.{Begins, Looks, is_left_out, is_lost, polled};
+ghost use Rattle.bm_lane_actor.specs.Ports.{Begins, Looks, is_left_out, is_lost, polled, start_refusal};
 
-use crate::heard::ByteCount;
-use crate::mailbox::{LaneHandle, LaneRequest, Told};
+use crate::byte_count::ByteCount;
+use crate::lane_request::LaneRequest;
+use crate::mailbox::LaneHandle;
+use crate::order_outcome::OrderOutcome;
+use crate::step_meter::StepMeter;
 use bm_board::{StepPlan, Words};
 use bm_lane::{Viewer, Yard};
+use bm_latent::TICK_MS;
 use bm_lines::{STDIO, Text};
-use bm_operator::{StartRefusal, StepLimit, StepMeter};
+use bm_operator::{StartRefusal, StepLimit};
 use bm_runner::{Entries, Polled, Port};
 use bm_session::Results;
 use bm_store::{LogState, ViewRefusal};
@@ -20,9 +24,6 @@ use std::sync::atomic::{AtomicBool, AtomicU64, Ordering};
 use std::sync::{Arc, Wait};
 use std::thread;
 use std::time::{Clock, Duration};
-
-/// How long a tick is, in milliseconds.
-const TICK: u64 = 10;
 
 /// How many bytes a line of headers may have that is told of.
 const MOST_SAID: usize = 256;
@@ -48,12 +49,12 @@ const NO_COMMAND: u64 = u64::MAX;
 
 /// The port of a build. It asks how its command does once a tick, and waits with a start or an
 /// interruption until the lane is up or was given up. It says that a command ended by a loss once
-/// the lane's clerk has told of that loss. The viewer is one of the lane whose door it has.
+/// the lane's actor has told of that loss. The viewer is one of the lane whose handle it has.
 #[derive(Drop)]
 pub struct LanePort<'a, Y: Yard, S, R, W> {
     rt: &'a R,
     alloc: Global,
-    door: LaneHandle<S>,
+    handle: LaneHandle<S>,
     viewer: Viewer<Y>,
     /// Set once the build is cancelled.
     cancelled: &'a AtomicBool,
@@ -70,13 +71,13 @@ pub struct LanePort<'a, Y: Yard, S, R, W> {
 
 impl<'a, Y: Yard, S, R, W> Model for LanePort<'a, Y, S, R, W> {
     ghost use Rattle.std.specs.Prelude.{◌≡◌};
-    ghost use Rattle.bm_lane_actor.specs.Ports.{Ordering};
+    ghost use Rattle.bm_lane_actor.specs.Ports.{PortView};
 
-    ghost Value = { Ordering };
+    ghost Value = { PortView };
 
     ghost view = { λ p. record { viewer = p.viewer; told = p.entries.told; refused = p.refused } };
 
-    ghost invariant = { λ p. p.viewer.lane ≡ p.door };
+    ghost invariant = { λ p. p.viewer.lane ≡ p.handle };
 }
 
 /// What a look at the log of a command says of it. A refused look says that it runs.
@@ -128,17 +129,17 @@ impl<'a, Y: Yard, S: Drop, R: Wait + Clock, W: Watch + Drop> LanePort<'a, Y, S, 
         rt: &'a R,
         alloc: Global,
         viewer: Viewer<Y>,
-        door: LaneHandle<S>,
+        handle: LaneHandle<S>,
         cancelled: &'a AtomicBool,
         watch: W,
     ) -> LanePort<'a, Y, S, R, W>
-        requires { viewer.lane ≡ door }
+        requires { viewer.lane ≡ handle }
         ensures { (result.refused ≡ false) × (result.viewer ≡ viewer) }
     {
         LanePort {
             rt,
             alloc,
-            door,
+            handle,
             viewer,
             cancelled,
             is_held: false,
@@ -150,11 +151,11 @@ impl<'a, Y: Yard, S: Drop, R: Wait + Clock, W: Watch + Drop> LanePort<'a, Y, S, 
         }
     }
 
-    /// The viewer comes back, and the door with it.
+    /// The viewer comes back, and the handle with it.
     pub fn into_parts(self) -> (Viewer<Y>, LaneHandle<S>)
         ensures { (result.0 ≡ self.entry.viewer) × (result.1 ≡ self.entry.viewer.lane) }
     {
-        (self.viewer, self.door)
+        (self.viewer, self.handle)
     }
 }
 
@@ -182,14 +183,14 @@ impl<'a, Y: Yard, S: Drop, R: Wait + Clock, W: Watch + Drop> Port for LanePort<'
             self.entries.note(k, said);
             return said;
         }
-        thread::sleep(self.rt, Duration::from_millis(TICK));
+        thread::sleep(self.rt, Duration::from_millis(TICK_MS));
         let seen = self.look(k);
         let said = self.limited(k, seen);
         self.entries.note(k, said);
         if let Polled::Ended(outcome) = said {
-            self.door.tell(self.rt, LaneRequest::Seen(k));
+            self.handle.tell(self.rt, LaneRequest::Seen(k));
             if is_lost(outcome) {
-                settle(self.rt, self.alloc, &self.door);
+                settle(self.rt, self.alloc, &self.handle);
             }
             let said = self.said(k, outcome);
             self.watch.ended(k, outcome, said);
@@ -198,58 +199,72 @@ impl<'a, Y: Yard, S: Drop, R: Wait + Clock, W: Watch + Drop> Port for LanePort<'
     }
 
     fn interrupt(&mut self, k: u64) {
-        interrupt(self.rt, self.alloc, &self.door, k);
+        interrupt(self.rt, self.alloc, &self.handle, k);
     }
 }
 
-/// What the clerk answers to a start; `Refused` where it has left. None where memory is wanting.
+/// What the actor answers to a start; `Refused` where it has left. None where memory is wanting.
 fn try_start<S: Drop, R: Wait + Clock>(
     rt: &R,
     alloc: Global,
-    door: &LaneHandle<S>,
+    handle: &LaneHandle<S>,
     argv: &Words,
     bytes: &ByteCount,
-) -> Option<Told> {
-    let (answer, told) = bounded(alloc, 1).ok()?;
+) -> Option<OrderOutcome> {
+    let (answer, answers) = bounded(alloc, 1).ok()?;
     let words = argv.copy().ok()?;
     let bytes = Arc::try_clone(bytes).ok()?;
-    if !door.tell(rt, LaneRequest::Start(words, bytes, answer)) {
-        return Some(Told::Refused);
+    if !handle.tell(rt, LaneRequest::Start(words, bytes, answer)) {
+        return Some(OrderOutcome::Refused);
     }
-    match door.answer(rt, &told) {
-        Some(told) => Some(told),
-        None => Some(Told::Refused),
+    match handle.answer(rt, &answers) {
+        Some(outcome) => Some(outcome),
+        None => Some(OrderOutcome::Refused),
     }
 }
 
-/// What the clerk answers to an interruption; `Refused` where it has left, or memory is wanting.
+/// What the actor answers to an interruption; `Refused` where it has left, or memory is wanting.
 fn try_interrupt<S: Drop, R: Wait + Clock>(
     rt: &R,
     alloc: Global,
-    door: &LaneHandle<S>,
+    handle: &LaneHandle<S>,
     command: u64,
-) -> Told {
-    let Ok((answer, told)) = bounded(alloc, 1) else {
-        return Told::Refused;
+) -> OrderOutcome {
+    let Ok((answer, answers)) = bounded(alloc, 1) else {
+        return OrderOutcome::Refused;
     };
-    if !door.tell(rt, LaneRequest::Interrupt(command, answer)) {
-        return Told::Refused;
+    if !handle.tell(rt, LaneRequest::Interrupt(command, answer)) {
+        return OrderOutcome::Refused;
     }
-    match door.answer(rt, &told) {
-        Some(told) => told,
-        None => Told::Refused,
+    match handle.answer(rt, &answers) {
+        Some(outcome) => outcome,
+        None => OrderOutcome::Refused,
     }
 }
 
-/// Waits until the clerk has told all that happened to the lane so far, or has left. Where memory
-/// is wanting the clerk is given a tick for it.
-fn settle<S: Drop, R: Wait + Clock>(rt: &R, alloc: Global, door: &LaneHandle<S>) {
-    let Ok((answer, told)) = bounded(alloc, 1) else {
-        thread::sleep(rt, Duration::from_millis(TICK));
+/// Waits until the actor has told all that happened to the lane so far, or has left. Where memory
+/// is wanting the actor is given a tick for it.
+fn settle<S: Drop, R: Wait + Clock>(rt: &R, alloc: Global, handle: &LaneHandle<S>) {
+    let Ok((answer, answers)) = bounded(alloc, 1) else {
+        thread::sleep(rt, Duration::from_millis(TICK_MS));
         return;
     };
-    if door.tell(rt, LaneRequest::Settle(answer)) {
-        let _ = door.answer(rt, &told);
+    if handle.tell(rt, LaneRequest::Settle(answer)) {
+        let _ = handle.answer(rt, &answers);
+    }
+}
+
+/// Why a step isn't started whose order came to this, and isn't tried again.
+fn start_refusal(outcome: OrderOutcome) -> StartRefusal
+    ensures { result ≡ start_refusal outcome }
+{
+    match outcome {
+        OrderOutcome::Full => StartRefusal::Full,
+        OrderOutcome::TooLong => StartRefusal::TooLong,
+        OrderOutcome::Started(_)
+        | OrderOutcome::Interrupted
+        | OrderOutcome::Later
+        | OrderOutcome::Refused => StartRefusal::Lost,
     }
 }
 
@@ -257,13 +272,13 @@ fn settle<S: Drop, R: Wait + Clock>(rt: &R, alloc: Global, door: &LaneHandle<S>)
 ///
 /// # Errors
 ///
-/// `Lost` where the lane is given up, or refuses; `Full` where it has had as many events as it may,
-/// or the words are more than an order carries; `Cancelled` where the step doesn't always run and
+/// `Lost` where the lane is given up, or refuses; `Full` where it has had as many events as it may;
+/// `TooLong` where the words are more than an order carries; `Cancelled` where the step doesn't always run and
 /// its build is cancelled while it waits. Nothing is started then.
 fn start<S: Drop, R: Wait + Clock>(
     rt: &R,
     alloc: Global,
-    door: &LaneHandle<S>,
+    handle: &LaneHandle<S>,
     step: &StepPlan,
     cancelled: &AtomicBool,
     bytes: &ByteCount,
@@ -272,11 +287,10 @@ fn start<S: Drop, R: Wait + Clock>(
         if is_left_out(cancelled.load(Ordering::SeqCst), step.always_run) {
             return Err(StartRefusal::Cancelled);
         }
-        match try_start(rt, alloc, door, &step.argv, bytes) {
-            Some(Told::Started(command)) => return Ok(command),
-            Some(Told::Later) => thread::sleep(rt, Duration::from_millis(TICK)),
-            Some(Told::Full | Told::TooLong) => return Err(StartRefusal::Full),
-            Some(Told::Interrupted | Told::Refused) => return Err(StartRefusal::Lost),
+        match try_start(rt, alloc, handle, &step.argv, bytes) {
+            Some(OrderOutcome::Started(command)) => return Ok(command),
+            Some(OrderOutcome::Later) => thread::sleep(rt, Duration::from_millis(TICK_MS)),
+            Some(outcome) => return Err(start_refusal(outcome)),
             None => return Err(StartRefusal::Memory),
         }
     }
@@ -284,10 +298,15 @@ fn start<S: Drop, R: Wait + Clock>(
 }
 
 /// Interrupts a command once the lane is up, or does nothing once it is given up.
-fn interrupt<S: Drop, R: Wait + Clock>(rt: &R, alloc: Global, door: &LaneHandle<S>, command: u64) {
+fn interrupt<S: Drop, R: Wait + Clock>(
+    rt: &R,
+    alloc: Global,
+    handle: &LaneHandle<S>,
+    command: u64,
+) {
     for _ in rt.forever() {
-        match try_interrupt(rt, alloc, door, command) {
-            Told::Later => thread::sleep(rt, Duration::from_millis(TICK)),
+        match try_interrupt(rt, alloc, handle, command) {
+            OrderOutcome::Later => thread::sleep(rt, Duration::from_millis(TICK_MS)),
             _ => return,
         }
     }
@@ -313,7 +332,7 @@ impl<'a, Y: Yard, S: Drop, R: Wait + Clock, W: Watch + Drop> LanePort<'a, Y, S, 
             return Err(StartRefusal::Memory);
         };
         let (rt, alloc) = (self.rt, self.alloc);
-        let command = match start(rt, alloc, &self.door, step, self.cancelled, &bytes) {
+        let command = match start(rt, alloc, &self.handle, step, self.cancelled, &bytes) {
             Ok(command) => command,
             Err(why) => return Err(why),
         };
@@ -370,7 +389,7 @@ impl<'a, Y: Yard, S: Drop, R: Wait + Clock, W: Watch + Drop> LanePort<'a, Y, S, 
         };
         if let Some(limit) = self.meter.tick(bytes) {
             self.watch.stopped(k, limit);
-            interrupt(self.rt, self.alloc, &self.door, k);
+            interrupt(self.rt, self.alloc, &self.handle, k);
         }
         if self.meter.is_given_up() {
             Polled::Ended(Results::Exception)

@@ -1,7 +1,6 @@
 //! When a lane whose connection was cut is given up.
 
 ghost use Rattle.std.specs.Prelude.{◌≡◌};
-ghost use Rattle.std.specs.Option.{is_some};
 ghost use Rattle.bm_lane_actor.specs.ResumeTimer.{begun, cut_off, dismissed, is_over, kept, passed};
 
 use std::marker::Model;
@@ -18,9 +17,9 @@ pub struct ResumeTimer {
 
 impl Model for ResumeTimer {
     ghost use Rattle.std.specs.Prelude.{◌≤◌, IfSome};
-    ghost use Rattle.bm_lane_actor.specs.ResumeTimer.{Term};
+    ghost use Rattle.bm_lane_actor.specs.ResumeTimer.{TimerView};
 
-    ghost Value = { Term };
+    ghost Value = { TimerView };
 
     ghost view = { λ t. record { limit = t.limit; cut = t.cut; dismissed = t.dismissed } };
 
@@ -39,8 +38,8 @@ impl ResumeTimer {
         }
     }
 
-    /// A connection was attached to the lane, with its session or a new one: nothing is counted any
-    /// more, and the worker is awaited again after the next cut.
+    /// A connection was attached to the lane, with its session or a new one, or the lane was given up:
+    /// nothing is counted any more, and the worker is awaited again after the next cut.
     pub fn begin(&mut self)
         ensures { self.new ≡ begun self.old }
     {
@@ -87,19 +86,5 @@ impl ResumeTimer {
             Some(ticks) => self.dismissed || self.limit <= ticks,
             None => false,
         }
-    }
-
-    /// Whether the lane is cut, so that ticks are to be counted.
-    pub fn is_counting(&self) -> bool
-        ensures { result ≡ is_some self.now.cut }
-    {
-        self.cut.is_some()
-    }
-
-    /// The lane was given up: there is nothing left to be counted.
-    pub fn end(&mut self)
-        ensures { self.new ≡ begun self.old }
-    {
-        self.begin();
     }
 }

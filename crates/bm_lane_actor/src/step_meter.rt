@@ -3,7 +3,7 @@
 ghost use Rattle.std.specs.Prelude.{◌≡◌, None};
 ghost use Rattle.bm_lane_actor.specs.StepMeter.{fresh, is_given_up, meter_after, outcome_of, reached_at};
 
-use crate::reasons::StepLimit;
+use bm_operator::StepLimit;
 use bm_session::Results;
 use std::marker::Model;
 
@@ -22,9 +22,9 @@ pub struct StepMeter {
 }
 
 impl Model for StepMeter {
-    ghost use Rattle.bm_lane_actor.specs.StepMeter.{Metered};
+    ghost use Rattle.bm_lane_actor.specs.StepMeter.{MeterView};
 
-    ghost Value = { Metered };
+    ghost Value = { MeterView };
 
     ghost view = { λ m. record {
       max_bytes = m.max_bytes;

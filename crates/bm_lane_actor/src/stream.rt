@@ -13,7 +13,7 @@ use std::time::{Clock, Duration, Instant};
 /// How long a login may take, in milliseconds.
 pub const LOGIN_MS: u64 = 10_000;
 
-/// How long a read waits, in milliseconds: so long an order may wait too while a command is open.
+/// How long a read waits, in milliseconds: so long a request may wait too while a command is open.
 const READ_MS: u64 = 20;
 
 /// How long a turn may read, in milliseconds, whatever comes: the reads since the last that met
@@ -50,7 +50,7 @@ impl Timed for TcpStream {
 
 /// A worker's connection. Nobody waits for its worker for long:
 ///
-/// - Until it is let in, a read that met nothing is made again, until the time for a login is over
+/// - Until it has logged in, a read that met nothing is made again, until the time for a login is over
 ///   or the master ends.
 /// - Then a read waits for a short while alone. After the time of a turn it says that nothing came,
 ///   whatever comes: what was read stays with who reads, and the rest is read by the next turn.
@@ -65,7 +65,7 @@ pub struct WorkerStream<S, R> {
     from: SocketAddr,
     /// When the time for its login is over. Where the clock failed it is over at once.
     login_ends: Option<Instant>,
-    is_in: AtomicBool,
+    is_logged_in: AtomicBool,
     /// How many reads gave something.
     heard: AtomicU64,
     is_given_up: AtomicBool,
@@ -107,7 +107,7 @@ impl<S, R: Clock> WorkerStream<S, R> {
             rt,
             from,
             login_ends,
-            is_in: AtomicBool::new(false),
+            is_logged_in: AtomicBool::new(false),
             heard: AtomicU64::new(0),
             is_given_up: AtomicBool::new(false),
             is_over,
@@ -123,8 +123,8 @@ impl<S, R: Clock> WorkerStream<S, R> {
     }
 
     /// The worker has logged in: the time for that no longer counts.
-    pub(crate) fn let_in(&self) {
-        self.is_in.store(true, Ordering::SeqCst);
+    pub(crate) fn set_logged_in(&self) {
+        self.is_logged_in.store(true, Ordering::SeqCst);
     }
 
     /// A count that grows with what comes from the worker.
@@ -137,18 +137,18 @@ impl<S, R: Clock> WorkerStream<S, R> {
         self.is_given_up.store(true, Ordering::SeqCst);
     }
 
-    fn is_in(&self) -> bool {
-        self.is_in.load(Ordering::SeqCst)
+    fn is_logged_in(&self) -> bool {
+        self.is_logged_in.load(Ordering::SeqCst)
     }
 
     fn is_over(&self) -> bool {
         self.is_over.load(Ordering::SeqCst)
     }
 
-    /// Whether nothing is read any more. A worker that is in may still be told that the master
+    /// Whether nothing is read any more. A worker that has logged in may still be told that the master
     /// ends.
     fn is_ended(&self) -> bool {
-        self.is_given_up.load(Ordering::SeqCst) || !self.is_in() && self.is_over()
+        self.is_given_up.load(Ordering::SeqCst) || !self.is_logged_in() && self.is_over()
     }
 
     /// Whether so much time has passed since then. Where the clock fails it has.
@@ -159,7 +159,7 @@ impl<S, R: Clock> WorkerStream<S, R> {
         }
     }
 
-    /// Whether it isn't in, and its time is over.
+    /// Whether it hasn't logged in, and its time is over.
     fn is_late(&self) -> bool {
         match (Instant::now(&self.rt), &self.login_ends) {
             (Ok(now), Some(until)) => now >= *until,
@@ -180,7 +180,7 @@ impl<S, R: Clock> WorkerStream<S, R> {
 
     /// Whether a read is made no more, since its time is over.
     fn is_read_over(&mut self) -> bool {
-        if self.is_in() {
+        if self.is_logged_in() {
             self.is_turn_over()
         } else {
             self.is_late()
@@ -190,7 +190,7 @@ impl<S, R: Clock> WorkerStream<S, R> {
     /// Whether a read that failed so is made again. A read that may time out is interrupted by any
     /// signal, also one that is ignored, as that of a child's end.
     fn reads_again(&self, kind: ErrorKind) -> bool {
-        kind == ErrorKind::Interrupted || meets_nothing(kind) && !self.is_in()
+        kind == ErrorKind::Interrupted || meets_nothing(kind) && !self.is_logged_in()
     }
 
     /// How long the writes between two reads may take.

@@ -1,16 +1,18 @@
-//! What a master is made of: what its threads are given before the first of them starts, what
-//! follows from the news of a lane, and what is settled once all of them have ended. Nothing here
-//! knows threads or processes.
+//! The lanes of a build master as a whole: opened, dealt to those who own their ends, and settled.
+//!
+//! [`open_all`] opens a lane for each worker, [`deal`] gives each end to its owner, and [`settle_all`]
+//! closes the lanes once every end is back. Nothing here knows threads or processes. Proved: how
+//! many viewers a lane has, that the web's viewers stand in the lanes' order, and that a settled
+//! lane's logs are those of all that was heard. What `settle_all` counts has no clause: a body
+//! could tell other totals.
 #![tactic(auto)]
 
-mod closing;
-mod doors;
-mod notices;
-mod parts;
-mod words;
+mod all_ends;
+mod config_lists;
+mod dealt_lanes;
+mod opening;
 
-pub use closing::{AllEnds, Loose, Tally, settle_all, settle_lane};
-pub use doors::{Doors, door_of, open_doors};
-pub use notices::{event_of, fills, refusal_in, refusal_of, refusal_remark, remark_of};
-pub use parts::{Parts, deal, maxima_of, open_all, slots_of, users_of};
-pub use words::place_master;
+pub use all_ends::{AllEnds, LaneTotals, SettleError, settle_all, settle_lane};
+pub use config_lists::{maxima_of, slots_of, users_of};
+pub use dealt_lanes::{DealtLanes, deal};
+pub use opening::open_all;

@@ -4,8 +4,7 @@ ghost use Rattle.std.specs.Thread.{IsSend, IsSync};
 use crate::events::{MasterEvent, RefusedConnection};
 use crate::shared_state::{SharedState, WorkerConnection};
 use bm_lane::Yard;
-use bm_lane_actor::{LOGIN_MS, WorkerStream, greet};
-use bm_lanes::refusal_in;
+use bm_lane_actor::{LOGIN_MS, WorkerStream, log_in, refusal_in};
 use bm_operator::LoginRefusal;
 use std::net::{SocketAddr, TcpListener, TcpStream};
 use std::sync::atomic::Ordering;
@@ -31,7 +30,7 @@ fn refuse<Y: Yard, R: Wait + Clock + Drop>(
 }
 
 // Serves a connection up to its login, and tells the coordinator where that is refused.
-fn log_in<Y, R>(shared: &SharedState<Y, R>, stream: WorkerConnection<R>, from: SocketAddr)
+fn welcome<Y, R>(shared: &SharedState<Y, R>, stream: WorkerConnection<R>, from: SocketAddr)
 where
     Y: Yard + Send + Sync,
     R: Wait + Clock + Copy + Drop,
@@ -40,7 +39,7 @@ where
     let began = Instant::now(rt).ok();
     let (users, lanes) = (shared.users.as_slice(), shared.lanes.as_slice());
     let mut name = None;
-    if let Err(fault) = greet(rt, shared.alloc, stream, users, lanes, &mut name) {
+    if let Err(fault) = log_in(rt, shared.alloc, stream, users, lanes, &mut name) {
         let took = began.and_then(|began| began.elapsed(rt).ok());
         let is_late = took.is_some_and(|took| took >= Duration::from_millis(LOGIN_MS));
         let why = refusal_in(fault, shared.is_over.load(Ordering::SeqCst), is_late);
@@ -70,7 +69,7 @@ where
     let stream = WorkerStream::new(*rt, stream, from, is_over);
     let thread = scope.spawn(move || {
         let stream = stream;
-        log_in(shared, stream, from);
+        welcome(shared, stream, from);
         shared.logins.leave(rt);
     });
     if thread.is_err() {

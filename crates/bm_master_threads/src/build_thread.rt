@@ -6,8 +6,7 @@ use crate::shared_state::{SharedState, WorkerConnection};
 use bm_board::{Build, StepPlan};
 use bm_build_queue::Assignment;
 use bm_lane::{Viewer, Yard};
-use bm_lane_actor::{LaneHandle, LanePort, Watch};
-use bm_lanes::door_of;
+use bm_lane_actor::{LaneHandle, LanePort, Watch, handle_of};
 use bm_lines::Text;
 use bm_operator::{StartRefusal, StepEvent, StepLimit};
 use bm_runner::run_build;
@@ -143,7 +142,7 @@ fn task_of<Y: Yard, R: Wait + Clock + Drop>(
     lanes: &[LaneHandle<WorkerConnection<R>>],
     assignment: Assignment<Y>,
 ) -> Result<BuildTask<Y, R>, Assignment<Y>> {
-    let Some(lane) = door_of(lanes, assignment.worker) else {
+    let Some(lane) = handle_of(lanes, assignment.worker) else {
         return Err(assignment);
     };
     let Ok(lane) = lane.copy() else {

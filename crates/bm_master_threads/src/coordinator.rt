@@ -10,7 +10,7 @@ use crate::shared_state::SharedState;
 use crate::worker_entry::WorkerEntry;
 use bm_build_queue::{BuildQueue, ViewerPool};
 use bm_lane::Yard;
-use bm_latent::{TickCounter, millis};
+use bm_latent::{TICK_MS, TickCounter, millis};
 use bm_operator::{RateLimit, Remark};
 use bm_session::Results;
 use std::io::Write;
@@ -18,9 +18,6 @@ use std::sync::Wait;
 use std::thread;
 use std::thread::Scope;
 use std::time::{Clock, Duration, Instant};
-
-/// How long a tick is.
-pub const TICK_MS: u64 = 10;
 
 /// How many refused connections are told one by one in a second.
 const MOST_REFUSALS: u32 = 10;

@@ -4,7 +4,7 @@ use crate::coordinator::Coordinator;
 use crate::events::{RefusedConnection, ReportedStep};
 use crate::host::MasterHost;
 use bm_lane::Yard;
-use bm_lanes::refusal_remark;
+use bm_lane_actor::refusal_remark;
 use bm_operator::Remark;
 use std::io::Write;
 

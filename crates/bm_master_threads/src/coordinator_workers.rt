@@ -1,11 +1,10 @@
 //! What the coordinator does about workers: those that are started on demand, and their processes.
 
-use crate::coordinator::{Coordinator, TICK_MS};
+use crate::coordinator::Coordinator;
 use crate::host::MasterHost;
 use bm_lane::Yard;
-use bm_lane_actor::{LaneEvent, Signal};
-use bm_lanes::{event_of, fills, remark_of};
-use bm_latent::{ProcessAction, WorkerAction, WorkerEvent};
+use bm_lane_actor::{LaneEvent, LaneSignal, event_of, fills, remark_of};
+use bm_latent::{ProcessAction, TICK_MS, WorkerAction, WorkerEvent};
 use bm_operator::Remark;
 use bm_session::Results;
 use std::io::Write;
@@ -66,7 +65,7 @@ where
     // Has the worker told to shut down.
     fn dismiss(&mut self, at: usize) {
         if let Some(lane) = self.shared.lanes.get(at) {
-            lane.signal(&self.shared.rt, Signal::ShutDown);
+            lane.signal(&self.shared.rt, LaneSignal::ShutDown);
             let name = self.name(at);
             self.remark(&Remark::Dismissed { worker: name });
         }
@@ -98,7 +97,7 @@ where
         let name = self.name(at);
         self.remark(&Remark::ProgramEnded { worker: name });
         if let Some(lane) = self.shared.lanes.get(at) {
-            lane.signal(&self.shared.rt, Signal::Ended);
+            lane.signal(&self.shared.rt, LaneSignal::Ended);
         }
         self.happens(at, WorkerEvent::Stopped);
     }

@@ -89,15 +89,15 @@ where
 fn all_ends<Y: Yard, R: Wait + Drop>(
     readers: Vec<ReaderEnd<Y>>,
     writers: Vec<Mutex<WriterEnd<Y, R>>>,
-    benches: Vec<ViewerPool<Y>>,
+    pools: Vec<ViewerPool<Y>>,
     logs: Arc<LogService<Y>>,
 ) -> Option<AllEnds<Y, R>> {
     match LogService::into_viewers(logs) {
-        Some(site) => Some(AllEnds {
+        Some(web_viewers) => Some(AllEnds {
             readers,
             writers,
-            benches,
-            site,
+            pools,
+            web_viewers,
         }),
         None => None,
     }

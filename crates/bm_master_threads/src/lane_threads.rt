@@ -4,7 +4,7 @@
 use crate::events::{EventSender, MasterEvent};
 use crate::shared_state::{SharedState, WorkerConnection};
 use bm_lane::{Gate, Pass, ReaderEnd, Yard, writers};
-use bm_lane_actor::{LaneEvent, LaneState, Mailbox, Signal, Tell, serve_lane};
+use bm_lane_actor::{EventSink, LaneEvent, LaneSignal, LaneState, Mailbox, serve_lane};
 use std::sync::Wait;
 use std::sync::atomic::Ordering;
 use std::thread::{JoinHandle, Scope, Threads};
@@ -18,7 +18,7 @@ struct LaneReporter<'s, Y: Yard, R: Wait + Clock> {
     lane: usize,
 }
 
-impl<'s, Y: Yard, R: Wait + Clock> Tell for LaneReporter<'s, Y, R> {
+impl<'s, Y: Yard, R: Wait + Clock> EventSink for LaneReporter<'s, Y, R> {
     fn tell(&mut self, event: LaneEvent) {
         self.events
             .tell(self.rt, MasterEvent::Lane(self.lane, event));
@@ -133,7 +133,7 @@ impl<Y: Yard> LaneThreads<Y> {
         let mut readers = room;
         shared.is_over.store(true, Ordering::SeqCst);
         for lane in shared.lanes.iter() {
-            lane.signal(rt, Signal::Leave);
+            lane.signal(rt, LaneSignal::Leave);
         }
         for actor in actors {
             let _ = readers.push(actor.join(rt));

@@ -9,7 +9,7 @@ use crate::shared_state::WorkerConnection;
 use crate::threads::run_threads;
 use bm_config::{Config, WorkerConfig};
 use bm_lane::{Blank, Yard, ends_of_all};
-use bm_lanes::{Parts, deal, open_all};
+use bm_lanes::{DealtLanes, deal, open_all};
 use bm_operator::{OutputLine, REFUSED};
 use std::alloc::Global;
 use std::io::{Read, Write};
@@ -70,7 +70,7 @@ fn ends_by_owner<Y: Yard, R: Wait + Clock + Drop>(
     alloc: Global,
     workers: &[WorkerConfig],
     blanks: Vec<Blank<R>>,
-) -> Option<Parts<Y, R, WorkerConnection<R>>>
+) -> Option<DealtLanes<Y, R, WorkerConnection<R>>>
     requires placed { ArePlaced Y.queue Y.copy 0 blanks.items }
 {
     match ends_of_all::<Y, R>(alloc, blanks) {

@@ -9,7 +9,8 @@ use crate::worker_entry::entries_of;
 use bm_build_queue::{BuildQueue, ViewerPool};
 use bm_config::Config;
 use bm_lane::Yard;
-use bm_lanes::{Doors, Parts, maxima_of, open_doors, slots_of};
+use bm_lane_actor::{Mailboxes, open_mailboxes};
+use bm_lanes::{DealtLanes, maxima_of, slots_of};
 use std::alloc::Global;
 use std::net::{SocketAddr, TcpListener};
 use std::sync::Wait;
@@ -83,7 +84,7 @@ pub fn prepare<Y, R, I, O>(
     alloc: Global,
     config: Config,
     streams: MasterStreams<I, O>,
-    ends: Parts<Y, R, WorkerConnection<R>>,
+    ends: DealtLanes<Y, R, WorkerConnection<R>>,
     at: SocketAddr,
 ) -> Option<(SharedState<Y, R>, ThreadOwned<Y, R, I, O>)>
 where
@@ -92,15 +93,15 @@ where
     I: Drop,
     O: Drop,
 {
-    let doors = open_doors(alloc, ends.desks.len()).ok();
-    let (events, doors) = open_events(alloc).ok().zip(doors)?;
+    let all = open_mailboxes(alloc, ends.states.len()).ok();
+    let (events, all) = open_events(alloc).ok().zip(all)?;
     let (sender, events) = events;
-    let Doors { outer, inner } = doors;
-    let Parts {
-        desks,
+    let Mailboxes { handles, mailboxes } = all;
+    let DealtLanes {
+        states,
         writers,
-        benches,
-        site,
+        pools,
+        web_viewers,
     } = ends;
     let MasterStreams {
         workers,
@@ -109,12 +110,12 @@ where
         output,
         remarks,
     } = streams;
-    let coordinator = coordinator_of(alloc, &config, at, benches, events, output, remarks);
-    let shared = SharedState::new(rt, alloc, config, outer, sender, writers, site);
+    let coordinator = coordinator_of(alloc, &config, at, pools, events, output, remarks);
+    let shared = SharedState::new(rt, alloc, config, handles, sender, writers, web_viewers);
     let (shared, coordinator) = shared.zip(coordinator)?;
     let owned = ThreadOwned {
-        states: desks,
-        mailboxes: inner,
+        states,
+        mailboxes,
         workers,
         web,
         coordinator,

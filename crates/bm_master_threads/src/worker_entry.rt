@@ -2,10 +2,10 @@
 ghost use Rattle.std.specs.Prelude.{◌≤◌};
 
 use crate::worker_process::WorkerProcess;
+use bm_board::Words;
 use bm_config::{Config, WorkerConfig};
-use bm_lanes::place_master;
 use bm_latent::{WorkerAction, WorkerEvent, WorkerState};
-use bm_operator::ProgramRefusal;
+use bm_operator::{ProgramRefusal, place_master};
 use std::alloc::{AllocError, Global};
 use std::net::SocketAddr;
 use std::process::{Processes, SystemProcess};
@@ -30,7 +30,7 @@ impl WorkerEntry {
                 process: None,
             });
         };
-        let words = place_master(alloc, words.as_slice(), master)?;
+        let words = Words::from_vec(place_master(alloc, words.as_slice(), master)?);
         Ok(WorkerEntry {
             state: WorkerState::latent(worker.idle_ticks.max(1)),
             process: Some(WorkerProcess::new(words)),

@@ -4,6 +4,9 @@
 //! The messages are those of the master-worker protocol of the Buildbot manual, MessagePack over
 //! WebSocket. The items of an update, the item `log` and the key `session` of `auth` are this
 //! project's profile.
+//!
+//! Promised: `read` gives just the message that a tree is, or the first fault. What is written is read
+//! back as the same message. A body could still want memory.
 #![tactic(auto)]
 
 mod fault;

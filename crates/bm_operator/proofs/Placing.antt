@@ -1,5 +1,5 @@
 -- What a pattern that is a reference to a text replaces is what the text replaces.
-use Rattle.std.proofs.Common.{◌≡◌, ℕ, zero, suc, List, [], ◌∷◌, ◌++◌, ◌⊎◌, inl, inr}
+use Rattle.std.proofs.Common.{◌≡◌, ℕ, zero, suc, List, [], ◌∷◌, ◌++◌, inl, inr}
 use Rattle.bm_operator.specs.ProgramWords.{IsPlaced, IsEachPlaced}
 use Rattle.std.specs.Borrow.{Bor}
 use Rattle.std.specs.Str.Pattern.{FindsText}

@@ -2,7 +2,6 @@
 ghost use Rattle.std.specs.Prelude.{◌≡◌, IfOk};
 ghost use Rattle.bm_operator.specs.ProgramWords.{IsEachPlaced, IsPlaced};
 
-use bm_board::Words;
 use bm_lines::Text;
 use std::alloc::{AllocError, Global};
 
@@ -17,13 +16,13 @@ fn placed(alloc: Global, word: &Text, master: &str) -> Result<Text, AllocError>
     Ok(Text::from_string(text))
 }
 
-/// The words of a program, with the master's address in the place of each `{master}` in them.
-pub fn place_master(alloc: Global, words: &[Text], master: &str) -> Result<Words, AllocError>
-    ensures { IfOk result (IsEachPlaced master.now words.now) }
+/// The words of a worker's program, with the master's address in the place of each `{master}` in them.
+pub fn place_master(alloc: Global, words: &[Text], master: &str) -> Result<Vec<Text>, AllocError>
+    ensures { IfOk result (λ all. IsEachPlaced master.now words.now all.items) }
 {
     let mut all = Vec::with_capacity(alloc, words.len())?;
     for word in words {
         all.push(placed(alloc, word, master)?)?;
     }
-    Ok(Words::from_vec(all))
+    Ok(all)
 }

@@ -5,6 +5,7 @@ ghost use Rattle.bm_session.specs.Events.{is_fault as is_fault_event};
 ghost use Rattle.bm_session.specs.Trace.{result_of_rc};
 ghost use Rattle.bm_session.specs.Table.{with_stop, with_told, ends_as as ends_as_lem};
 ghost use Rattle.bm_session.specs.declared.open.Open.{Open};
+ghost use Rattle.bm_session.specs.declared.event.Event.{Event};
 
 use crate::event::Body;
 use crate::results::Results;

@@ -24,24 +24,6 @@ equal-name a = (bytes_eq-Decides a a).1 refl
 abbrev pub is_named : Name → Named → Bool
 is_named name l = bytes_eq l.name name
 
--- what the first place with the name is
-pub position-some : {A : Type 0} (p : A → Bool) (xs : List A) (i : ℕ) → position p xs ≡ Some i → (i ≡ position_or_len p xs) × (i < length xs)
-position-some p xs i h = go (nat_lt (position_or_len p xs) (length xs)) refl h
-  where
-    go : (b : Bool) → nat_lt (position_or_len p xs) (length xs) ≡ b → cond b (Some (position_or_len p xs)) None ≡ Some i → (i ≡ position_or_len p xs) × (i < length xs)
-    go true e g =
-        let same : i ≡ position_or_len p xs = cc in
-        let inside : position_or_len p xs < length xs = grind (arith, nat_tests) in
-        (same, omega arith)
-    go false e g = cc
-
-pub position-none : {A : Type 0} (p : A → Bool) (xs : List A) → position p xs ≡ None → length xs ≤ position_or_len p xs
-position-none p xs h = go (nat_lt (position_or_len p xs) (length xs)) refl h
-  where
-    go : (b : Bool) → nat_lt (position_or_len p xs) (length xs) ≡ b → cond b (Some (position_or_len p xs)) None ≡ None → length xs ≤ position_or_len p xs
-    go true e g = cc
-    go false e g = grind (arith, nat_tests)
-
 -- a block more, written at its place
 pub with_block-set : (ls : List Named) (name : Name) (block : List Line) (i : ℕ) (new : Named) → i ≡ position_or_len (is_named name) ls → i < length ls
     → ((old : Named) → slice_get ls i ≡ Some old → new ≡ record { name = old.name; blocks = old.blocks ++ block ∷ [] }) → set ls i new ≡ with_block name block ls

@@ -1,5 +1,8 @@
 //! Books of logs: what a lane's items make of the logs of its commands, and the slices that viewers
 //! ask for.
+//!
+//! Promised: after each item a book has just the logs that the items make, and a slice is the asked
+//! one, to the byte. A refused item changes nothing. A body could still want memory.
 #![tactic(auto)]
 
 mod book;

@@ -12,7 +12,7 @@ use Rattle.bm_work.specs.Core.{Core, IsKept, Rise, numbers, next_number, unanswe
 use Rattle.bm_msg.specs.Meaning.{Asked, start_command}
 use Rattle.bm_work.specs.declared.worker_answer.WorkerAnswer.{WorkerAnswer}
 use Rattle.bm_work.specs.declared.worker_answer.WorkerAnswer.TheVariants.{Done, BadArguments, NoSuchCommandName, AlreadyRuns, TooManyCommands}
-use Rattle.bm_work.specs.ReplyCache.{is_done}
+use Rattle.bm_work.specs.WorkerAnswers.{is_done}
 use Rattle.bm_work.specs.Argv.{argv_of}
 use Rattle.bm_work.proofs.Streams.{length-stream_from}
 use Rattle.bm_work.proofs.Unanswered.{unanswered-more, unanswered-fewer}

@@ -8,7 +8,7 @@ use Rattle.bm_msg.specs.declared.field.Field.{Field}
 use Rattle.bm_msg.specs.declared.field.Field.TheVariants.{Text, Named, Rc}
 use Rattle.bm_msg.specs.Meaning.{update, complete, request, response}
 use Rattle.bm_msg.specs.Trees.{tree_of, item_of, fault_tree}
-use Rattle.bm_work.specs.ReplyCache.{info}
+use Rattle.bm_work.specs.WorkerAnswers.{info}
 
 decimal-short : (k : ℕ) → k < 2 ^ 64 → length (decimal k) < 2 ^ 32
 decimal-short k h = let few : length (decimal k) ≤ 20 = length-decimal-le 20 k (lit< tt) (omega arith) h in omega arith

@@ -6,7 +6,7 @@ use Rattle.std.specs.Ordering.{nat_cmp}
 use Rattle.std.specs.FinMap.{FinMap, empty, get, insert}
 use Rattle.bm_msg.specs.Meaning.{Asked, print, keepalive, get_worker_info, start_command, interrupt_command, shutdown, Meaning, request, response}
 use Rattle.bm_work.specs.Argv.{argv_of}
-use Rattle.bm_work.specs.ReplyCache.{is_done}
+use Rattle.bm_work.specs.WorkerAnswers.{is_done}
 use Rattle.bm_work.specs.Replies.{reply}
 use Rattle.bm_work.specs.Stream.{Report, stream, without_answer}
 use Rattle.bm_work.specs.declared.worker_answer.WorkerAnswer.{WorkerAnswer}

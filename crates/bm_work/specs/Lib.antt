@@ -2,7 +2,7 @@
 -- answers and their bytes, the requests and their order, and what each call does.
 pub mod Cuts
 pub mod Argv
-pub mod ReplyCache
+pub mod WorkerAnswers
 pub mod Replies
 pub mod Stream
 pub mod Reports

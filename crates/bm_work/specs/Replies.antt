@@ -4,7 +4,7 @@ use Rattle.bm_value.specs.Writing.{written}
 use Rattle.bm_msg.specs.Meaning.{response}
 use Rattle.bm_msg.specs.Trees.{tree_of}
 use Rattle.bm_work.specs.declared.worker_answer.WorkerAnswer.{WorkerAnswer}
-use Rattle.bm_work.specs.ReplyCache.{result_of, is_exception}
+use Rattle.bm_work.specs.WorkerAnswers.{result_of, is_exception}
 
 -- the bytes of the response to request n
 unfoldable pub reply : ℕ → WorkerAnswer → List ℕ

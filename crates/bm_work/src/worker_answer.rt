@@ -1,11 +1,11 @@
-//! ReplyCache of a worker to the requests of its master.
+//! Answers of a worker to the requests of its master.
 
 ghost use Rattle.std.specs.Prelude.{◌≡◌, ◌≢◌, ℕ, ◌<◌, ◌^◌, length, IfOk, IfSome};
 ghost use Rattle.std.specs.Option.{option_copied};
 ghost use Rattle.bm_value.specs.View.{tree};
 ghost use Rattle.bm_msg.specs.Meaning.{response};
 ghost use Rattle.bm_msg.specs.Trees.{answer as nil_or_exception};
-ghost use Rattle.bm_work.specs.ReplyCache.{result_of, is_done, is_exception, info};
+ghost use Rattle.bm_work.specs.WorkerAnswers.{result_of, is_done, is_exception, info};
 
 use bm_value::{Pair, Pairs, Value};
 use std::alloc::{AllocError, Global};

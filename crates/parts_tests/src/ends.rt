@@ -1,10 +1,11 @@
-//! The ends of lanes, and the doors to them.
+//! The ends of lanes, and the mailboxes of their actors.
 ghost use Rattle.std.specs.Prelude.{◌≡◌};
 
 use crate::lists::config_again;
 use bm_config::WorkerConfig;
 use bm_lane::{Blank, Ends, Yard};
-use bm_lanes::{Doors, Parts, deal, open_all, open_doors};
+use bm_lane_actor::{Mailboxes, open_mailboxes};
+use bm_lanes::{DealtLanes, deal, open_all};
 use std::alloc::{AllocGlobal, Global};
 use std::marker::Brand;
 use std::net::TcpStream;
@@ -14,21 +15,23 @@ use std::test::Fail;
 /// How often a call is made where one request for memory is refused.
 pub const CALLS: u32 = 2;
 
-/// Whether there are two doors, each with its inbox.
-fn are_two(doors: &Doors<TcpStream>) -> bool {
-    match doors.outer.as_slice() {
-        [first, second] => first.lane() == 0 && second.lane() == 1 && doors.inner.len() == 2,
+/// Whether there are two mailboxes, each with its handle.
+fn are_two(mailboxes: &Mailboxes<TcpStream>) -> bool {
+    match mailboxes.handles.as_slice() {
+        [first, second] => first.lane() == 0
+            && second.lane() == 1
+            && mailboxes.mailboxes.len() == 2,
         _ => false,
     }
 }
 
 fn are_open_again(alloc: Global) -> bool {
-    let doors: Result<Doors<TcpStream>, _> = match open_doors(alloc, 2) {
-        Err(_) => open_doors(alloc, 2),
-        doors => doors,
+    let mailboxes: Result<Mailboxes<TcpStream>, _> = match open_mailboxes(alloc, 2) {
+        Err(_) => open_mailboxes(alloc, 2),
+        mailboxes => mailboxes,
     };
-    match doors {
-        Ok(doors) => are_two(&doors),
+    match mailboxes {
+        Ok(mailboxes) => are_two(&mailboxes),
         Err(_) => false,
     }
 }
@@ -39,19 +42,19 @@ fn refused_doors_are_opened_again(rt: HostRuntime) {
 }
 
 /// Whether each end of one lane lies where it belongs.
-fn are_dealt<Y: Yard, W: Wait + Drop>(parts: &Parts<Y, W, TcpStream>) -> bool {
-    let (Some(desk), Some(bench), Some(viewer)) = (
-        parts.desks.first(),
-        parts.benches.first(),
-        parts.site.first(),
+fn are_dealt<Y: Yard, W: Wait + Drop>(lanes: &DealtLanes<Y, W, TcpStream>) -> bool {
+    let (Some(state), Some(pool), Some(viewer)) = (
+        lanes.states.first(),
+        lanes.pools.first(),
+        lanes.web_viewers.first(),
     ) else {
         return false;
     };
-    desk.lane() == 0
-        && bench.lane() == 0
-        && bench.has_viewer()
+    state.lane() == 0
+        && pool.lane() == 0
+        && pool.has_viewer()
         && viewer.lane() == 0
-        && parts.writers.len() == 1
+        && lanes.writers.len() == 1
 }
 
 /// A list of the ends of one lane. None where that had no memory, and they are let go.
@@ -71,7 +74,7 @@ fn is_dealt<Y: Yard, W: Wait + Drop>(
 ) -> Option<bool> {
     let all = listed(alloc, ends)?;
     match deal::<Y, W, TcpStream>(alloc, workers, all) {
-        Some(parts) => Some(are_dealt(&parts)),
+        Some(lanes) => Some(are_dealt(&lanes)),
         None => None,
     }
 }

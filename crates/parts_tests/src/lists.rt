@@ -2,8 +2,10 @@
 
 use bm_board::Words;
 use bm_config::{Config, WorkerConfig, read_config};
+use bm_lanes::{maxima_of, slots_of, users_of};
+use bm_lines::Text;
 use bm_link::User;
-use bm_lanes::{maxima_of, place_master, slots_of, users_of};
+use bm_operator::place_master;
 use std::alloc::Global;
 use std::test::Fail;
 
@@ -74,13 +76,13 @@ fn are_users_again(alloc: Global, workers: &[WorkerConfig]) -> bool {
 }
 
 /// Whether these are the words.
-fn are_words(words: &Words, want: &[&str]) -> bool {
-    for (word, text) in words.as_slice().iter().zip(want) {
+fn are_words(words: &[Text], want: &[&str]) -> bool {
+    for (word, text) in words.iter().zip(want) {
         if word.as_str() != *text {
             return false;
         }
     }
-    words.as_slice().len() == want.len()
+    words.len() == want.len()
 }
 
 /// Whether the program's words are those with the master's address in them.
@@ -90,7 +92,7 @@ fn is_placed(alloc: Global, program: &Words) -> bool {
         words => words,
     };
     match words {
-        Ok(words) => are_words(&words, &["sh", "m:1", "am:1"]),
+        Ok(words) => are_words(words.as_slice(), &["sh", "m:1", "am:1"]),
         Err(_) => false,
     }
 }

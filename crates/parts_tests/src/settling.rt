@@ -2,15 +2,15 @@
 ghost use Rattle.std.specs.Prelude.{◌≡◌};
 
 use crate::ends::CALLS;
-use bm_lane::{Blank, Ends, ReaderEnd, Yard, open};
-use bm_lanes::{AllEnds, Loose, Tally, settle_all};
 use bm_build_queue::ViewerPool;
+use bm_lane::{Blank, Ends, ReaderEnd, Yard, open};
+use bm_lanes::{AllEnds, LaneTotals, SettleError, settle_all};
 use std::alloc::{AllocError, AllocGlobal, Global};
 use std::marker::Brand;
 use std::sync::{Mutex, Wait};
 
 /// What a lane has had on which one command was started.
-const ONE_COMMAND: Tally = Tally {
+const ONE_COMMAND: LaneTotals = LaneTotals {
     commands: 1,
     lines: 0,
 };
@@ -25,11 +25,11 @@ enum Outcome {
     Wrongly,
 }
 
-fn outcome_of(settled: Result<Vec<Result<Tally, Loose>>, AllocError>) -> Outcome {
+fn outcome_of(settled: Result<Vec<Result<LaneTotals, SettleError>>, AllocError>) -> Outcome {
     match settled {
-        Ok(tallies) => match tallies.as_slice() {
-            [Ok(tally)] if *tally == ONE_COMMAND => Outcome::Settled,
-            [Err(Loose::Mem)] => Outcome::Wanting,
+        Ok(lanes) => match lanes.as_slice() {
+            [Ok(totals)] if *totals == ONE_COMMAND => Outcome::Settled,
+            [Err(SettleError::Mem)] => Outcome::Wanting,
             _ => Outcome::Wrongly,
         },
         Err(_) => Outcome::Wanting,
@@ -53,13 +53,13 @@ fn all_of<Y: Yard, W: Wait + Drop>(alloc: Global, ends: Ends<Y, W>) -> Option<Al
         viewers,
     } = ends;
     let mut viewers = viewers;
-    let of_the_web = viewers.pop()?;
-    let bench = ViewerPool::new(0, viewers)?;
+    let web_viewer = viewers.pop()?;
+    let pool = ViewerPool::new(0, viewers)?;
     Some(AllEnds {
         readers: alone(alloc, reader)?,
         writers: alone(alloc, Mutex::new(writer))?,
-        benches: alone(alloc, bench)?,
-        site: alone(alloc, of_the_web)?,
+        pools: alone(alloc, pool)?,
+        web_viewers: alone(alloc, web_viewer)?,
     })
 }
 

@@ -1,5 +1,7 @@
-//! Worked rows of the rules.
+//! Worked rows of what a master decides and tells.
 
+use bm_lane_actor::ResumeTimer;
+use bm_latent::{ProcessAction, TickCounter, WorkerEvent, WorkerState};
 use bm_operator::*;
 use bm_session::Results;
 use std::alloc::Global;
@@ -9,19 +11,19 @@ use std::process::Abort;
 /// the builds that wait are given up.
 type Row = (WorkerEvent, bool, ProcessAction, bool);
 
-/// Whether the duty at the row's event is that of the row.
-fn is_done(post: &mut WorkerState, (event, ready, process, gives_up): &Row) -> bool {
-    let duty = post.hear(*event);
-    duty.ready == *ready
-        && duty.process == *process
-        && duty.gives_up == *gives_up
-        && post.is_ready() == *ready
+/// Whether what is done at the row's event is that of the row.
+fn is_done(worker: &mut WorkerState, (event, ready, process, gives_up): &Row) -> bool {
+    let action = worker.hear(*event);
+    action.ready == *ready
+        && action.process == *process
+        && action.gives_up == *gives_up
+        && worker.is_ready() == *ready
 }
 
 /// A worker goes through the rows, which count from 0.
-fn goes_through(rt: &impl Abort, mut post: WorkerState, rows: &[Row]) {
+fn goes_through(rt: &impl Abort, mut worker: WorkerState, rows: &[Row]) {
     for (n, row) in rows.iter().enumerate() {
-        assert!(rt; is_done(&mut post, row), "row {n}");
+        assert!(rt; is_done(&mut worker, row), "row {n}");
     }
 }
 
@@ -97,41 +99,41 @@ fn plain_worker_takes_builds_while_attached(rt: HostRuntime) {
 }
 
 /// Whether a lane with these ticks to resume is over after so many of them, and was not before.
-fn is_over_after(tenure: &mut ResumeTimer, ticks: u32) -> bool {
+fn is_over_after(timer: &mut ResumeTimer, ticks: u32) -> bool {
     for _ in 1..ticks {
-        if tenure.tick() {
+        if timer.tick() {
             return false;
         }
     }
-    !tenure.is_over() && tenure.tick() && tenure.is_over()
+    !timer.is_over() && timer.tick() && timer.is_over()
 }
 
 /// Whether the count of a lane begins anew with each cut, and stops where a connection is attached.
-fn is_counted_anew(tenure: &mut ResumeTimer) -> bool {
-    tenure.begin();
-    tenure.cut();
-    let lasts = !tenure.tick() && !tenure.tick();
-    tenure.begin();
-    lasts && !tenure.tick() && !tenure.tick()
+fn is_counted_anew(timer: &mut ResumeTimer) -> bool {
+    timer.begin();
+    timer.cut();
+    let lasts = !timer.tick() && !timer.tick();
+    timer.begin();
+    lasts && !timer.tick() && !timer.tick()
 }
 
 /// Whether a lane whose worker isn't awaited is over at its cut, and nothing is counted after that.
-fn is_over_at_once(tenure: &mut ResumeTimer) -> bool {
-    tenure.dismiss();
-    let lasts = !tenure.is_over();
-    tenure.cut();
-    let is_over = tenure.is_over();
-    tenure.end();
-    lasts && is_over && !tenure.is_over() && !tenure.is_counting()
+fn is_over_at_once(timer: &mut ResumeTimer) -> bool {
+    timer.dismiss();
+    let lasts = !timer.is_over();
+    timer.cut();
+    let is_over = timer.is_over();
+    timer.begin();
+    lasts && is_over && !timer.is_over() && !timer.tick()
 }
 
 #[test]
 fn cut_lane_is_given_up_in_time(rt: HostRuntime) {
-    let mut tenure = ResumeTimer::new(3);
-    assert!(rt; !tenure.tick() && !tenure.is_counting());
-    tenure.cut();
-    assert!(rt; tenure.is_counting() && is_over_after(&mut tenure, 3));
-    assert!(rt; is_counted_anew(&mut tenure) && is_over_at_once(&mut tenure));
+    let mut timer = ResumeTimer::new(3);
+    assert!(rt; !timer.tick() && !timer.is_over());
+    timer.cut();
+    assert!(rt; is_over_after(&mut timer, 3));
+    assert!(rt; is_counted_anew(&mut timer) && is_over_at_once(&mut timer));
 }
 
 /// Moments, and how many ticks have ended since the one before.
@@ -139,9 +141,9 @@ const MOMENTS: [(u64, u64); 6] = [(14, 0), (36, 3), (44, 0), (0, 0), (45, 1), (1
 
 #[test]
 fn ticks_are_counted_once(rt: HostRuntime) {
-    let mut pace = TickCounter::new(10, 5);
+    let mut counter = TickCounter::new(10, 5);
     for (now, ticks) in &MOMENTS {
-        assert!(rt; pace.ticks(*now) == *ticks, "at {now}");
+        assert!(rt; counter.ticks(*now) == *ticks, "at {now}");
     }
 }
 
@@ -208,7 +210,7 @@ fn says(alloc: Global, remark: Remark<'_>, line: &str) -> bool {
 }
 
 /// Remarks, and their lines.
-const REMARKS: [(Remark<'static>, &str); 5] = [
+const REMARKS: [(Remark<'static>, &str); 6] = [
     (
         Remark::StepStarted {
             build: 2,
@@ -235,6 +237,14 @@ const REMARKS: [(Remark<'static>, &str); 5] = [
             step: "s",
         },
         "build 7 step not started, cancelled: s\n",
+    ),
+    (
+        Remark::StepRefused {
+            build: 7,
+            why: StartRefusal::TooLong,
+            step: "s",
+        },
+        "build 7 step not started, command too long: s\n",
     ),
     (
         Remark::StepFailed {

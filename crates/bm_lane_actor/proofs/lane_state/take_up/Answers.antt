@@ -7,6 +7,6 @@ returns g c = (
   c.attach-answer.new.self,
   c.attach-answer.ensures.up,
   c.settle.ensures.link,
-  renews c.args.reader.now c.attach-answer.new.reader (length c.trace-events.result.now) c.args.tenure.now c.renew.new.tenure c.settle.new.tenure
-      (ap length c.trace-events.ensures.events) c.renew.ensures c.settle.ensures.tenure,
+  renews c.args.reader.now c.attach-answer.new.reader (length c.trace-events.result.now) c.args.timer.now c.renew.new.timer c.settle.new.timer
+      (ap length c.trace-events.ensures.events) c.renew.ensures c.settle.ensures.timer,
 )

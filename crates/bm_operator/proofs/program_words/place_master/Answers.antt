@@ -1,4 +1,4 @@
-use Rattle.std.proofs.Common.{◌≡◌, ◌∙◌, ◌+◌, ◌++◌, ◌∷◌, [], List, ap, sym, subst, take, add-one}
+use Rattle.std.proofs.Common.{◌≡◌, ◌∙◌, ◌+◌, ◌++◌, ◌∷◌, [], ap, sym, subst, take, add-one}
 use Rattle.std.proofs.lemmas.List.{take_all}
 use Rattle.std.proofs.Math.Seq.{take-suc}
 use Rattle.bm_operator.specs.ProgramWords.{IsEachPlaced}
@@ -18,5 +18,4 @@ loop-word-preserved c =
 
 pub returns : goal.returns
 returns c =
-    subst (λ ps. IsEachPlaced c.args.master.now c.args.words.now ps) (sym c.from_vec.ensures)
-    (subst (λ ws. IsEachPlaced c.args.master.now ws c.loop-word.all.items) (take_all c.loop-word.word-index c.args.words.now c.loop-word-test.false) c.loop-word.invariant)
+    subst (λ ws. IsEachPlaced c.args.master.now ws c.loop-word.all.items) (take_all c.loop-word.word-index c.args.words.now c.loop-word-test.false) c.loop-word.invariant

@@ -4,9 +4,9 @@ use Rattle.bm_lane_actor.proofs.lane_state.LaneState.give_up.Goals as goal
 
 pub invariant_of-self-2 : goal.invariant_of-self-2
 invariant_of-self-2 g c =
-    let seat = let_go c.self.inside.reader c.down.new.self c.self.inside.link c.settle.new.link c.self.inside.tenure c.settle.new.tenure c.down.result
-    c.self.invariant.0 c.self.invariant.1 c.down.ensures.heard c.settle.ensures.link c.settle.ensures.tenure in (
-      seat.0,
-      seat.1,
+    let view = let_go c.self.inside.reader c.down.new.self c.self.inside.link c.settle.new.link c.self.inside.timer c.settle.new.timer c.down.result
+    c.self.invariant.0 c.self.invariant.1 c.down.ensures.heard c.settle.ensures.link c.settle.ensures.timer in (
+      view.0,
+      view.1,
       given_up c.self.inside.reader c.down.new.self c.self.inside.carry c.down.result c.self.invariant.2 c.down.ensures.heard,
     )

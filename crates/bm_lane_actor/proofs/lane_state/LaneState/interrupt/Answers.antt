@@ -16,8 +16,8 @@ pub returns : goal.returns
 returns g c =
     rw (← c.self.view_is) (
     interrupted g.S.Write.contents c.args.command
-    (record { lane = c.self.inside.reader; carry = c.self.inside.carry; link = c.self.inside.link; tenure = c.self.inside.tenure })
-    (record { lane = c.interrupt-answer.new.reader; carry = c.interrupt-answer.new.carry; link = c.settle.new.link; tenure = c.settle.new.tenure })
-    c.in-Some.link c.interrupt-answer.new.self c.interrupt-answer.result c.told_interrupt.result
-    c.in-Some.is c.interrupt-answer.ensures.interrupted c.settle.ensures.link c.settle.ensures.tenure (search rules)
+    (record { lane = c.self.inside.reader; carry = c.self.inside.carry; link = c.self.inside.link; timer = c.self.inside.timer })
+    (record { lane = c.interrupt-answer.new.reader; carry = c.interrupt-answer.new.carry; link = c.settle.new.link; timer = c.settle.new.timer })
+    c.in-Some.link c.interrupt-answer.new.self c.interrupt-answer.result c.interrupt_outcome.result
+    c.in-Some.is c.interrupt-answer.ensures.interrupted c.settle.ensures.link c.settle.ensures.timer (search rules)
     )

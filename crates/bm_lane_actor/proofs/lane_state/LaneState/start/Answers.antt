@@ -16,8 +16,8 @@ pub returns : goal.returns
 returns g c =
     rw (← c.self.view_is) (
     started g.S.Write.contents c.args.argv.now
-    (record { lane = c.self.inside.reader; carry = c.self.inside.carry; link = c.self.inside.link; tenure = c.self.inside.tenure })
-    (record { lane = c.start-answer.new.reader; carry = c.start-answer.new.carry; link = c.settle.new.link; tenure = c.settle.new.tenure })
-    c.in-Some.link c.start-answer.new.self c.start-answer.result c.told_start.result
-    c.in-Some.is c.start-answer.ensures.started c.settle.ensures.link c.settle.ensures.tenure (search rules)
+    (record { lane = c.self.inside.reader; carry = c.self.inside.carry; link = c.self.inside.link; timer = c.self.inside.timer })
+    (record { lane = c.start-answer.new.reader; carry = c.start-answer.new.carry; link = c.settle.new.link; timer = c.settle.new.timer })
+    c.in-Some.link c.start-answer.new.self c.start-answer.result c.start_outcome.result
+    c.in-Some.is c.start-answer.ensures.started c.settle.ensures.link c.settle.ensures.timer (search rules)
     )

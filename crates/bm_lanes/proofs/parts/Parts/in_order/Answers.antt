@@ -1,4 +1,0 @@
-use Rattle.bm_lanes.proofs.parts.Parts.in_order.Goals as goal
-
-pub returns-then-is_in_order : goal.returns-then-is_in_order
-returns-then-is_in_order g c = rw c.as_slice.ensures.value at (c.is_in_order.ensures c.if-is_in_order.true)

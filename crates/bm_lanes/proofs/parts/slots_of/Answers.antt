@@ -1,7 +1,0 @@
-use Rattle.std.proofs.Common.{◌∙◌, ap}
-use Rattle.std.proofs.lemmas.List.{take_all}
-use Rattle.bm_lanes.specs.Parts.{slots}
-use Rattle.bm_lanes.proofs.parts.slots_of.Goals as goal
-
-pub returns-clause-all : goal.returns-clause-all
-returns-clause-all c = c.loop-worker.invariant.all ∙ ap slots (take_all c.loop-worker.worker-index c.args.workers.now c.loop-worker-test.false)

@@ -1,9 +1,0 @@
-use Rattle.std.proofs.Common.{◌≡◌, ◌≤◌, All, take}
-use Rattle.bm_lanes.specs.Parts.{slots}
-use Rattle.bm_lanes.proofs.parts.slots_of.Given as goal
-
-abbrev pub invariant-loop-worker : goal.invariant-loop-worker
-invariant-loop-worker l = record {
-  limits : All (λ n. (1 ≤ n) × (n ≤ 4)) l.slots.items;
-  all : l.slots.items ≡ slots (take l.worker-index l.workers);
-}
