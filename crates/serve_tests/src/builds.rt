@@ -2,15 +2,11 @@
 
 use crate::hand::Hand;
 use crate::play::{Act, Play};
-use crate::stage::{Scene, open, start};
+use crate::stage::Scene;
+use crate::starting::{open, start};
 use bm_lines::Letter;
-use std::alloc::AllocGlobal;
-use std::net::{Net, TcpStream};
-use std::random::RandomSource;
-use std::sync::Wait;
+use bm_master_threads::MasterHost;
 use std::test::Fail;
-use std::thread::Threads;
-use std::time::Clock;
 
 /// One worker, and a build of one step.
 const ONE: &str = "worker = [{name=\"w0\",password=\"p\"}]
@@ -136,7 +132,7 @@ fn a_running_and_a_waiting_build_are_cancelled(rt: HostRuntime) {
 // Whether a second build waits for the lock of the first, which runs.
 fn is_locked<R>(scene: &mut Scene<R>, second: &mut Hand<R>) -> bool
 where
-    R: Wait + Threads + Clock + RandomSource + AllocGlobal + Net<Stream = TcpStream> + Copy + Drop,
+    R: MasterHost,
 {
     let Scene { stage, hand } = scene;
     second.is_idle()
@@ -149,7 +145,7 @@ where
 // Whether a second worker that logs in has its build run after that of the first.
 fn is_second<R>(scene: Scene<R>) -> bool
 where
-    R: Wait + Threads + Clock + RandomSource + AllocGlobal + Net<Stream = TcpStream> + Copy + Drop,
+    R: MasterHost,
 {
     let mut scene = scene;
     let is_run = scene.hand.runs(0, "a");

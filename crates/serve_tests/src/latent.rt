@@ -1,15 +1,11 @@
 //! Builds on workers that are started on demand.
 
 use crate::play::Act;
-use crate::stage::{Stage, start};
+use crate::stage::Stage;
+use crate::starting::start;
 use bm_lines::Letter;
-use std::alloc::AllocGlobal;
-use std::net::{Net, TcpStream};
-use std::random::RandomSource;
-use std::sync::Wait;
+use bm_master_threads::MasterHost;
 use std::test::Fail;
-use std::thread::Threads;
-use std::time::Clock;
 
 /// A worker whose program ends at once.
 const ENDING: &str = "worker = [{name=\"w0\",password=\"p\",latent=[\"sh\",\"-c\",\"exit 0\"]}]
@@ -33,7 +29,7 @@ build = [{worker=\"w0\", step=[
 // Whether the one build ends RETRY, and nothing was logged.
 fn is_retried<R>(stage: Stage<R>) -> bool
 where
-    R: Wait + Threads + Clock + RandomSource + AllocGlobal + Net<Stream = TcpStream> + Copy + Drop,
+    R: MasterHost,
 {
     let is_right = stage.reports("build 0 RETRY");
     stage.ends(is_right, &["lane w0 0 0"], 1)

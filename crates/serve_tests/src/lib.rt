@@ -4,6 +4,8 @@
 #[cfg(test)]
 mod builds;
 #[cfg(test)]
+mod channels;
+#[cfg(test)]
 mod hand;
 #[cfg(test)]
 mod latent;
@@ -15,5 +17,7 @@ mod play;
 mod second;
 #[cfg(test)]
 mod stage;
+#[cfg(test)]
+mod starting;
 #[cfg(test)]
 mod streams;

@@ -1,15 +1,12 @@
 //! Logins that are refused, and addresses that can't be bound.
 
 use crate::play::Act;
-use crate::stage::{Stage, refused, start};
+use crate::stage::Stage;
+use crate::starting::{refused, start};
 use bm_lines::Letter;
-use std::alloc::AllocGlobal;
-use std::net::{Net, TcpListener, TcpStream};
-use std::random::RandomSource;
-use std::sync::Wait;
+use bm_master_threads::MasterHost;
+use std::net::{TcpListener, TcpStream};
 use std::test::Fail;
-use std::thread::Threads;
-use std::time::Clock;
 
 /// One worker, and a build of one step.
 const ONE: &str = "worker = [{name=\"w0\",password=\"p\"}]
@@ -19,7 +16,7 @@ build = [{worker=\"w0\", step=[{name=\"s\",command=[\"a\"]}]}]
 // Whether logins under a wrong name or password are refused.
 fn are_refused<R>(stage: &Stage<R>) -> bool
 where
-    R: Wait + Threads + Clock + RandomSource + AllocGlobal + Net<Stream = TcpStream> + Copy + Drop,
+    R: MasterHost,
 {
     for (name, password) in &[("w0", "q"), ("w1", "p"), ("", "")] {
         if !stage.refuses(name, password) {

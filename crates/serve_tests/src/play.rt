@@ -1,15 +1,10 @@
 //! What is done and seen on a stage with one worker, step by step.
 
 use crate::second::is_declined;
-use crate::stage::{Scene, open};
+use crate::stage::Scene;
+use crate::starting::open;
 use bm_lines::Letter;
-use std::alloc::AllocGlobal;
-use std::net::{Net, TcpListener, TcpStream};
-use std::process::{Processes, SystemProcess};
-use std::random::RandomSource;
-use std::sync::Wait;
-use std::thread::Threads;
-use std::time::Clock;
+use bm_master_threads::MasterHost;
 
 /// A step of a test: what its worker, its operator or its reader does or sees.
 #[derive(Clone, Copy)]
@@ -64,18 +59,7 @@ impl Play {
     /// Whether a master goes through it as it stands here, from its start to its end.
     pub fn goes<R>(&self, rt: R) -> bool
     where
-        R: Wait
-            + Threads
-            + Clock
-            + RandomSource
-            + AllocGlobal
-            + Net<Listener = TcpListener, Stream = TcpStream>
-            + Processes<Started = SystemProcess>
-            + Copy
-            + Drop
-            + Send
-            + Sync
-            + 'static,
+        R: MasterHost,
     {
         match open(rt, self.config, self.session) {
             Some(scene) => scene.goes_through(self.acts, self.last, self.status),
@@ -86,7 +70,7 @@ impl Play {
 
 impl<R> Scene<R>
 where
-    R: Wait + Threads + Clock + RandomSource + AllocGlobal + Net<Stream = TcpStream> + Copy + Drop,
+    R: MasterHost,
 {
     /// Whether all comes so, these are the reports once the input has ended, and the master ends with
     /// this status.

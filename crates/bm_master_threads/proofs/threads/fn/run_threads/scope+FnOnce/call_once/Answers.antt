@@ -1,5 +1,5 @@
 use denote.Param.Send.{sendable}
-use Rattle.bm_master_threads.proofs.threads.fn.work_to_end.scope+FnOnce.call_once.Goals as goal
+use Rattle.bm_master_threads.proofs.threads.fn.run_threads.scope+FnOnce.call_once.Goals as goal
 
 pub scope-requires : goal.scope-requires
 scope-requires g c = let b = c.requires.1.1.1.1.1 in (

@@ -1,10 +1,10 @@
 use denote.Exit.{unseen}
 use denote.Param.Send.{Quiet-if, sendable}
 use mir.Syntax.{of_param}
-use Rattle.bm_master_threads.proofs.threads.work_to_end.Goals as goal
+use Rattle.bm_master_threads.proofs.threads.run_threads.Goals as goal
 
-pub scoped-done-requires : goal.scoped-done-requires
-scoped-done-requires g c = let b = c.type_bounds in
+pub scoped-left-requires : goal.scoped-done-requires
+scoped-left-requires g c = let b = c.type_bounds in
     record {
       at = λ a. (
         (

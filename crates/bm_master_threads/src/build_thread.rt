@@ -1,8 +1,8 @@
-//! The threads of builds.
+//! The thread of a build.
 ghost use Rattle.std.specs.Prelude.{◌≡◌};
 
-use crate::common::{Common, Guest};
-use crate::events::{EventSender, MasterEvent, Returned, Step};
+use crate::events::{EventSender, FinishedBuild, MasterEvent, ReportedStep};
+use crate::shared_state::{SharedState, WorkerConnection};
 use bm_board::{Build, StepPlan};
 use bm_build_queue::Assignment;
 use bm_lane::{Viewer, Yard};
@@ -21,20 +21,21 @@ use std::time::Clock;
 /// How often a command is asked for its end before it is interrupted.
 const TURNS: u64 = 1 << 32;
 
-/// A build that is to run, with what it needs of its worker's lane.
+/// What the thread of a build owns: the build's number, and by what its worker's lane is seen and
+/// reached.
 #[derive(Drop)]
-struct Job<Y: Yard, R: Wait + Clock + Drop> {
+struct BuildTask<Y: Yard, R: Wait + Clock + Drop> {
     number: u64,
     viewer: Viewer<Y>,
-    door: LaneHandle<Guest<R>>,
-    ghost fits: { viewer.lane ≡ door },
+    lane: LaneHandle<WorkerConnection<R>>,
+    ghost fits: { viewer.lane ≡ lane },
 }
 
-/// Tells the foreman of a build's steps.
+/// Tells the coordinator of a build's steps.
 #[derive(Drop)]
-struct StepTeller<'s, Y: Yard, R: Wait + Clock> {
+struct StepReporter<'s, Y: Yard, R: Wait + Clock> {
     rt: &'s R,
-    mail: EventSender<Y>,
+    events: EventSender<Y>,
     build: u64,
     name: Option<Text>,
     /// Whether its command has reached a limit.
@@ -42,16 +43,16 @@ struct StepTeller<'s, Y: Yard, R: Wait + Clock> {
     cancelled: &'s AtomicBool,
 }
 
-impl<'s, Y: Yard, R: Wait + Clock> StepTeller<'s, Y, R> {
+impl<'s, Y: Yard, R: Wait + Clock> StepReporter<'s, Y, R> {
     // Tells what happened to the step.
     fn tell(&self, event: StepEvent, said: Option<Text>) {
         let name = match &self.name {
             Some(name) => name.copy().ok(),
             None => None,
         };
-        self.mail.tell(
+        self.events.tell(
             self.rt,
-            MasterEvent::Step(Step {
+            MasterEvent::Step(ReportedStep {
                 build: self.build,
                 name,
                 said,
@@ -61,7 +62,7 @@ impl<'s, Y: Yard, R: Wait + Clock> StepTeller<'s, Y, R> {
     }
 }
 
-impl<'s, Y: Yard, R: Wait + Clock> Watch for StepTeller<'s, Y, R> {
+impl<'s, Y: Yard, R: Wait + Clock> Watch for StepReporter<'s, Y, R> {
     fn started(&mut self, step: &StepPlan, command: u64) {
         self.name = step.name.copy().ok();
         self.is_stopped = false;
@@ -98,37 +99,37 @@ fn run<Y, R>(
     rt: &R,
     alloc: Global,
     build: &Build,
-    job: Job<Y, R>,
+    task: BuildTask<Y, R>,
     cancelled: &AtomicBool,
-    mail: EventSender<Y>,
-    told: EventSender<Y>,
+    events: EventSender<Y>,
+    steps: EventSender<Y>,
 )
 where
     Y: Yard,
     R: Wait + Clock + Drop,
 {
-    let Job {
+    let BuildTask {
         number,
         viewer,
-        door,
-    } = job;
-    let teller = StepTeller {
+        lane,
+    } = task;
+    let reporter = StepReporter {
         rt,
-        mail: told,
+        events: steps,
         build: number,
         name: None,
         is_stopped: false,
         cancelled,
     };
-    let mut port = LanePort::over(rt, alloc, viewer, door, cancelled, teller);
+    let mut port = LanePort::over(rt, alloc, viewer, lane, cancelled, reporter);
     let result = match run_build(alloc, build, &mut port, TURNS) {
         Ok(report) => Some(report.result),
         Err(_) => None,
     };
     let (viewer, _) = port.into_parts();
-    mail.tell(
+    events.tell(
         rt,
-        MasterEvent::Ended(Returned {
+        MasterEvent::Ended(FinishedBuild {
             number,
             result,
             viewer,
@@ -136,66 +137,66 @@ where
     );
 }
 
-// The job of a commission. The commission comes back where memory is wanting.
-fn job_of<Y: Yard, R: Wait + Clock + Drop>(
-    doors: &[LaneHandle<Guest<R>>],
-    commission: Assignment<Y>,
-) -> Result<Job<Y, R>, Assignment<Y>> {
-    let Some(door) = handle_of(doors, commission.worker) else {
-        return Err(commission);
+// The task of an assignment. The assignment comes back where memory is wanting.
+fn task_of<Y: Yard, R: Wait + Clock + Drop>(
+    lanes: &[LaneHandle<WorkerConnection<R>>],
+    assignment: Assignment<Y>,
+) -> Result<BuildTask<Y, R>, Assignment<Y>> {
+    let Some(lane) = handle_of(lanes, assignment.worker) else {
+        return Err(assignment);
     };
-    let Ok(door) = door.copy() else {
-        return Err(commission);
+    let Ok(lane) = lane.copy() else {
+        return Err(assignment);
     };
     let Assignment {
         number,
         worker: _,
         viewer,
-    } = commission;
-    Ok(Job {
+    } = assignment;
+    Ok(BuildTask {
         number,
         viewer,
-        door,
+        lane,
     })
 }
 
-/// Runs a commissioned build in a thread of its own, which tells its end. Where no thread can be
+/// Runs an assigned build in a thread of its own, which tells its end. Where no thread can be
 /// started, or memory is wanting, its viewer comes back.
 pub fn start_build<'s, E, Y, R>(
     scope: &Scope<'s, E>,
-    common: &'s Common<Y, R>,
-    commission: Assignment<Y>,
+    shared: &'s SharedState<Y, R>,
+    assignment: Assignment<Y>,
 ) -> Result<(), Viewer<Y>>
 where
     Y: Yard + Send + Sync + 's,
     R: Wait + Clock + Threads + Drop + Send + Sync + 's,
 {
-    let (rt, alloc) = (&common.rt, common.alloc);
-    let number = commission.number as usize;
-    let build = common.config.builds.as_slice().get(number);
-    let (Some(build), Some(cancelled)) = (build, common.cancels.get(number)) else {
-        return Err(commission.viewer);
+    let (rt, alloc) = (&shared.rt, shared.alloc);
+    let number = assignment.number as usize;
+    let build = shared.config.builds.as_slice().get(number);
+    let (Some(build), Some(cancelled)) = (build, shared.cancels.get(number)) else {
+        return Err(assignment.viewer);
     };
-    let (Ok(mail), Ok(told)) = (common.mail.copy(), common.mail.copy()) else {
-        return Err(commission.viewer);
+    let (Ok(events), Ok(steps)) = (shared.events.copy(), shared.events.copy()) else {
+        return Err(assignment.viewer);
     };
-    let Ok((give, take)) = bounded::<Job<Y, R>, Global>(alloc, 1) else {
-        return Err(commission.viewer);
+    let Ok((give, take)) = bounded::<BuildTask<Y, R>, Global>(alloc, 1) else {
+        return Err(assignment.viewer);
     };
-    let job = match job_of(common.doors.as_slice(), commission) {
-        Ok(job) => job,
-        Err(commission) => return Err(commission.viewer),
+    let task = match task_of(shared.lanes.as_slice(), assignment) {
+        Ok(task) => task,
+        Err(assignment) => return Err(assignment.viewer),
     };
-    // The job follows the thread, so that it isn't lost where there is none.
+    // The task follows the thread, so that it isn't lost where there is none.
     let thread = scope.spawn(move || {
-        if let Ok(job) = take.recv(rt) {
-            run(rt, alloc, build, job, cancelled, mail, told);
+        if let Ok(task) = take.recv(rt) {
+            run(rt, alloc, build, task, cancelled, events, steps);
         }
     });
     if thread.is_err() {
-        return Err(job.viewer);
+        return Err(task.viewer);
     }
-    match give.send(rt, job) {
+    match give.send(rt, task) {
         Ok(()) => Ok(()),
         Err(error) => Err(error.into_inner().viewer),
     }

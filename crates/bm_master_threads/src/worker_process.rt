@@ -39,7 +39,7 @@ fn refusal_of(kind: ErrorKind) -> ProgramRefusal {
 
 /// The program that starts a worker, and its process where one was started and hasn't ended.
 #[derive(Drop)]
-pub struct Starter {
+pub struct WorkerProcess {
     words: Words,
     child: Option<Child>,
     /// How long the process has that is to end.
@@ -48,10 +48,10 @@ pub struct Starter {
     is_asked: bool,
 }
 
-impl Starter {
+impl WorkerProcess {
     /// No process was started.
-    pub fn new(words: Words) -> Starter {
-        Starter {
+    pub fn new(words: Words) -> WorkerProcess {
+        WorkerProcess {
             words,
             child: None,
             deadline: Deadline::new(),
