@@ -9,9 +9,9 @@ ghost use Rattle.bm_config.specs.Config.{named, free_lock, mode_of, worker_named
 
 use crate::config::{LockConfig, WorkerConfig};
 use crate::fault::Fault;
-use crate::fields::{Limits, flag, number, text};
+use crate::fields::{NumberRange, flag, number, text};
 use crate::keys::Key;
-use crate::rows::{Row, all_tables, few_tables, read_rows, table_of};
+use crate::rows::{ConfigRow, all_tables, few_tables, read_rows, table_of};
 use crate::words::command;
 use crate::workers::{MOST, lock_named, worker_named};
 use bm_board::{Build, Listed, LockUse, LockUses, Mode, StepPlan, StepPlans};
@@ -22,13 +22,13 @@ use toml::{Table, Value};
 /// The most builds of a configuration.
 const MOST_BUILDS: usize = 10_000;
 
-const MAX_BYTES: Limits = Limits {
+const MAX_BYTES: NumberRange = NumberRange {
     low: 0,
     high: 0xffff_ffff,
     missing: 1 << 30,
 };
 
-const TIMEOUT_TICKS: Limits = Limits {
+const TIMEOUT_TICKS: NumberRange = NumberRange {
     low: 0,
     high: MOST,
     missing: 0,
@@ -36,19 +36,19 @@ const TIMEOUT_TICKS: Limits = Limits {
 
 /// The workers and the locks that builds name.
 #[derive(Drop)]
-pub(crate) struct Places {
+pub(crate) struct WorkersAndLocks {
     pub workers: Listed<WorkerConfig>,
     pub locks: Listed<LockConfig>,
 }
 
-impl Row<Places> for Build {
+impl ConfigRow<WorkersAndLocks> for Build {
     ghost use Rattle.bm_config.specs.Config.{build_row};
 
     ghost row_of = { λ places. build_row places.workers places.locks };
 
     fn read(
         alloc: Global,
-        known: &Places,
+        known: &WorkersAndLocks,
         _before: &[Build],
         value: &Value,
     ) -> Result<Build, Fault> {
@@ -64,7 +64,7 @@ impl Row<Places> for Build {
     }
 }
 
-impl Row<Listed<LockConfig>> for LockUse {
+impl ConfigRow<Listed<LockConfig>> for LockUse {
     ghost use Rattle.bm_config.specs.Config.{use_row};
 
     ghost row_of = { use_row };
@@ -82,7 +82,7 @@ impl Row<Listed<LockConfig>> for LockUse {
     }
 }
 
-impl Row<()> for StepPlan {
+impl ConfigRow<()> for StepPlan {
     ghost use Rattle.bm_config.specs.Config.{step_row};
 
     ghost row_of = { λ _. step_row };
@@ -114,7 +114,11 @@ impl Row<()> for StepPlan {
 }
 
 /// The builds of a table.
-pub(crate) fn builds(alloc: Global, places: &Places, table: &Table) -> Result<Listed<Build>, Fault>
+pub(crate) fn builds(
+    alloc: Global,
+    places: &WorkersAndLocks,
+    table: &Table,
+) -> Result<Listed<Build>, Fault>
     ensures { Gives (builds_of places.now.workers places.now.locks (table_view table.now)) result }
 {
     let values = few_tables(table, Key::Build, MOST_BUILDS)?;

@@ -59,7 +59,7 @@ fn parsed(text: &str) -> Option<SocketAddr>
 
 /// The numbers that a key takes, and the one that stands where it is missing.
 #[derive(Clone, Copy)]
-pub(crate) struct Limits {
+pub(crate) struct NumberRange {
     pub low: u32,
     pub high: u32,
     pub missing: u32,
@@ -67,7 +67,7 @@ pub(crate) struct Limits {
 }
 
 /// The number at a key.
-pub(crate) fn number(table: &Table, key: Key, limits: Limits) -> Result<u32, Key>
+pub(crate) fn number(table: &Table, key: Key, limits: NumberRange) -> Result<u32, Key>
     ensures value { result
         ≡ number_at limits.low limits.high limits.missing key (table_view table.now) }
     ensures within { IfOk result (λ n. (limits.low ≤ n) × (n ≤ limits.high)) }

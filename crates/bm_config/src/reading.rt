@@ -5,10 +5,10 @@ ghost use Rattle.toml.specs.View.{table_view};
 ghost use Rattle.bm_config.specs.Rows.{Gives};
 ghost use Rattle.bm_config.specs.Config.{Says, IsFaultOf, config_of, told_address};
 
-use crate::builds::{Places, builds};
+use crate::builds::{WorkersAndLocks, builds};
 use crate::config::Config;
 use crate::fault::{ConfigFault, Fault};
-use crate::fields::{Limits, address, find, number};
+use crate::fields::{NumberRange, address, find, number};
 use crate::keys::Key;
 use crate::workers::{locks, workers};
 use bm_lines::Text;
@@ -16,13 +16,13 @@ use std::alloc::Global;
 use std::net::SocketAddr;
 use toml::Table;
 
-const CAPACITY: Limits = Limits {
+const CAPACITY: NumberRange = NumberRange {
     low: 1,
     high: 65_536,
     missing: 64,
 };
 
-const WRITERS: Limits = Limits {
+const WRITERS: NumberRange = NumberRange {
     low: 1,
     high: 64,
     missing: 2,
@@ -83,9 +83,9 @@ fn config_in(
     let writers = number(table, Key::Writers, WRITERS)?;
     let workers = workers(alloc, table)?;
     let locks = locks(alloc, table)?;
-    let places = Places { workers, locks };
+    let places = WorkersAndLocks { workers, locks };
     let builds = builds(alloc, &places, table)?;
-    let Places { workers, locks } = places;
+    let WorkersAndLocks { workers, locks } = places;
     Ok(Config {
         listen,
         web,

@@ -14,7 +14,7 @@ use std::alloc::Global;
 use toml::{Table, Value};
 
 /// What an element of an array makes, after those before it. `C` is what it may name.
-pub(crate) trait Row<C>: Sized + Drop {
+pub(crate) trait ConfigRow<C>: Sized + Drop {
     ghost use Rattle.std.specs.Prelude.{List, Result};
     ghost use Rattle.toml.specs.Data.{Data};
     ghost use Rattle.bm_config.specs.declared.keys.Key.{Key};
@@ -27,7 +27,7 @@ pub(crate) trait Row<C>: Sized + Drop {
 }
 
 /// The rows of an array, or the first key at fault in it.
-pub(crate) fn read_rows<C, T: Row<C>>(
+pub(crate) fn read_rows<C, T: ConfigRow<C>>(
     alloc: Global,
     known: &C,
     values: &[Value],

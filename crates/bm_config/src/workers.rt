@@ -10,9 +10,9 @@ ghost use Rattle.bm_config.specs.Config.{named, new_worker, new_lock, worker_nam
 
 use crate::config::{LockConfig, WorkerConfig};
 use crate::fault::Fault;
-use crate::fields::{Limits, number, text};
+use crate::fields::{NumberRange, number, text};
 use crate::keys::Key;
-use crate::rows::{Row, all_tables, read_rows, some_tables, table_of};
+use crate::rows::{ConfigRow, all_tables, read_rows, some_tables, table_of};
 use crate::words::program;
 use bm_board::Listed;
 use bm_lines::Text;
@@ -25,31 +25,31 @@ pub(crate) const MOST: u32 = 0x7fff_ffff;
 /// The most workers of a configuration.
 const MOST_WORKERS: usize = 64;
 
-const SLOTS: Limits = Limits {
+const SLOTS: NumberRange = NumberRange {
     low: 1,
     high: 4,
     missing: 1,
 };
 
-const IDLE_TICKS: Limits = Limits {
+const IDLE_TICKS: NumberRange = NumberRange {
     low: 1,
     high: MOST,
     missing: 100,
 };
 
-const RESUME_TICKS: Limits = Limits {
+const RESUME_TICKS: NumberRange = NumberRange {
     low: 0,
     high: MOST,
     missing: 0,
 };
 
-const MAX: Limits = Limits {
+const MAX: NumberRange = NumberRange {
     low: 1,
     high: MOST,
     missing: 1,
 };
 
-impl Row<()> for WorkerConfig {
+impl ConfigRow<()> for WorkerConfig {
     ghost use Rattle.bm_config.specs.Config.{worker_row};
 
     ghost row_of = { λ _. worker_row };
@@ -78,7 +78,7 @@ impl Row<()> for WorkerConfig {
     }
 }
 
-impl Row<()> for LockConfig {
+impl ConfigRow<()> for LockConfig {
     ghost use Rattle.bm_config.specs.Config.{lock_row};
 
     ghost row_of = { λ _. lock_row };

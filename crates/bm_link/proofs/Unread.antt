@@ -9,7 +9,7 @@ use Rattle.bm_msg.specs.declared.fault.MsgError.{MsgError}
 use Rattle.bm_msg.specs.declared.fault.MsgError.TheVariants as msg
 use Rattle.bm_link.specs.declared.fault.LinkFault.TheVariants.{BadMessage, Mem}
 use Rattle.bm_msg.specs.declared.incoming.Incoming.{Incoming}
-use Rattle.bm_link.specs.Asked.{IsSaid}
+use Rattle.bm_link.specs.Received.{IsSaid}
 use Rattle.bm_link.specs.Faults.{unread_fault}
 
 -- an answer that is no message

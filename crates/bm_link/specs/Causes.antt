@@ -22,10 +22,14 @@ abbrev pub IsCloseFrame : Message → Type 0
 IsCloseFrame (message.Close reason) = Unit {0}
 IsCloseFrame _ = ⊥
 
--- the bytes are no event, memory is wanting, or the arena refuses its reset
+-- the bytes give nothing of a kind, memory is wanting, or the arena refuses its reset
+abbrev pub GivesNone : {X : Type 0} → (List ℕ → X → Type 0) → List ℕ → LinkFault → Type 0
+GivesNone {X} Gives bytes f =
+    ((f ≡ BadMessage) × ((x : X) → ¬ Gives bytes x)) ⊎ ((f ≡ Mem) ⊎ (f ≡ Arena))
+
+-- the bytes are no event, or can't be read
 abbrev pub GivesNoEvent : List ℕ → LinkFault → Type 0
-GivesNoEvent bytes f =
-    ((f ≡ BadMessage) × ((e : Event) → ¬ IsEventOf bytes e)) ⊎ ((f ≡ Mem) ⊎ (f ≡ Arena))
+GivesNoEvent bytes f = GivesNone IsEventOf bytes f
 
 module _ {S : Type 0} where
   -- a message is not sent: memory is wanting, or the connection takes no message more, and nothing

@@ -1,6 +1,5 @@
 -- What a master's link sends beside messages: a ping, a close frame, and `busy` to a login.
 use Rattle.std.specs.Prelude.{◌≡◌, ℕ, false, List, Option, Some, None, Result, Ok, Err}
-use Rattle.tungstenite.specs.Socket.{Socket}
 use Rattle.bm_lane.specs.declared.refusals.HearRefusal.TheVariants.{Busy}
 use Rattle.bm_link.specs.declared.credentials.Named.{Named}
 use Rattle.bm_link.specs.declared.fault.LinkFault.{LinkFault}

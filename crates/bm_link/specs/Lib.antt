@@ -24,7 +24,7 @@ pub mod Control
 pub mod Carries
 -- The worker's end: its login, and what a turn of its link does.
 pub mod Greeting
-pub mod Asked
+pub mod Received
 pub mod Working
 -- What is sent beside messages: pings, and close frames.
 pub mod Frames

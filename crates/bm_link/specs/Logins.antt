@@ -10,13 +10,13 @@ use Rattle.bm_msg.specs.Messages.{IsMessage}
 use Rattle.bm_link.specs.declared.credentials.Credentials.{Credentials}
 use Rattle.bm_link.specs.declared.credentials.Named.{Named}
 use Rattle.bm_link.specs.declared.fault.LinkFault.{LinkFault}
-use Rattle.bm_link.specs.declared.fault.LinkFault.TheVariants.{Arena, BadLogin, BadMessage, Closed, Mem}
+use Rattle.bm_link.specs.declared.fault.LinkFault.TheVariants.{BadLogin, Closed}
 use Rattle.bm_link.specs.declared.login.Unadmitted.{Unadmitted}
 use Rattle.bm_link.specs.declared.login.Unadmitted.TheVariants as unadmitted
 use Rattle.bm_link.specs.declared.parts.Stage.{Stage}
 use Rattle.bm_link.specs.declared.parts.Stage.TheVariants as stage
 use Rattle.bm_link.specs.declared.user.User.{User}
-use Rattle.bm_link.specs.Causes.{FailsAtFirst}
+use Rattle.bm_link.specs.Causes.{FailsAtFirst, GivesNone}
 use Rattle.bm_link.specs.Link.{LinkState}
 use Rattle.bm_link.specs.Telling.{Tells}
 use Rattle.bm_link.specs.Users.{place_of}
@@ -38,10 +38,9 @@ IsLoginOf t l = IsMessage t (request l.named.seq (auth l.username l.password l.n
 abbrev pub AreLogin : List ℕ → Credentials → Type 0
 AreLogin bytes l = (t : Tree) × Spells bytes t × (depth t ≤ 32) × IsLoginOf t l
 
--- the bytes are no login, memory is wanting, or the arena refuses its reset
+-- the bytes are no login, or can't be read
 abbrev pub GivesNoLogin : List ℕ → LinkFault → Type 0
-GivesNoLogin bytes f =
-    ((f ≡ BadMessage) × ((l : Credentials) → ¬ AreLogin bytes l)) ⊎ ((f ≡ Mem) ⊎ (f ≡ Arena))
+GivesNoLogin bytes f = GivesNone AreLogin bytes f
 
 module _ {S : Type 0} where
   -- a binary message was read, and its bytes are this login

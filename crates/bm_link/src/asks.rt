@@ -67,13 +67,13 @@ fn ask_bytes(alloc: Global, seq: u64, ask: Ask) -> Result<Vec<u8>, AllocError>
 pub(crate) fn send_ask<S: Read + Write + Drop>(
     alloc: Global,
     socket: &mut WebSocket<S, NoMask>,
-    carry: &mut ResumeState,
+    resume_state: &mut ResumeState,
     ask: Ask,
 ) -> Result<(), LinkFault>
     requires { AreShort (texts_of ask) }
-    ensures { SendsAsk S.contents carry.old ask socket.old result socket.new carry.new }
+    ensures { SendsAsk S.contents resume_state.old ask socket.old result socket.new resume_state.new }
 {
-    let Some(seq) = carry.next_ask() else {
+    let Some(seq) = resume_state.next_ask() else {
         return Err(LinkFault::Full);
     };
     match ask_bytes(alloc, seq, ask) {

@@ -22,8 +22,8 @@ impl<S: Read + Write + Drop> MasterLink<S> {
     ///
     /// `Closed` where no lane is up by the link. After any fault the link has failed, and the next
     /// `turn` cuts the lane or takes it down.
-    pub fn ping(&mut self, carry: &ResumeState) -> Result<(), LinkFault>
-        ensures pinged { PingsFor S.contents self.old.stage self.old carry.now result self.new }
+    pub fn ping(&mut self, resume_state: &ResumeState) -> Result<(), LinkFault>
+        ensures pinged { PingsFor S.contents self.old.stage self.old resume_state.now result self.new }
         ensures login { self.new.login ≡ self.old.login }
         ensures refused { self.new.refused ≡ self.old.refused }
     {
@@ -35,7 +35,7 @@ impl<S: Read + Write + Drop> MasterLink<S> {
             Err(fault) => {
                 self.kept = None;
                 self.stage = Stage::Falling {
-                    may_cut: carry.may_cut(&fault),
+                    may_cut: resume_state.may_cut(&fault),
                 };
                 Err(fault)
             }

@@ -9,7 +9,6 @@
 //! again and sends the orders without an answer again.
 #![tactic(auto)]
 
-mod asked;
 mod asks;
 mod attaching;
 mod control;
@@ -25,6 +24,7 @@ mod master;
 mod orders;
 mod parts;
 mod reading;
+mod received;
 mod requests;
 mod resume_state;
 mod telling;

@@ -1,6 +1,6 @@
 -- A reader has to believe these. Items and Telling: what waits to be told, in which order, and what
 -- telling it does to the worker's core. Turns: of which command is told next.
-pub mod Items
+pub mod OutboxEntries
 pub mod Telling
 pub mod Turns
 -- What is said of a command: its header lines, the texts of its pipes, why it can't be started, and

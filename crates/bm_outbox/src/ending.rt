@@ -1,7 +1,7 @@
 //! How a command ended.
 
 ghost use Rattle.std.specs.Prelude.{◌≡◌, IfOk};
-ghost use Rattle.bm_outbox.specs.Items.{finish_of};
+ghost use Rattle.bm_outbox.specs.OutboxEntries.{finish_of};
 
 use crate::pipes::ExitCode;
 use bm_lines::Text;

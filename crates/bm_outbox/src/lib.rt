@@ -3,12 +3,13 @@
 #![tactic(auto)]
 
 mod ending;
-mod item;
 mod joining;
 mod keepalive;
 mod outbox;
+mod outbox_entry;
 mod pipe_texts;
 mod pipes;
+mod progress;
 mod said;
 mod session;
 mod start_fault;
@@ -18,11 +19,12 @@ mod turn;
 mod words;
 
 pub use ending::Ending;
-pub use item::Item;
 pub use keepalive::{Keepalive, after_silence};
-pub use outbox::{Outbox, Told};
+pub use outbox::Outbox;
+pub use outbox_entry::OutboxEntry;
 pub use pipe_texts::{PipeEnd, PipeTexts};
 pub use pipes::{ExitCode, Pipes};
+pub use progress::Progress;
 pub use said::{MOST_BYTES, Said};
 pub use session::begin;
 pub use start_fault::StartFault;

@@ -13,30 +13,36 @@ use std::alloc::{AllocError, Global};
 use std::marker::Model;
 use std::mem;
 
-/// What a pipe gives, as texts that can be said.
+/// What a pipe of a command gives, as texts that can be said.
 #[derive(Drop)]
 pub struct PipeTexts {
+    command: u64,
     letter: Letter,
     kept: Vec<u8>,
 }
 
 impl Model for PipeTexts {
     ghost use Rattle.std.specs.Prelude.{◌<◌, length};
-    ghost use Rattle.bm_work.specs.Assembling.{Assembling};
+    ghost use Rattle.bm_outbox.specs.Pieces.{PipeState};
 
-    ghost Value = { Assembling };
+    ghost Value = { PipeState };
 
-    ghost view = { λ p. record { letter = p.letter; kept = p.kept.items } };
+    ghost view = { λ p. record {
+      command = p.command;
+      letter = p.letter;
+      kept = p.kept.items;
+    } };
 
     ghost invariant = { λ p. length p.kept.items < 16384 };
 }
 
 impl PipeTexts {
-    /// The pipe gave nothing yet.
-    pub fn new(alloc: Global, letter: Letter) -> PipeTexts
-        ensures { result ≡ record { letter = letter; kept = [] } }
+    /// The pipe of this command gave nothing yet.
+    pub fn new(alloc: Global, command: u64, letter: Letter) -> PipeTexts
+        ensures { result ≡ record { command = command; letter = letter; kept = [] } }
     {
         PipeTexts {
+            command,
             letter,
             kept: Vec::new(alloc),
         }
@@ -78,7 +84,7 @@ impl PipeTexts {
     /// Want of memory. Nothing was changed.
     #[tactic(auto, using(crate::proofs::Lengths::last_short))]
     pub fn last(&mut self) -> Result<Option<Said>, AllocError>
-        ensures said { IfOk result (IsLast self.old) }
+        ensures said { IfOk result (IsLast self.old.letter self.old.kept) }
         ensures kept { OnOk result (self.new ≡ record self.old { kept = [] }) }
     {
         if self.kept.is_empty() {
@@ -95,32 +101,33 @@ impl PipeTexts {
     /// The pipe has come to its end: nothing of it is left to be said.
     pub fn end(self) -> PipeEnd
         requires { self.kept ≡ [] }
-        ensures { result ≡ self.letter }
+        ensures { result ≡ record { command = self.command; letter = self.letter } }
     {
         PipeEnd {
+            command: self.command,
             letter: self.letter,
         }
     }
 }
 
-/// The end of a pipe: one whose last text was taken gives it, and nothing else does.
+/// The end of a pipe of a command: one whose last text was taken gives it, and nothing else does.
 #[derive(Drop)]
 pub struct PipeEnd {
+    command: u64,
     letter: Letter,
 }
 
-impl Model for PipeEnd {
-    ghost use Rattle.bm_lines.specs.declared.letter.Letter.{Letter as Stream};
-
-    ghost Value = { Stream };
-
-    ghost view = { λ e. e.letter };
-}
-
 impl PipeEnd {
+    /// The command that the pipe was of.
+    pub(crate) fn command(&self) -> u64
+        ensures { result ≡ self.now.command }
+    {
+        self.command
+    }
+
     /// The stream that the pipe was.
     pub(crate) fn letter(&self) -> Letter
-        ensures { result ≡ self.now }
+        ensures { result ≡ self.now.letter }
     {
         self.letter
     }

@@ -5,30 +5,42 @@ ghost use Rattle.bm_outbox.specs.Pipes.{with_end, are_over, exit_code};
 
 use crate::pipe_texts::PipeEnd;
 use bm_lines::Letter;
-use std::marker::Model;
 
 /// Which pipes of a command are open.
 #[derive(Clone, Copy, PartialEq, Eq)]
 pub struct Pipes {
+    pub(crate) command: u64,
     pub(crate) output: bool,
     pub(crate) errors: bool,
 }
 
 impl Pipes {
-    /// Both are open.
-    pub const fn open() -> Pipes
-        ensures { result ≡ record { output = true; errors = true } }
+    /// Both pipes of this command are open.
+    pub const fn open(command: u64) -> Pipes
+        ensures { result ≡ record { command = command; output = true; errors = true } }
     {
         Pipes {
+            command,
             output: true,
             errors: true,
         }
     }
 
-    /// A pipe came to this end. A command has no pipe of headers.
+    /// The command that they are of.
+    pub fn command(self) -> u64
+        ensures { result ≡ self.command }
+    {
+        self.command
+    }
+
+    /// A pipe came to this end. That of another command is none of these, and a command has no pipe
+    /// of headers.
     pub fn end(&mut self, end: PipeEnd)
         ensures { self.new ≡ with_end end self.old }
     {
+        if end.command() != self.command {
+            return;
+        }
         match end.letter() {
             Letter::O => self.output = false,
             Letter::E => self.errors = false,
@@ -47,35 +59,38 @@ impl Pipes {
     /// There is none to be told before all that the command printed was taken.
     pub fn exit_code(self, code: Option<i32>) -> ExitCode
         requires { are_over self ≡ true }
-        ensures { result ≡ exit_code code }
+        ensures { result ≡ record { command = self.command; code = exit_code code } }
     {
         let code = match code {
             Some(code) => i64::from(code),
             None => -1,
         };
-        ExitCode { code }
+        ExitCode {
+            command: self.command,
+            code,
+        }
     }
 }
 
-/// An exit code that may be told: pipes that have come to their ends give it, and nothing else
-/// does.
+/// An exit code that may be told of a command: its pipes give it once both have come to their ends,
+/// and nothing else does.
 #[derive(Drop)]
 pub struct ExitCode {
+    command: u64,
     code: i64,
 }
 
-impl Model for ExitCode {
-    ghost use Rattle.std.specs.Prelude.{ℤ};
-
-    ghost Value = { ℤ };
-
-    ghost view = { λ c. c.code };
-}
-
 impl ExitCode {
+    /// The command that ended with it.
+    pub fn command(&self) -> u64
+        ensures { result ≡ self.now.command }
+    {
+        self.command
+    }
+
     /// The number.
     pub fn get(&self) -> i64
-        ensures { result ≡ self.now }
+        ensures { result ≡ self.now.code }
     {
         self.code
     }

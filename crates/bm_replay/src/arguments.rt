@@ -2,7 +2,7 @@
 
 ghost use Rattle.std.specs.Prelude.{◌≡◌, ◌≤◌};
 
-use crate::numbers::read_number;
+use bm_decimal::read_number;
 use std::io::Write;
 
 /// The text for words that ask for nothing that the program does.
@@ -39,7 +39,7 @@ impl Capacity {
 
 /// What the words ask for.
 #[derive(Clone, Copy)]
-pub enum Job<'a> {
+pub enum MasterArguments<'a> {
     /// Standard input is replayed, over a queue of this capacity.
     Replay { capacity: Capacity },
     /// The master of the configuration in this file is run.
@@ -48,17 +48,17 @@ pub enum Job<'a> {
 
 /// Reads the words of the command line, of which the first is the program's name. The answer is
 /// None where they ask for nothing that the program does.
-pub fn read_job(words: &[String]) -> Option<Job<'_>> {
+pub fn read_arguments(words: &[String]) -> Option<MasterArguments<'_>> {
     match words {
-        [_, job] if job.as_str() == "replay" => Some(Job::Replay {
+        [_, job] if job.as_str() == "replay" => Some(MasterArguments::Replay {
             capacity: Capacity {
                 items: Capacity::DEFAULT,
             },
         }),
-        [_, job, capacity] if job.as_str() == "replay" => Some(Job::Replay {
+        [_, job, capacity] if job.as_str() == "replay" => Some(MasterArguments::Replay {
             capacity: Capacity::read(capacity.as_str())?,
         }),
-        [_, job, file] if job.as_str() == "serve" => Some(Job::Serve {
+        [_, job, file] if job.as_str() == "serve" => Some(MasterArguments::Serve {
             file: file.as_str(),
         }),
         _ => None,

@@ -1,14 +1,19 @@
 //! The command line of `buildmaster`, and its replay of the recorded events of a worker's lane.
+//!
+//! Promised: a line's bytes are the event that `specs/Wire.antt` delivers for them, an input is read
+//! whole up to its bound, and the laws of `laws.rt`: what a worker said stands in its logs.
+//!
+//! A body could still take one script line for another, and answer it in other words: what is read
+//! of a line and what is written for it is only tested.
 #![tactic(auto)]
 
 mod answers;
 mod arguments;
 mod incoming;
 pub mod laws;
-mod numbers;
 mod replay;
 mod script;
 
-pub use arguments::{Capacity, Job, read_job, tell_usage};
+pub use arguments::{Capacity, MasterArguments, read_arguments, tell_usage};
 pub use replay::replay_run;
-pub use script::read_up_to;
+pub use script::{MOST_BYTES, read_up_to};

@@ -4,7 +4,7 @@ ghost use Rattle.std.specs.Prelude.{◌≤◌};
 
 use crate::answers::{write_answer, write_log};
 use crate::incoming::{Unread, read_event};
-use crate::script::{Request, ScriptLine, cut_line, read_line, read_script};
+use crate::script::{MOST_BYTES, ReplayRequest, ScriptLine, cut_line, read_line, read_up_to};
 use bm_lines::Text;
 use bm_session::Event;
 use bm_world::{Step, World};
@@ -73,7 +73,7 @@ fn replay<R: Read + Drop, W: Write + Drop>(
     requires few { capacity ≤ 65536 }
 {
     let mut input = input;
-    let script = read_script(alloc, &mut input)?;
+    let script = read_up_to(MOST_BYTES, alloc, &mut input)?;
     let mut lane = Lane::new(alloc, capacity)?;
     let mut output = BufWriter::new(alloc, output)?;
     let ended = lane.answer_lines(script.as_slice(), &mut output);
@@ -130,20 +130,20 @@ impl Lane {
     }
 
     /// Answers what is neither a message nor a drain.
-    fn answer<W: Write>(&mut self, request: Request<'_>, output: &mut W) -> Result<(), Halt> {
+    fn answer<W: Write>(&mut self, request: ReplayRequest<'_>, output: &mut W) -> Result<(), Halt> {
         let step = match request {
-            Request::Up => Step::Hear(Event::Up),
-            Request::Cut => Step::Hear(Event::Cut),
-            Request::Down => Step::Hear(Event::Down),
-            Request::Go => Step::Hear(Event::Go),
-            Request::Stop(command) => Step::Hear(Event::Stop(command)),
-            Request::Look {
+            ReplayRequest::Up => Step::Hear(Event::Up),
+            ReplayRequest::Cut => Step::Hear(Event::Cut),
+            ReplayRequest::Down => Step::Hear(Event::Down),
+            ReplayRequest::Go => Step::Hear(Event::Go),
+            ReplayRequest::Stop(command) => Step::Hear(Event::Stop(command)),
+            ReplayRequest::Look {
                 command,
                 offset,
                 limit,
                 name,
             } => Step::Look(command, Text::from_str(self.alloc, name)?, offset, limit),
-            Request::Log { command, name } => return self.show_log(command, name, output),
+            ReplayRequest::Log { command, name } => return self.show_log(command, name, output),
         };
         self.step(step, "ok", output)
     }

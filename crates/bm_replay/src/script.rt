@@ -4,14 +4,14 @@ ghost use Rattle.std.specs.Prelude.{◌≡◌, ◌≢◌, ◌≤◌, ◌++◌, �
 ghost use Rattle.std.specs.Prelude.{EachIndex, slice_index, vec_len};
 ghost use Rattle.std.specs.Io.KnownBytes.{Consumes, IsAtEnd};
 
-use crate::numbers::read_number;
+use bm_decimal::read_number;
 use bm_lines::STDIO;
 use memchr::memchr;
 use std::alloc::Global;
 use std::io;
 use std::io::Read;
 
-/// A script may have so many bytes.
+/// The most bytes of an input that is read whole before its first line counts.
 pub const MOST_BYTES: usize = 67_108_864;
 
 /// At the most so many bytes come with one read.
@@ -19,7 +19,7 @@ const PIECE: usize = 65_536;
 
 /// What a line of a script asks that is neither a message nor a drain.
 #[derive(Clone, Copy, PartialEq, Eq)]
-pub enum Request<'a> {
+pub enum ReplayRequest<'a> {
     /// A connection of the worker begins.
     Up,
     /// The connection is cut, and may be resumed.
@@ -53,24 +53,9 @@ pub enum ScriptLine<'a> {
     In(&'a [u8]),
     /// One item goes from the queue into the book.
     Drain,
-    Asks(Request<'a>),
+    Asks(ReplayRequest<'a>),
     /// A line of another form.
     Unknown,
-}
-
-/// Reads a script to its input's end.
-///
-/// # Errors
-///
-/// A read that failed, one that was interrupted too; `FileTooLarge` where the script has more than
-/// `MOST_BYTES`; and `OutOfMemory`.
-pub fn read_script<R: Read>(alloc: Global, input: &mut R) -> io::Result<Vec<u8>>
-    ensures read { IfOk result (λ script.
-        Consumes (R.remaining input.old) (R.remaining input.new) script.items) }
-    ensures end { OnOk result (IsAtEnd (R.remaining input.new)) }
-    ensures few { IfOk result (λ script. vec_len script ≤ 67108864) }
-{
-    read_up_to(MOST_BYTES, alloc, input)
 }
 
 /// The bytes up to the input's end, of which there may be `most`.
@@ -127,36 +112,36 @@ pub fn read_line(line: &[u8]) -> ScriptLine<'_> {
 }
 
 /// Reads a line that is neither a message nor a drain.
-fn read_request(line: &[u8]) -> Option<Request<'_>> {
+fn read_request(line: &[u8]) -> Option<ReplayRequest<'_>> {
     match line {
-        b"up" => Some(Request::Up),
-        b"cut" => Some(Request::Cut),
-        b"down" => Some(Request::Down),
-        b"go" => Some(Request::Go),
+        b"up" => Some(ReplayRequest::Up),
+        b"cut" => Some(ReplayRequest::Cut),
+        b"down" => Some(ReplayRequest::Down),
+        b"go" => Some(ReplayRequest::Go),
         _ => read_words(line),
     }
 }
 
 /// Reads a line whose words are a text.
-fn read_words(line: &[u8]) -> Option<Request<'_>> {
+fn read_words(line: &[u8]) -> Option<ReplayRequest<'_>> {
     let (word, rest) = std::str::from_utf8(line).ok()?.split_once(' ')?;
     match word {
-        "stop" => Some(Request::Stop(read_number(rest)?)),
+        "stop" => Some(ReplayRequest::Stop(read_number(rest)?)),
         "look" => read_look(rest),
         "log" => {
             let (number, name) = named(rest);
             let command = read_number(number)?;
-            Some(Request::Log { command, name })
+            Some(ReplayRequest::Log { command, name })
         }
         _ => None,
     }
 }
 
-fn read_look(words: &str) -> Option<Request<'_>> {
+fn read_look(words: &str) -> Option<ReplayRequest<'_>> {
     let (command, words) = words.split_once(' ')?;
     let (offset, words) = words.split_once(' ')?;
     let (limit, name) = named(words);
-    Some(Request::Look {
+    Some(ReplayRequest::Look {
         command: read_number(command)?,
         offset: read_number(offset)?,
         limit: read_number(limit)?,

@@ -15,7 +15,7 @@ const MOST_LOGIN_BYTES: usize = 900_000;
 
 /// What the words ask for: work for the master at this address, under this name and password.
 #[derive(Clone, Copy)]
-pub struct Job<'a> {
+pub struct Arguments<'a> {
     pub address: &'a str,
     pub name: &'a str,
     pub password: &'a str,
@@ -33,21 +33,21 @@ pub fn words<R: Env + AllocGlobal>(rt: &R) -> Result<Vec<String>, AllocError> {
 
 /// Reads the words of the command line, of which the first is the program's name. The answer is
 /// None where they ask for nothing that the program does.
-pub fn read_job(words: &[String]) -> Option<Job<'_>>
-    ensures { IfSome result (λ job. AreShort (job.name.now ∷ job.password.now ∷ [])) }
+pub fn read_arguments(words: &[String]) -> Option<Arguments<'_>>
+    ensures { IfSome result (λ arguments. AreShort (arguments.name.now ∷ arguments.password.now ∷ [])) }
 {
     let [_, address, name, password] = words else {
         return None;
     };
-    let job = Job {
+    let arguments = Arguments {
         address: address.as_str(),
         name: name.as_str(),
         password: password.as_str(),
     };
-    if !is_address(job.address) || !is_login(job.name, job.password) {
+    if !is_address(arguments.address) || !is_login(arguments.name, arguments.password) {
         return None;
     }
-    Some(job)
+    Some(arguments)
 }
 
 /// Whether a port stands behind the last colon.

@@ -1,11 +1,10 @@
 //! How a connection is closed, so that nothing that was sent is lost.
 
+use crate::build_worker::BuildWorker;
 use crate::connection::Connection;
-use crate::mailbox::Mail;
+use crate::mailbox::WorkerMail;
 use crate::ready_stream::ReadyStream;
-use crate::serving::Work;
 use bm_link::{Turn, WorkerLink};
-use bm_work::Worker;
 use bumpalo::Bump;
 use std::alloc::Global;
 use std::io::{Read, Write};
@@ -20,30 +19,24 @@ const LAST_ANSWERS_SECONDS: u64 = 1;
 /// How long a worker that has said its close frame waits for its master's end of the connection.
 const LAST_BYTES_SECONDS: u64 = 1;
 
-impl Work {
+impl<S: Read + Write + Drop, K: MaskKeys + Drop> BuildWorker<S, K> {
     /// Kills all commands, and hears the answers to what was said of them, for a second at the most:
     /// a master that finds its connection closed may not look at what came before that.
-    pub(crate) fn hear_last_answers<S, K, R>(
+    pub(crate) fn hear_last_answers<R: Wait + Clock>(
         &mut self,
         rt: &R,
         alloc: Global,
         arena: &mut Bump,
         connection: &Connection,
-        link: &mut WorkerLink<S, K>,
-    )
-    where
-        S: Read + Write + Drop,
-        K: MaskKeys + Drop,
-        R: Wait + Clock,
-    {
+    ) {
         // Where memory is wanting they are killed all the same.
-        let _ = self.crew.kill_all(alloc);
+        let _ = self.processes.kill_all(alloc);
         let Some(deadline) = after(rt, LAST_ANSWERS_SECONDS) else {
             return;
         };
         for _ in rt.forever() {
-            let is_open = hears_all(rt, alloc, arena, link, &mut self.worker);
-            if !is_open || !self.worker.has_unanswered() || !connection.ask(rt) {
+            let is_open = self.hears_all(rt, alloc, arena);
+            if !is_open || !self.session.has_unanswered() || !connection.ask(rt) {
                 return;
             }
             if !self.is_readable_by(rt, connection.number, deadline) {
@@ -57,10 +50,23 @@ impl Work {
     /// answer is false where that isn't so until then.
     fn is_readable_by<R: Wait + Clock>(&mut self, rt: &R, number: u64, deadline: Instant) -> bool {
         for _ in rt.forever() {
-            match self.crew.wait_until(rt, deadline) {
-                Some(Mail::Readable(one)) if one == number => return true,
+            match self.processes.wait_until(rt, deadline) {
+                Some(WorkerMail::Readable(one)) if one == number => return true,
                 Some(_) => {}
                 None => return false,
+            }
+        }
+        unreachable!()
+    }
+
+    /// Hears the messages that have come, and does nothing else that they ask; or answers that the
+    /// connection has ended.
+    fn hears_all<R: Wait>(&mut self, rt: &R, alloc: Global, arena: &mut Bump) -> bool {
+        for _ in rt.forever() {
+            match self.session.hear(alloc, arena) {
+                Ok((Turn::Quiet, _)) => return true,
+                Ok(_) => {}
+                Err(_) => return false,
             }
         }
         unreachable!()
@@ -71,30 +77,6 @@ impl Work {
 fn after<R: Clock>(rt: &R, seconds: u64) -> Option<Instant> {
     let now = Instant::now(rt).ok()?;
     now.checked_add(Duration::from_secs(seconds))
-}
-
-/// Hears the messages that have come, and does nothing else that they ask; or answers that the
-/// connection has ended.
-fn hears_all<S, K, R>(
-    rt: &R,
-    alloc: Global,
-    arena: &mut Bump,
-    link: &mut WorkerLink<S, K>,
-    worker: &mut Worker,
-) -> bool
-where
-    S: Read + Write + Drop,
-    K: MaskKeys + Drop,
-    R: Wait,
-{
-    for _ in rt.forever() {
-        match link.turn(alloc, arena, worker) {
-            Ok((Turn::Quiet, _)) => return true,
-            Ok(_) => {}
-            Err(_) => return false,
-        }
-    }
-    unreachable!()
 }
 
 /// Closes a connection: a close frame goes out, and what still comes is read until the other end

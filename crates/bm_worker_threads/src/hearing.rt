@@ -1,11 +1,11 @@
 //! What the worker hears over a connection and of its commands, and what it does about it.
 
+use crate::build_worker::BuildWorker;
 use crate::connection::{Connection, ConnectionEnd};
 use crate::host::Host;
-use crate::mailbox::Mail;
+use crate::mailbox::WorkerMail;
 use crate::processes::MOST_MAIL;
-use crate::serving::Work;
-use bm_link::{Turn, WorkerLink};
+use bm_link::Turn;
 use bm_outbox::{Ending, Keepalive};
 use bm_work::WorkAct;
 use bumpalo::Bump;
@@ -13,24 +13,18 @@ use std::alloc::Global;
 use std::io::{Read, Write};
 use tungstenite::MaskKeys;
 
-impl Work {
+impl<S: Read + Write + Drop, K: MaskKeys + Drop> BuildWorker<S, K> {
     /// Takes all mail that lies ready.
-    pub(crate) fn take_all<S, K, R>(
+    pub(crate) fn take_all<R: Host>(
         &mut self,
         rt: &R,
         alloc: Global,
         arena: &mut Bump,
         connection: &Connection,
-        link: &mut WorkerLink<S, K>,
-    ) -> Result<(), ConnectionEnd>
-    where
-        S: Read + Write + Drop,
-        K: MaskKeys + Drop,
-        R: Host,
-    {
+    ) -> Result<(), ConnectionEnd> {
         for _ in 0..MOST_MAIL {
-            match self.crew.mail(rt) {
-                Some(mail) => self.take(rt, alloc, arena, connection, link, mail)?,
+            match self.processes.mail(rt) {
+                Some(mail) => self.take(rt, alloc, arena, connection, mail)?,
                 None => return Ok(()),
             }
         }
@@ -38,51 +32,43 @@ impl Work {
     }
 
     /// Takes mail. That of an earlier connection, which has ended, is passed over.
-    pub(crate) fn take<S, K, R>(
+    pub(crate) fn take<R: Host>(
         &mut self,
         rt: &R,
         alloc: Global,
         arena: &mut Bump,
         connection: &Connection,
-        link: &mut WorkerLink<S, K>,
-        mail: Mail,
-    ) -> Result<(), ConnectionEnd>
-    where
-        S: Read + Write + Drop,
-        K: MaskKeys + Drop,
-        R: Host,
-    {
+        mail: WorkerMail,
+    ) -> Result<(), ConnectionEnd> {
         match mail {
-            Mail::Piece(piece) => match self.crew.keep(piece, &mut self.outbox) {
-                Ok(()) => Ok(()),
-                Err(_) => Err(ConnectionEnd::NoMemory),
-            },
-            Mail::Readable(number) if number == connection.number => {
-                connection.allow_reads(1);
-                self.hear(rt, alloc, arena, connection, link)
+            WorkerMail::Process(told) => {
+                match self.processes.keep(told, &mut self.session.outbox) {
+                    Ok(()) => Ok(()),
+                    Err(_) => Err(ConnectionEnd::NoMemory),
+                }
             }
-            Mail::Silent(number, next) if number == connection.number => keep_alive(link, next),
+            WorkerMail::Readable(number) if number == connection.number => {
+                connection.allow_reads(1);
+                self.hear(rt, alloc, arena, connection)
+            }
+            WorkerMail::Silent(number, next) if number == connection.number => {
+                self.keep_alive(next)
+            }
             _ => Ok(()),
         }
     }
 
     /// Hears the messages that have come, does what they ask, and has the connection's thread look
     /// for more.
-    pub(crate) fn hear<S, K, R>(
+    pub(crate) fn hear<R: Host>(
         &mut self,
         rt: &R,
         alloc: Global,
         arena: &mut Bump,
         connection: &Connection,
-        link: &mut WorkerLink<S, K>,
-    ) -> Result<(), ConnectionEnd>
-    where
-        S: Read + Write + Drop,
-        K: MaskKeys + Drop,
-        R: Host,
-    {
+    ) -> Result<(), ConnectionEnd> {
         for _ in rt.forever() {
-            match link.turn(alloc, arena, &mut self.worker) {
+            match self.session.hear(alloc, arena) {
                 Ok((Turn::Quiet, _)) => break,
                 Ok((turn, act)) => {
                     if turn == Turn::Heard || turn == Turn::Noted {
@@ -90,7 +76,7 @@ impl Work {
                     }
                     self.does(rt, alloc, act)?;
                 }
-                Err(_) if link.closed() => return Err(ConnectionEnd::Closed),
+                Err(_) if self.session.is_closed() => return Err(ConnectionEnd::Closed),
                 Err(_) => return Err(ConnectionEnd::Lost),
             }
         }
@@ -102,17 +88,15 @@ impl Work {
     }
 
     /// Does what the master asks.
-    fn does<R>(&mut self, rt: &R, alloc: Global, act: WorkAct) -> Result<(), ConnectionEnd>
-    where
-        R: Host,
-    {
+    fn does<R: Host>(&mut self, rt: &R, alloc: Global, act: WorkAct) -> Result<(), ConnectionEnd> {
+        let outbox = &mut self.session.outbox;
         let done = match act {
             WorkAct::Run { command, argv } => {
-                self.crew.run(rt, alloc, command, &argv, &mut self.outbox)
+                self.processes.run(rt, alloc, command, &argv, outbox)
             }
             WorkAct::Interrupt(command) => {
-                self.crew
-                    .cut_short(command, Ending::Interrupted, &mut self.outbox)
+                self.processes
+                    .cut_short(command, Ending::Interrupted, outbox)
             }
             WorkAct::Shutdown => return Err(ConnectionEnd::Shutdown),
             _ => Ok(()),
@@ -122,22 +106,18 @@ impl Work {
             Err(_) => Err(ConnectionEnd::NoMemory),
         }
     }
-}
 
-/// Does what is to be done about a silent master.
-fn keep_alive<S, K>(link: &mut WorkerLink<S, K>, next: Keepalive) -> Result<(), ConnectionEnd>
-where
-    S: Read + Write + Drop,
-    K: MaskKeys + Drop,
-{
-    let is_kept = match next {
-        Keepalive::Wait => true,
-        Keepalive::Ping => link.ping().is_ok(),
-        Keepalive::GiveUp => false,
-    };
-    if is_kept {
-        Ok(())
-    } else {
-        Err(ConnectionEnd::Lost)
+    /// Does what is to be done about a silent master.
+    fn keep_alive(&mut self, next: Keepalive) -> Result<(), ConnectionEnd> {
+        let is_kept = match next {
+            Keepalive::Wait => true,
+            Keepalive::Ping => self.session.ping().is_ok(),
+            Keepalive::GiveUp => false,
+        };
+        if is_kept {
+            Ok(())
+        } else {
+            Err(ConnectionEnd::Lost)
+        }
     }
 }

@@ -1,24 +1,31 @@
-//! What a build worker does: the processes of its commands, a thread for each of their pipes and for
-//! its connection, and the one mailbox in which it is told of all of them.
+//! What a build worker does around its session: the processes of its commands, a thread for each of
+//! their pipes and for its connection, and the one mailbox in which it is told of all of them.
+//!
+//! What is told is put into the session's outbox, and `bm_worker_session` sends it. Contracts say of
+//! which command is told next and what, that a command begins with the line of its words, and that an
+//! exit code is told of the command whose pipes have both ended.
+//!
+//! A body could still leave mail lying, read no pipe, or never come back: a thread, a pipe and a
+//! process have no contract, and the tests of `crew_tests` and of the programs stand in for that.
 #![tactic(auto)]
 
 mod arguments;
+mod build_worker;
 mod closing;
 mod connection;
 mod hearing;
 mod host;
-mod job;
 mod mailbox;
 mod pipe_reader;
 mod processes;
 mod ready_stream;
 mod run;
-mod serving;
+mod running_command;
 mod session;
 mod socket_watch;
 
-pub use arguments::{Job, USAGE, read_job, words};
-pub use mailbox::{Mail, Part, Piece};
+pub use arguments::{Arguments, USAGE, read_arguments, words};
+pub use mailbox::{PipeEvent, ProcessEvent, WorkerMail};
 pub use pipe_reader::PipeReader;
 pub use ready_stream::ReadyStream;
 pub use run::work_run;

@@ -4,7 +4,7 @@ use bm_outbox::{Keepalive, PipeEnd, Said};
 
 /// What the thread of a pipe tells of it.
 #[derive(Drop)]
-pub enum Part {
+pub enum PipeEvent {
     /// The next text.
     Text(Said),
     /// All texts were told.
@@ -13,18 +13,18 @@ pub enum Part {
     NoMemory,
 }
 
-/// A part of what a pipe gives, and which of the program's processes it is of.
+/// What a pipe's thread tells, and by number which of the worker's processes the pipe is of.
 #[derive(Drop)]
-pub struct Piece {
-    pub job: u64,
-    pub part: Part,
+pub struct ProcessEvent {
+    pub process: u64,
+    pub event: PipeEvent,
 }
 
 /// What the worker's one mailbox brings.
 #[derive(Drop)]
-pub enum Mail {
-    /// A piece of a pipe.
-    Piece(Piece),
+pub enum WorkerMail {
+    /// What came of a pipe of a process.
+    Process(ProcessEvent),
     /// The connection with this number has bytes to read, or has ended: a read of it won't wait.
     Readable(u64),
     /// The connection with this number is silent, and this is to be done about it.

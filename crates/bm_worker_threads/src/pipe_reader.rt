@@ -1,6 +1,6 @@
 //! A thread for each pipe of a command.
 
-use crate::mailbox::{Mail, Part, Piece};
+use crate::mailbox::{PipeEvent, ProcessEvent, WorkerMail};
 use bm_lines::Letter;
 use bm_outbox::{PipeEnd, PipeTexts, Said};
 use crossbeam_channel::{Receiver, Sender};
@@ -11,12 +11,13 @@ use std::sync::Wait;
 /// How many bytes a pipe's thread reads at once.
 const ROOM: usize = 16_384;
 
-/// A pipe's thread: which pipe it reads, and whom it tells.
+/// A pipe's thread: which pipe of which process and command it reads, and whom it tells.
 #[derive(Drop)]
 pub struct PipeReader {
-    pub job: u64,
+    pub process: u64,
+    pub command: u64,
     pub letter: Letter,
-    pub owner: Sender<Mail>,
+    pub owner: Sender<WorkerMail>,
     /// Each of these permits a text. Once nobody can give any more, nobody hears the pipe.
     pub permits: Receiver<()>,
 }
@@ -24,12 +25,12 @@ pub struct PipeReader {
 impl PipeReader {
     /// Tells what the pipe gives, until it ends, or nobody hears it any more.
     pub fn run<R: Wait, P: Read + Drop>(self, rt: &R, alloc: Global, pipe: P) {
-        let part = match self.tell_all(rt, alloc, pipe) {
-            Ok(Some(end)) => Part::End(end),
+        let event = match self.tell_all(rt, alloc, pipe) {
+            Ok(Some(end)) => PipeEvent::End(end),
             Ok(None) => return,
-            Err(_) => Part::NoMemory,
+            Err(_) => PipeEvent::NoMemory,
         };
-        self.tell(rt, part);
+        self.tell(rt, event);
     }
 
     /// Tells the texts of a pipe, and answers its end; or None where nobody hears them any more.
@@ -40,7 +41,7 @@ impl PipeReader {
         mut pipe: P,
     ) -> Result<Option<PipeEnd>, AllocError> {
         let mut room = vec![in alloc; 0u8; ROOM]?;
-        let mut texts = PipeTexts::new(alloc, self.letter);
+        let mut texts = PipeTexts::new(alloc, self.command, self.letter);
         for _ in 0..u64::MAX {
             let Some(bytes) = next_bytes(&mut pipe, room.as_mut_slice()) else {
                 continue;
@@ -66,16 +67,16 @@ impl PipeReader {
 
     /// Tells a text, once it may; or answers that nobody hears it any more.
     fn tell_text<R: Wait>(&self, rt: &R, said: Said) -> bool {
-        self.permits.recv(rt).is_ok() && self.tell(rt, Part::Text(said))
+        self.permits.recv(rt).is_ok() && self.tell(rt, PipeEvent::Text(said))
     }
 
-    /// Tells a part; or answers that nobody hears it any more.
-    fn tell<R: Wait>(&self, rt: &R, part: Part) -> bool {
-        let piece = Piece {
-            job: self.job,
-            part,
+    /// Tells what came of the pipe; or answers that nobody hears it any more.
+    fn tell<R: Wait>(&self, rt: &R, event: PipeEvent) -> bool {
+        let told = ProcessEvent {
+            process: self.process,
+            event,
         };
-        self.owner.send(rt, Mail::Piece(piece)).is_ok()
+        self.owner.send(rt, WorkerMail::Process(told)).is_ok()
     }
 }
 

@@ -2,14 +2,15 @@
 
 ghost use Rattle.std.specs.Prelude.{◌≡◌, ◌<◌, length, map, IfOk, IfSome, OnOk};
 ghost use Rattle.bm_outbox.specs.Opening.{Starts};
+ghost use Rattle.bm_outbox.specs.OutboxEntries.{IsOwnEnding};
 ghost use Rattle.bm_worker_threads.specs.Turns.{ready_of, turn_of, IsReady, TellsAt, TellsTurn};
 
 use crate::host::Host;
-use crate::job::Job;
-use crate::mailbox::{Mail, Part, Piece};
+use crate::mailbox::{PipeEvent, ProcessEvent, WorkerMail};
 use crate::pipe_reader::PipeReader;
+use crate::running_command::RunningCommand;
 use bm_lines::{Letter, Text};
-use bm_outbox::{Ending, Item, Outbox, Pipes, Ready, Said, StartFault, next_turn};
+use bm_outbox::{Ending, Outbox, OutboxEntry, Pipes, Ready, Said, StartFault, next_turn};
 use bm_work::Argv;
 use crossbeam_channel::{Receiver, Sender};
 use std::alloc::{AllocError, Global};
@@ -36,12 +37,12 @@ const LAST_PAUSE_MS: u64 = 64;
 /// is told of.
 #[derive(Drop)]
 pub struct Processes {
-    jobs: Vec<Job>,
+    running: Vec<RunningCommand>,
     killed: Vec<Child>,
     started: u64,
     pause_ms: u64,
-    pub owner: Sender<Mail>,
-    mailbox: Receiver<Mail>,
+    pub owner: Sender<WorkerMail>,
+    mailbox: Receiver<WorkerMail>,
 }
 
 impl Processes {
@@ -49,7 +50,7 @@ impl Processes {
     pub fn new(alloc: Global) -> Result<Processes, AllocError> {
         let (owner, mailbox) = crossbeam_channel::bounded(alloc, MOST_MAIL)?;
         Ok(Processes {
-            jobs: Vec::new(alloc),
+            running: Vec::new(alloc),
             killed: Vec::new(alloc),
             started: 0,
             pause_ms: FIRST_PAUSE_MS,
@@ -60,7 +61,7 @@ impl Processes {
 
     /// The mail that comes next. The answer is None where a process that is about to end is to be
     /// looked at again first.
-    pub fn wait<R: Wait + Clock>(&mut self, rt: &R) -> Option<Mail> {
+    pub fn wait<R: Wait + Clock>(&mut self, rt: &R) -> Option<WorkerMail> {
         if !self.is_ending() {
             return self.mailbox.recv(rt).ok();
         }
@@ -70,18 +71,18 @@ impl Processes {
     }
 
     /// The mail that comes next, if any does until then.
-    pub fn wait_until<R: Wait + Clock>(&mut self, rt: &R, deadline: Instant) -> Option<Mail> {
+    pub fn wait_until<R: Wait + Clock>(&mut self, rt: &R, deadline: Instant) -> Option<WorkerMail> {
         self.mailbox.recv_deadline(rt, deadline).ok()
     }
 
     /// The mail that lies ready, if any does.
-    pub fn mail<R: Wait>(&mut self, rt: &R) -> Option<Mail> {
+    pub fn mail<R: Wait>(&mut self, rt: &R) -> Option<WorkerMail> {
         self.mailbox.try_recv(rt).ok()
     }
 
     /// Whether a process is about to end.
     fn is_ending(&self) -> bool {
-        !self.killed.is_empty() || self.jobs.iter().any(|job| job.is_ending())
+        !self.killed.is_empty() || self.running.iter().any(|process| process.is_ending())
     }
 
     /// Starts a command. The line of its words is told first, and where the process can't be started
@@ -116,7 +117,7 @@ impl Processes {
     where
         R: Host,
     {
-        self.jobs.reserve(1)?;
+        self.running.reserve(1)?;
         self.killed.reserve(1)?;
         let (permits, given) = permits(rt, alloc)?;
         let child = match started(rt, alloc, words) {
@@ -124,33 +125,38 @@ impl Processes {
             Err(why) => return Ok(Some(why)),
         };
         self.started = self.started.wrapping_add(1);
-        let mut job = Job {
+        let mut process = RunningCommand {
             number: self.started,
-            command,
             child,
-            pipes: Pipes::open(),
+            pipes: Pipes::open(command),
             texts: VecDeque::new(alloc),
             permits,
             code: None,
         };
-        if self.watches(rt, alloc, &mut job, &given) {
-            self.jobs.push(job)?;
+        if self.watches(rt, alloc, &mut process, &given) {
+            self.running.push(process)?;
             return Ok(None);
         }
-        self.kill(job)?;
+        self.kill(process)?;
         Ok(Some(StartFault::NoThread))
     }
 
     /// Starts the threads of a process's pipes, or answers that one of them can't be started.
-    fn watches<R>(&self, rt: &R, alloc: Global, job: &mut Job, permits: &Receiver<()>) -> bool
+    fn watches<R>(
+        &self,
+        rt: &R,
+        alloc: Global,
+        process: &mut RunningCommand,
+        permits: &Receiver<()>,
+    ) -> bool
     where
         R: Host,
     {
-        let (output, errors) = (job.child.stdout.take(), job.child.stderr.take());
+        let (output, errors) = (process.child.stdout.take(), process.child.stderr.take());
         match (output, errors) {
             (Some(output), Some(errors)) => {
-                self.read_pipe(rt, alloc, job.number, permits, Letter::O, output)
-                    && self.read_pipe(rt, alloc, job.number, permits, Letter::E, errors)
+                self.read_pipe(rt, alloc, process, permits, Letter::O, output)
+                    && self.read_pipe(rt, alloc, process, permits, Letter::E, errors)
             }
             _ => false,
         }
@@ -161,7 +167,7 @@ impl Processes {
         &self,
         rt: &R,
         alloc: Global,
-        job: u64,
+        process: &RunningCommand,
         permits: &Receiver<()>,
         letter: Letter,
         pipe: P,
@@ -176,7 +182,8 @@ impl Processes {
             return false;
         };
         let reader = PipeReader {
-            job,
+            process: process.number,
+            command: process.pipes.command(),
             letter,
             owner,
             permits,
@@ -187,23 +194,27 @@ impl Processes {
     }
 
     /// Keeps what a pipe's thread tells until its command's turn.
-    pub fn keep(&mut self, piece: Piece, outbox: &mut Outbox) -> Result<(), AllocError> {
-        let Some(at) = self.jobs.iter().position(|job| job.number == piece.job) else {
+    pub fn keep(&mut self, told: ProcessEvent, outbox: &mut Outbox) -> Result<(), AllocError> {
+        let Some(at) = self
+            .running
+            .iter()
+            .position(|process| process.number == told.process)
+        else {
             return Ok(());
         };
-        let job = &mut self.jobs[at];
-        match piece.part {
-            Part::Text(said) => match job.texts.push_back(said) {
+        let process = &mut self.running[at];
+        match told.event {
+            PipeEvent::Text(said) => match process.texts.push_back(said) {
                 Ok(()) => Ok(()),
                 Err(_) => Err(AllocError),
             },
-            Part::End(end) => {
-                job.pipes.end(end);
+            PipeEvent::End(end) => {
+                process.pipes.end(end);
                 self.pause_ms = FIRST_PAUSE_MS;
                 Ok(())
             }
-            Part::NoMemory => {
-                let command = job.command;
+            PipeEvent::NoMemory => {
+                let command = process.pipes.command();
                 self.cut_short(command, Ending::NoMemory, outbox)
             }
         }
@@ -220,10 +231,10 @@ impl Processes {
         may_say: bool,
         outbox: &mut Outbox,
     ) -> Result<(), AllocError>
-        ensures { OnOk result (TellsTurn (turn_of may_say self.old.jobs.items)
-            self.old.jobs.items self.new.jobs.items outbox.old outbox.new) }
+        ensures { OnOk result (TellsTurn (turn_of may_say self.old.running.items)
+            self.old.running.items self.new.running.items outbox.old outbox.new) }
     {
-        match whose_turn(alloc, self.jobs.as_slice(), may_say)? {
+        match whose_turn(alloc, self.running.as_slice(), may_say)? {
             Some(at) => self.turn(rt, alloc, at, outbox),
             None => Ok(()),
         }
@@ -233,9 +244,9 @@ impl Processes {
     pub fn look(&mut self) {
         self.killed
             .retain_mut(|child| matches!(child.try_wait(), Ok(None)));
-        for job in self.jobs.iter_mut() {
-            if job.is_ending() {
-                job.look();
+        for process in self.running.iter_mut() {
+            if process.is_ending() {
+                process.look();
             }
         }
     }
@@ -249,23 +260,23 @@ impl Processes {
         at: usize,
         outbox: &mut Outbox,
     ) -> Result<(), AllocError>
-        requires within { at < length self.old.jobs.items }
-        requires ready { IsReady at self.old.jobs.items }
-        ensures { OnOk result (TellsAt at self.old.jobs.items self.new.jobs.items
+        requires within { at < length self.old.running.items }
+        requires ready { IsReady at self.old.running.items }
+        ensures { OnOk result (TellsAt at self.old.running.items self.new.running.items
             outbox.old outbox.new) }
     {
-        let mut job = self.jobs.remove(at);
-        let command = job.command;
-        let Some(said) = job.texts.pop_front() else {
-            let Some(code) = job.code.take() else {
+        let mut process = self.running.remove(at);
+        let command = process.pipes.command();
+        let Some(said) = process.texts.pop_front() else {
+            let Some(code) = process.code.take() else {
                 unreachable!()
             };
-            return outbox.close(alloc, command, code);
+            return outbox.close(alloc, code);
         };
         // It fails where both pipes have ended, and then nobody asks for it.
-        let _ = job.permits.send(rt, ());
-        self.jobs.push(job)?;
-        outbox.push(Item::Text { command, said })
+        let _ = process.permits.send(rt, ());
+        self.running.push(process)?;
+        outbox.push(OutboxEntry::Text { command, said })
     }
 
     /// Ends a command at once: its process is killed, and how it ended is told in place of all that
@@ -275,19 +286,25 @@ impl Processes {
         command: u64,
         ending: Ending,
         outbox: &mut Outbox,
-    ) -> Result<(), AllocError> {
+    ) -> Result<(), AllocError>
+        requires { IsOwnEnding command ending }
+    {
         self.killed.reserve(1)?;
         outbox.cut_short(command, ending)?;
-        if let Some(at) = self.jobs.iter().position(|job| job.command == command) {
-            let job = self.jobs.remove(at);
-            self.kill(job)?;
+        if let Some(at) = self
+            .running
+            .iter()
+            .position(|process| process.pipes.command() == command)
+        {
+            let process = self.running.remove(at);
+            self.kill(process)?;
         }
         Ok(())
     }
 
     /// Kills a process, and hears its pipes no more.
-    fn kill(&mut self, job: Job) -> Result<(), AllocError> {
-        let Job { mut child, .. } = job;
+    fn kill(&mut self, process: RunningCommand) -> Result<(), AllocError> {
+        let RunningCommand { mut child, .. } = process;
         // A child that can't be killed has ended, or runs as another user.
         let _ = child.kill();
         self.killed.push(child)?;
@@ -302,8 +319,8 @@ impl Processes {
     /// Want of memory for the list of those that were killed. All are killed all the same.
     pub fn kill_all(&mut self, alloc: Global) -> Result<(), AllocError> {
         let mut done = Ok(());
-        for job in mem::replace(&mut self.jobs, Vec::new(alloc)) {
-            if let Err(refused) = self.kill(job) {
+        for process in mem::replace(&mut self.running, Vec::new(alloc)) {
+            if let Err(refused) = self.kill(process) {
                 done = Err(refused);
             }
         }
@@ -313,22 +330,30 @@ impl Processes {
 
 /// The place of the command that is told of next, if any is. One that runs alone may say a text at
 /// any time.
-fn whose_turn(alloc: Global, jobs: &[Job], may_say: bool) -> Result<Option<usize>, AllocError>
-    ensures turn { IfOk result (λ turn. turn ≡ turn_of may_say jobs.now) }
-    ensures within { IfOk result (λ turn. IfSome turn (λ at. at < length jobs.now)) }
+fn whose_turn(
+    alloc: Global,
+    running: &[RunningCommand],
+    may_say: bool,
+) -> Result<Option<usize>, AllocError>
+    ensures turn { IfOk result (λ turn. turn ≡ turn_of may_say running.now) }
+    ensures within { IfOk result (λ turn. IfSome turn (λ at. at < length running.now)) }
 {
-    let may_say = may_say || jobs.len() < 2;
-    let commands = what_is_ready(alloc, jobs, may_say)?;
+    let may_say = may_say || running.len() < 2;
+    let commands = what_is_ready(alloc, running, may_say)?;
     Ok(next_turn(commands.as_slice()))
 }
 
 /// What each command has to tell, where texts may be said.
-fn what_is_ready(alloc: Global, jobs: &[Job], may_say: bool) -> Result<Vec<Ready>, AllocError>
-    ensures { IfOk result (λ v. v.items ≡ map (ready_of may_say) jobs.now) }
+fn what_is_ready(
+    alloc: Global,
+    running: &[RunningCommand],
+    may_say: bool,
+) -> Result<Vec<Ready>, AllocError>
+    ensures { IfOk result (λ v. v.items ≡ map (ready_of may_say) running.now) }
 {
     let mut commands = Vec::new(alloc);
-    for job in jobs {
-        commands.push(job.ready(may_say))?;
+    for process in running {
+        commands.push(process.ready(may_say))?;
     }
     Ok(commands)
 }

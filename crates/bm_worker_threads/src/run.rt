@@ -3,23 +3,25 @@
 ghost use Rattle.std.specs.Prelude.{◌∷◌, []};
 ghost use Rattle.bm_link.specs.Texts.{AreShort};
 
+use crate::build_worker::BuildWorker;
 use crate::closing::close;
 use crate::connection::{Connection, ConnectionEnd};
 use crate::host::Host;
+use crate::processes::Processes;
 use crate::ready_stream::ReadyStream;
-use crate::serving::Work;
 use crate::socket_watch::SocketWatch;
 use bm_link::WorkerLink;
 use std::alloc::{AllocGlobal, Global};
 use std::io::{Read, Write};
 use std::net::{OpenStream, Shutdown};
-use std::process::{Processes, SystemProcess};
+use std::process::{Processes as StartsProcesses, SystemProcess};
 use std::random::RandomSource;
 use std::sync::atomic::AtomicU64;
 use std::sync::{Arc, Wait};
 use std::thread;
 use std::thread::Threads;
 use std::time::{Clock, Duration};
+use tungstenite::RandomKeys;
 
 /// How long the worker waits before it connects again.
 const TICK_MS: u64 = 10;
@@ -44,6 +46,9 @@ pub struct Login<'a> {
     pub session: Option<&'a str>,
 }
 
+/// A worker whose links are over streams that are read where they are ready.
+type LinkedWorker<S, R> = BuildWorker<ReadyStream<S>, RandomKeys<R>>;
+
 /// Works for the master that `dial` connects with, and answers the exit status: 0 after a shutdown
 /// or a close frame, 1 after 10 failed tries to connect again or want of memory. `dial` is told for
 /// how long it may try, and answers None for a failed try. A read of its streams is to wait for some
@@ -57,7 +62,7 @@ where
         + Clock
         + RandomSource
         + AllocGlobal
-        + Processes<Started = SystemProcess>
+        + StartsProcesses<Started = SystemProcess>
         + Copy
         + Drop
         + Send
@@ -72,17 +77,23 @@ where
         password,
         session,
     };
-    let Ok(mut work) = Work::new(alloc) else {
+    let Ok(mut worker) = BuildWorker::new(alloc) else {
         return GIVEN_UP;
     };
-    let status = work_on(rt, alloc, &mut work, dial, login);
+    let status = work_on(rt, alloc, &mut worker, dial, login);
     // Where memory is wanting they are killed all the same.
-    let _ = work.crew.kill_all(alloc);
+    let _ = worker.processes.kill_all(alloc);
     status
 }
 
 /// Connections in turn, until the master ends the work or no connection comes to be.
-fn work_on<S, D, R>(rt: &R, alloc: Global, work: &mut Work, mut dial: D, login: Login<'_>) -> u8
+fn work_on<S, D, R>(
+    rt: &R,
+    alloc: Global,
+    worker: &mut LinkedWorker<S, R>,
+    mut dial: D,
+    login: Login<'_>,
+) -> u8
 where
     S: Read + Write + OpenStream + Drop + Send + 'static,
     D: FnMut(Duration) -> Option<S>,
@@ -95,7 +106,7 @@ where
     for _ in rt.forever() {
         number = number.wrapping_add(1);
         let end = match dial(limit) {
-            Some(stream) => connected(rt, alloc, work, number, stream, login),
+            Some(stream) => connected(rt, alloc, worker, number, stream, login),
             None => ConnectionEnd::Lost,
         };
         match end {
@@ -103,10 +114,10 @@ where
             ConnectionEnd::NoMemory => return GIVEN_UP,
             ConnectionEnd::Lost => {}
         }
-        if work.is_known {
+        if worker.is_known {
             limit = Duration::from_secs(RETRY_LIMIT_SECONDS);
         }
-        if !work.tries.again() {
+        if !worker.tries.again() {
             return GIVEN_UP;
         }
         thread::sleep(rt, Duration::from_millis(TICK_MS));
@@ -118,7 +129,7 @@ where
 fn connected<S, R>(
     rt: &R,
     alloc: Global,
-    work: &mut Work,
+    worker: &mut LinkedWorker<S, R>,
     number: u64,
     stream: S,
     login: Login<'_>,
@@ -128,25 +139,27 @@ where
     R: Host + RandomSource + Drop,
     requires { AreShort (login.name.now ∷ login.password.now ∷ []) }
 {
-    let Some((connection, ready, watch)) = watched(alloc, work, number, stream) else {
+    let Some((connection, ready, watch)) = watched(alloc, &worker.processes, number, stream) else {
         return ConnectionEnd::Lost;
     };
     let joined = WorkerLink::connect(alloc, *rt, ready, login.name, login.password, login.session);
-    let Ok((mut link, attached)) = joined else {
+    let Ok((link, attached)) = joined else {
         return ConnectionEnd::Lost;
     };
     connection.allow_reads(0);
-    work.is_known = true;
+    worker.is_known = true;
     let handle = *rt;
     // It ends once the stream is shut down and nobody can ask it any more.
     if thread::spawn(rt, move || watch.run(&handle)).is_err() {
         return ConnectionEnd::Lost;
     }
-    let end = work.serve(rt, alloc, &connection, &mut link, attached);
-    if end == ConnectionEnd::Shutdown {
-        close(rt, &mut link);
+    let (end, link) = worker.serve(rt, alloc, &connection, link, attached);
+    if let Some(mut link) = link {
+        if end == ConnectionEnd::Shutdown {
+            close(rt, &mut link);
+        }
+        let _ = link.get_ref().get_ref().shutdown(Shutdown::Both);
     }
-    let _ = link.get_ref().get_ref().shutdown(Shutdown::Both);
     end
 }
 
@@ -154,7 +167,7 @@ where
 /// system or memory is wanting.
 fn watched<S: OpenStream + Drop>(
     alloc: Global,
-    work: &Work,
+    processes: &Processes,
     number: u64,
     stream: S,
 ) -> Option<(Connection, ReadyStream<S>, SocketWatch<S>)> {
@@ -164,7 +177,7 @@ fn watched<S: OpenStream + Drop>(
     let watch = SocketWatch {
         connection: number,
         stream: stream.try_clone().ok()?,
-        owner: work.crew.owner.clone().ok()?,
+        owner: processes.owner.clone().ok()?,
         asks: asked,
     };
     let connection = Connection {

@@ -1,6 +1,6 @@
 //! A connection's thread: it tells where the socket has something to read, or was silent for long.
 
-use crate::mailbox::Mail;
+use crate::mailbox::WorkerMail;
 use bm_outbox::{Keepalive, after_silence};
 use crossbeam_channel::{Receiver, Sender};
 use std::io::ErrorKind;
@@ -14,7 +14,7 @@ use std::time::{Clock, Instant};
 pub struct SocketWatch<S> {
     pub connection: u64,
     pub stream: S,
-    pub owner: Sender<Mail>,
+    pub owner: Sender<WorkerMail>,
     /// Each of these asks it to look again.
     pub asks: Receiver<()>,
 }
@@ -36,14 +36,14 @@ impl<S: OpenStream + Drop> SocketWatch<S> {
         let mut has_pinged = false;
         for _ in rt.forever() {
             if !is_silent(&self.stream) {
-                return self.tell(rt, Mail::Readable(self.connection));
+                return self.tell(rt, WorkerMail::Readable(self.connection));
             }
             let next = after_silence(seconds_since(rt, begun), has_pinged);
             if next == Keepalive::Wait {
                 continue;
             }
             has_pinged = true;
-            let is_heard = self.tell(rt, Mail::Silent(self.connection, next));
+            let is_heard = self.tell(rt, WorkerMail::Silent(self.connection, next));
             if !is_heard || next == Keepalive::GiveUp {
                 return is_heard;
             }
@@ -52,7 +52,7 @@ impl<S: OpenStream + Drop> SocketWatch<S> {
     }
 
     /// Tells its owner; or answers that nobody hears it.
-    fn tell<R: Wait>(&self, rt: &R, mail: Mail) -> bool {
+    fn tell<R: Wait>(&self, rt: &R, mail: WorkerMail) -> bool {
         self.owner.send(rt, mail).is_ok()
     }
 }

@@ -4,7 +4,7 @@
 
 mod serving;
 
-use bm_replay::{Job, read_job, replay_run, tell_usage};
+use bm_replay::{MasterArguments, read_arguments, replay_run, tell_usage};
 use serving::serve_file;
 use std::alloc::{AllocError, AllocGlobal};
 use std::process::ExitCode;
@@ -16,11 +16,11 @@ fn main(rt: HostRuntime) -> ExitCode {
         return ExitCode::FAILURE;
     };
     let (input, output, faults) = (rt.stdin(), rt.stdout(), rt.stderr());
-    ExitCode::from(match read_job(words.as_slice()) {
-        Some(Job::Replay { capacity }) => {
+    ExitCode::from(match read_arguments(words.as_slice()) {
+        Some(MasterArguments::Replay { capacity }) => {
             replay_run(rt.alloc(), capacity.items, input, output, faults)
         }
-        Some(Job::Serve { file }) => serve_file(&rt, file, input, output, faults),
+        Some(MasterArguments::Serve { file }) => serve_file(&rt, file, input, output, faults),
         None => tell_usage(faults),
     })
 }

@@ -2,8 +2,8 @@
 
 use bm_config::{Config, ConfigFault, read_config};
 use bm_master_threads::serve;
-use bm_replay::read_up_to;
 use bm_operator::{REFUSED, status};
+use bm_replay::{MOST_BYTES, read_up_to};
 use std::alloc::AllocGlobal;
 use std::fs::Files;
 use std::io::{ErrorKind, Read, Write};
@@ -15,11 +15,8 @@ use std::thread::Threads;
 use std::time::Clock;
 use std::{fs, str};
 
-/// A configuration may have so many bytes.
-const MOST_BYTES: usize = 67_108_864;
-
 /// Why there is no configuration.
-enum Refusal {
+enum ConfigRefusal {
     /// The file can't be read.
     File,
     /// The text is no TOML.
@@ -29,36 +26,36 @@ enum Refusal {
 }
 
 /// The configuration in a file.
-fn config_in<R: Files + AllocGlobal>(rt: &R, path: &str) -> Result<Config, Refusal> {
+fn config_in<R: Files + AllocGlobal>(rt: &R, path: &str) -> Result<Config, ConfigRefusal> {
     let alloc = rt.alloc();
     let Ok(mut file) = fs::open(rt, path) else {
-        return Err(Refusal::File);
+        return Err(ConfigRefusal::File);
     };
     let bytes = match read_up_to(MOST_BYTES, alloc, &mut file) {
         Ok(bytes) => bytes,
         Err(error) if error.kind() == ErrorKind::OutOfMemory => {
-            return Err(Refusal::Fault(ConfigFault::Mem));
+            return Err(ConfigRefusal::Fault(ConfigFault::Mem));
         }
-        Err(_) => return Err(Refusal::File),
+        Err(_) => return Err(ConfigRefusal::File),
     };
     let Ok(text) = str::from_utf8(bytes.as_slice()) else {
-        return Err(Refusal::Syntax);
+        return Err(ConfigRefusal::Syntax);
     };
     match read_config(alloc, text) {
         Ok(config) => Ok(config),
-        Err(fault) => Err(Refusal::Fault(fault)),
+        Err(fault) => Err(ConfigRefusal::Fault(fault)),
     }
 }
 
 /// Tells why there is no configuration, and answers the exit status.
-fn refuse<F: Write + Drop>(refusal: Refusal, faults: F) -> u8 {
+fn refuse<F: Write + Drop>(refusal: ConfigRefusal, faults: F) -> u8 {
     let mut faults = faults;
     // Where it can't be told, the status still says that the configuration is refused.
     let _ = match refusal {
-        Refusal::File => writeln!(faults, "bad configuration: file"),
-        Refusal::Syntax => writeln!(faults, "bad configuration: syntax"),
-        Refusal::Fault(ConfigFault::Mem) => return status(&[], true),
-        Refusal::Fault(fault) => writeln!(faults, "bad configuration: {fault}"),
+        ConfigRefusal::File => writeln!(faults, "bad configuration: file"),
+        ConfigRefusal::Syntax => writeln!(faults, "bad configuration: syntax"),
+        ConfigRefusal::Fault(ConfigFault::Mem) => return status(&[], true),
+        ConfigRefusal::Fault(fault) => writeln!(faults, "bad configuration: {fault}"),
     };
     REFUSED
 }

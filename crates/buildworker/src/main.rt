@@ -1,7 +1,7 @@
 //! The build worker: logs in to a build master and runs the commands that it is told.
 #![tactic(auto)]
 
-use bm_worker_threads::{USAGE, new_session, read_job, words, work_run};
+use bm_worker_threads::{USAGE, new_session, read_arguments, words, work_run};
 use std::net::{Net, TcpStream, ToSocketAddrs};
 use std::process::ExitCode;
 use std::thread;
@@ -29,7 +29,7 @@ fn main(rt: HostRuntime) -> ExitCode {
     let Ok(words) = words(&rt) else {
         return ExitCode::FAILURE;
     };
-    let Some(job) = read_job(words.as_slice()) else {
+    let Some(arguments) = read_arguments(words.as_slice()) else {
         // Where the usage can't be told, the status still says that the words are wrong.
         let _ = eprintln!(rt; "{USAGE}");
         return ExitCode::from(WRONG_WORDS);
@@ -38,8 +38,8 @@ fn main(rt: HostRuntime) -> ExitCode {
         return ExitCode::FAILURE;
     };
     let session = Some(session.as_str());
-    let dial = |limit: Duration| dial(&rt, job.address, limit);
-    ExitCode::from(work_run(&rt, dial, job.name, job.password, session))
+    let dial = |limit: Duration| dial(&rt, arguments.address, limit);
+    ExitCode::from(work_run(&rt, dial, arguments.name, arguments.password, session))
 }
 
 /// A connection with the first address that a host's name stands for. It is tried again and again for

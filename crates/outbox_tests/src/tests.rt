@@ -53,7 +53,7 @@ fn pushes(alloc: Global, outbox: &mut Outbox) -> bool {
         letter: Letter::O,
         text,
     };
-    outbox.push(Item::Text { command: 0, said }).is_ok()
+    outbox.push(OutboxEntry::Text { command: 0, said }).is_ok()
 }
 
 /// What comes of telling what waits first.
@@ -71,11 +71,11 @@ enum Step {
 
 fn next(alloc: Global, worker: &mut Worker, outbox: &mut Outbox) -> Step {
     match outbox.tell(alloc, worker) {
-        Ok(Told::Nothing) => Step::Nothing,
-        Ok(Told::Full) => Step::Full,
-        Ok(Told::Passed) => Step::Passed,
-        Ok(Told::Text(sent)) => Step::Text(sent.seq),
-        Ok(Told::End(requests)) => Step::End(requests.len()),
+        Ok(Progress::Nothing) => Step::Nothing,
+        Ok(Progress::Full) => Step::Full,
+        Ok(Progress::Passed) => Step::Passed,
+        Ok(Progress::Text(sent)) => Step::Text(sent.seq),
+        Ok(Progress::End(requests)) => Step::End(requests.len()),
         Err(_) => Step::NoMemory,
     }
 }
@@ -162,7 +162,7 @@ fn says(alloc: Global, texts: &mut PipeTexts, bytes: &[u8], count: usize) -> boo
 
 /// Whether so many texts are said of the first bytes of a pipe.
 fn says_first(alloc: Global, bytes: &[u8], count: usize) -> bool {
-    let mut texts = PipeTexts::new(alloc, Letter::E);
+    let mut texts = PipeTexts::new(alloc, 0, Letter::E);
     says(alloc, &mut texts, bytes, count)
 }
 
@@ -185,7 +185,7 @@ fn says_last(texts: &mut PipeTexts, want: &str) -> Option<bool> {
 
 /// Whether a byte that ends no line is said at the end of a pipe alone.
 fn keeps_a_rest(alloc: Global) -> bool {
-    let mut texts = PipeTexts::new(alloc, Letter::O);
+    let mut texts = PipeTexts::new(alloc, 0, Letter::O);
     says(alloc, &mut texts, b"d", 0) && says_last(&mut texts, "d") == Some(true)
 }
 
@@ -221,7 +221,7 @@ fn opens(alloc: Global, outbox: &mut Outbox, words: &[&str]) -> bool {
 /// Whether the next request is an update that ends with these bytes.
 fn ends_with(alloc: Global, worker: &mut Worker, outbox: &mut Outbox, last: &[u8]) -> bool {
     match outbox.tell(alloc, worker) {
-        Ok(Told::Text(sent)) => sent.bytes.as_slice().ends_with(last),
+        Ok(Progress::Text(sent)) => sent.bytes.as_slice().ends_with(last),
         _ => false,
     }
 }
@@ -233,18 +233,27 @@ static LASTS: [&[u8]; 3] = [
     b"\xa6header\xd9\x23program finished with exit code -1\n",
 ];
 
-/// The exit code that is told of a process that printed nothing and gave this one.
+/// The exit code that is told of command 0, whose process printed nothing and gave this one.
 fn exit_code(alloc: Global, code: Option<i32>) -> ExitCode {
-    let mut pipes = Pipes::open();
-    pipes.end(PipeTexts::new(alloc, Letter::E).end());
-    pipes.end(PipeTexts::new(alloc, Letter::O).end());
+    let mut pipes = Pipes::open(0);
+    pipes.end(PipeTexts::new(alloc, 0, Letter::E).end());
+    pipes.end(PipeTexts::new(alloc, 0, Letter::O).end());
     pipes.exit_code(code)
+}
+
+#[test]
+fn end_of_another_command_ends_no_pipe(rt: HostRuntime) {
+    let alloc = rt.alloc();
+    let mut pipes = Pipes::open(0);
+    pipes.end(PipeTexts::new(alloc, 0, Letter::E).end());
+    pipes.end(PipeTexts::new(alloc, 1, Letter::O).end());
+    assert!(rt; !pipes.are_over());
 }
 
 fn speaks(alloc: Global, outbox: &mut Outbox) -> bool {
     opens(alloc, outbox, &["echo", "z"])
         && pushes(alloc, outbox)
-        && outbox.close(alloc, 0, exit_code(alloc, None)).is_ok()
+        && outbox.close(alloc, exit_code(alloc, None)).is_ok()
 }
 
 fn ends_with_each(
@@ -285,7 +294,7 @@ fn fails(alloc: Global, outbox: &mut Outbox) -> bool {
 /// Whether the next request is the only one of an end, by this fault.
 fn ends_by(alloc: Global, worker: &mut Worker, outbox: &mut Outbox, fault: &[u8]) -> bool {
     match outbox.tell(alloc, worker) {
-        Ok(Told::End(requests)) => match requests.as_slice() {
+        Ok(Progress::End(requests)) => match requests.as_slice() {
             [only] => only.bytes.as_slice().ends_with(fault),
             _ => false,
         },

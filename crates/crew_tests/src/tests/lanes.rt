@@ -3,11 +3,11 @@ ghost use Rattle.std.specs.Prelude.{◌≡◌};
 
 use super::cut::{Cut, Unit};
 use super::{dial, waiting};
-use bm_worker_threads::{ReadyStream, work_run};
 use bm_lane::{Blank, Drained, Ends, Yard, open};
 use bm_lines::{STDIO, Text};
-use bm_link::{Ask, ResumeState, MasterLink, User, are_short};
+use bm_link::{Ask, MasterLink, ResumeState, User, are_short};
 use bm_session::Results;
+use bm_worker_threads::{ReadyStream, work_run};
 use bumpalo::Bump;
 use std::alloc::{AllocError, AllocGlobal, Global};
 use std::marker::Brand;
@@ -286,7 +286,11 @@ where
 }
 
 /// Whether a desk served a worker whose first connections are cut so, and the worker then left.
-fn has_served<Y: Yard, W: Wait + Drop, R>(rt: R, desk: &mut LaneState<Y, W>, cuts: Cuts) -> Option<bool>
+fn has_served<Y: Yard, W: Wait + Drop, R>(
+    rt: R,
+    desk: &mut LaneState<Y, W>,
+    cuts: Cuts,
+) -> Option<bool>
 where
     R: Wait
         + Threads

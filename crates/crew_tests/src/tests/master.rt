@@ -4,10 +4,10 @@
 ghost use Rattle.std.specs.Prelude.{◌<◌, ◌^◌};
 
 use super::waiting;
-use bm_worker_threads::ReadyStream;
 use bm_lines::{Letter, Text};
 use bm_msg::{Field, Message, Numbered, Request, read, write_answer, write_request};
 use bm_value::{Items, Pair, Pairs, Value, decode_whole};
+use bm_worker_threads::ReadyStream;
 use std::alloc::Global;
 use std::net::TcpStream;
 use tungstenite::{Message as Frame, NoMask, WebSocket};

@@ -4,8 +4,8 @@
 //! then, and nothing else is told; and the same call again does as ever. In the gate no request is
 //! refused, and no call is made twice.
 
-use bm_worker_threads::{Mail, Part, Piece, PipeReader, new_session, words};
 use bm_lines::Letter;
+use bm_worker_threads::{PipeEvent, PipeReader, ProcessEvent, WorkerMail, new_session, words};
 use crossbeam_channel::{Receiver, bounded};
 use std::alloc::{AllocGlobal, Global};
 use std::io;
@@ -70,22 +70,22 @@ enum Outcome {
     Wrongly,
 }
 
-/// How a pipe was told to its end by this piece, after so many of its texts. None where the piece is
+/// How a pipe was told to its end by this event, after so many of its texts. None where the event is
 /// the next of them.
-fn outcome_by(piece: &Piece, told: usize) -> Option<Outcome> {
-    match &piece.part {
-        Part::Text(said) if TEXTS.get(told) == Some(&said.text.as_str()) => None,
-        Part::End(_) if told == TEXTS.len() => Some(Outcome::Ended),
-        Part::NoMemory => Some(Outcome::NoMemory),
+fn outcome_by(told_of: &ProcessEvent, told: usize) -> Option<Outcome> {
+    match &told_of.event {
+        PipeEvent::Text(said) if TEXTS.get(told) == Some(&said.text.as_str()) => None,
+        PipeEvent::End(_) if told == TEXTS.len() => Some(Outcome::Ended),
+        PipeEvent::NoMemory => Some(Outcome::NoMemory),
         _ => Some(Outcome::Wrongly),
     }
 }
 
-/// How a pipe was told by these pieces.
-fn outcome_of<R: Wait>(rt: &R, mail: &Receiver<Mail>) -> Outcome {
+/// How a pipe was told by these events.
+fn outcome_of<R: Wait>(rt: &R, mail: &Receiver<WorkerMail>) -> Outcome {
     for told in 0..=TEXTS.len() {
         let outcome = match mail.try_recv(rt) {
-            Ok(Mail::Piece(piece)) => outcome_by(&piece, told),
+            Ok(WorkerMail::Process(event)) => outcome_by(&event, told),
             _ => Some(Outcome::Wrongly),
         };
         if let Some(outcome) = outcome {
@@ -103,7 +103,8 @@ fn read_by_thread<R: Wait>(rt: &R, alloc: Global) -> Option<Outcome> {
         giver.send(rt, ()).ok()?;
     }
     let reader = PipeReader {
-        job: 1,
+        process: 1,
+        command: 0,
         letter: Letter::O,
         owner,
         permits,

@@ -1,6 +1,6 @@
 //! The words of the command line.
 
-use bm_worker_threads::read_job;
+use bm_worker_threads::read_arguments;
 use std::alloc::{AllocError, Global};
 
 fn words_of(alloc: Global, words: &[&str]) -> Result<Vec<String>, AllocError> {
@@ -14,7 +14,7 @@ fn words_of(alloc: Global, words: &[&str]) -> Result<Vec<String>, AllocError> {
 /// Whether it is as wanted whether the words ask for work.
 fn asks(alloc: Global, words: &[&str], want: bool) -> bool {
     match words_of(alloc, words) {
-        Ok(words) => read_job(words.as_slice()).is_some() == want,
+        Ok(words) => read_arguments(words.as_slice()).is_some() == want,
         Err(_) => false,
     }
 }

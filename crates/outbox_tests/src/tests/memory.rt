@@ -6,7 +6,7 @@
 
 use super::{exit_code, opens, pushes, says, says_last, worker_of};
 use bm_lines::Letter;
-use bm_outbox::{Ending, Outbox, PipeTexts, Told, begin};
+use bm_outbox::{Ending, Outbox, PipeTexts, Progress, begin};
 use bm_work::{Sent, Worker};
 use std::alloc::Global;
 use std::test::Fail;
@@ -63,8 +63,8 @@ fn are(requests: &[Sent], want: &[&[u8]]) -> bool {
 /// Whether these requests are told next. None where memory was wanting for that.
 fn tells(alloc: Global, worker: &mut Worker, outbox: &mut Outbox, want: &[&[u8]]) -> Option<bool> {
     match outbox.tell(alloc, worker) {
-        Ok(Told::Text(sent)) => Some(are(&[sent], want)),
-        Ok(Told::End(requests)) => Some(are(requests.as_slice(), want)),
+        Ok(Progress::Text(sent)) => Some(are(&[sent], want)),
+        Ok(Progress::End(requests)) => Some(are(requests.as_slice(), want)),
         Ok(_) => Some(false),
         Err(_) => None,
     }
@@ -122,7 +122,7 @@ enum Outcome {
 
 /// How the end of a command is told whose texts were.
 fn outcome_at_close(alloc: Global, worker: &mut Worker, outbox: &mut Outbox) -> Outcome {
-    let (outcome, is_told) = if outbox.close(alloc, 0, exit_code(alloc, Some(3))).is_ok() {
+    let (outcome, is_told) = if outbox.close(alloc, exit_code(alloc, Some(3))).is_ok() {
         let is_told = tells_again(alloc, worker, outbox, &[CLOSED])
             && tells_again(alloc, worker, outbox, &[EXIT_CODE, ENDED])
             && resends_again(alloc, worker, outbox, &WHOLE);
@@ -202,7 +202,7 @@ fn is_said_again(texts: &mut PipeTexts) -> bool {
 /// Whether a pipe says at its end the line that doesn't end. None where it doesn't keep that, as
 /// where memory was wanting for it.
 fn keeps_a_rest(alloc: Global) -> Option<bool> {
-    let mut texts = PipeTexts::new(alloc, Letter::O);
+    let mut texts = PipeTexts::new(alloc, 0, Letter::O);
     if says(alloc, &mut texts, b"d", 0) {
         Some(is_said_again(&mut texts))
     } else {

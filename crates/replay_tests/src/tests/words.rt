@@ -1,7 +1,7 @@
 //! Words of the command line.
 
 use super::answers_all;
-use bm_replay::{Job, read_job, tell_usage};
+use bm_replay::{MasterArguments, read_arguments, tell_usage};
 use std::alloc::Global;
 
 /// The word, behind those before it.
@@ -24,11 +24,11 @@ fn command_line(alloc: Global, words: &[&str]) -> Option<Vec<String>> {
 
 /// Whether the words ask for a replay of this capacity, and it answers a connection.
 fn is_asked(alloc: Global, words: &[String], wanted: u32) -> bool {
-    match read_job(words) {
-        Some(Job::Replay { capacity }) => {
+    match read_arguments(words) {
+        Some(MasterArguments::Replay { capacity }) => {
             capacity.items == wanted && answers_all(alloc, capacity.items, b"up\n", "ok\n")
         }
-        Some(Job::Serve { .. }) | None => false,
+        Some(MasterArguments::Serve { .. }) | None => false,
     }
 }
 
@@ -50,7 +50,7 @@ fn tells_the_usage(alloc: Global) -> bool {
 /// Whether the words ask for nothing that the program does, and it tells its usage.
 fn is_refused(alloc: Global, words: &[&str]) -> bool {
     match command_line(alloc, words) {
-        Some(owned) => read_job(owned.as_slice()).is_none() && tells_the_usage(alloc),
+        Some(owned) => read_arguments(owned.as_slice()).is_none() && tells_the_usage(alloc),
         None => false,
     }
 }

@@ -1,7 +1,7 @@
 use Rattle.std.proofs.Common.{rules, not}
 use Rattle.std.specs.Prelude.{◌==◌}
 use Rattle.std.proofs.lemmas.Fn.{filter_same}
-use Rattle.bm_outbox.specs.Items.{command_of}
+use Rattle.bm_outbox.specs.OutboxEntries.{command_of}
 use Rattle.bm_outbox.proofs.outbox.give_up.Goals as goal
 
 -- what the closure keeps is of other commands

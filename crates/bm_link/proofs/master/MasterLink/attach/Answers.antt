@@ -8,9 +8,9 @@ returns-in-Ok-clause-up g c =
     rw (← c.self.view_is) (
     takes_up g.S.Write.contents c.in-Some.login
     (record { socket = c.self.inside.socket; stage = c.self.inside.stage; login = c.self.inside.login; kept = c.self.inside.kept; refused = c.self.inside.refused })
-    c.args.reader.now c.args.carry.now c.in-Ok.attached
+    c.args.reader.now c.args.resume_state.now c.in-Ok.attached
     (record { socket = c.take_up.new.socket; stage = stage.Up; login = c.take.new.self; kept = c.self.inside.kept; refused = c.self.inside.refused })
-    c.take_up.new.reader c.take_up.new.carry
+    c.take_up.new.reader c.take_up.new.resume_state
     (sym c.take.ensures.value ∙ c.in-Some.is) c.in-Ok.ensures refl c.take.ensures.after
     )
 
@@ -19,8 +19,8 @@ returns-in-Err-clause-up g c =
     rw (← c.self.view_is) (
     declines_up g.S.Write.contents c.in-Some.login
     (record { socket = c.self.inside.socket; stage = c.self.inside.stage; login = c.self.inside.login; kept = c.self.inside.kept; refused = c.self.inside.refused })
-    c.args.reader.now c.args.carry.now c.in-Err.fault
+    c.args.reader.now c.args.resume_state.now c.in-Err.fault
     (record { socket = c.take_up.new.socket; stage = c.in-Err.stage; login = c.take.new.self; kept = c.self.inside.kept; refused = c.self.inside.refused })
-    c.take_up.new.reader c.take_up.new.carry
+    c.take_up.new.reader c.take_up.new.resume_state
     (sym c.take.ensures.value ∙ c.in-Some.is) c.in-Err.ensures c.take.ensures.after
     )

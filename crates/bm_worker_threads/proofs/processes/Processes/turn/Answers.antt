@@ -4,17 +4,17 @@ use Rattle.bm_worker_threads.proofs.processes.Processes.turn.Goals as goal
 
 -- a command whose turn it is has a text or an end
 pub unreachable-requires : goal.unreachable-requires
-unreachable-requires g c = never_idle c.args.at c.args.self.now.jobs.items c.remove-job.result c.requires.ready c.requires.within c.remove-job.ensures.value
+unreachable-requires g c = never_idle c.args.at c.args.self.now.running.items c.remove-process.result c.requires.ready c.requires.within c.remove-process.ensures.value
     (none_left _ _ c.in_default.ensures.items c.in_default.ensures.rest) (sym c.take.ensures.value ∙ c.in_default-take.is)
 
 -- its end
 pub returns-in_default : goal.returns-in_default
-returns-in_default g c = told_end c.close.result c.args.at c.args.self.now.jobs.items c.remove-job.new.self.items c.remove-job.result c.in-Some-take.code
-    c.args.outbox.now c.close.new.self c.requires.within c.remove-job.ensures.value (none_left _ _ c.in_default.ensures.items c.in_default.ensures.rest)
-    (sym c.take.ensures.value ∙ c.in-Some-take.is) c.remove-job.ensures.items c.close.ensures
+returns-in_default g c = told_end c.close.result c.args.at c.args.self.now.running.items c.remove-process.new.self.items c.remove-process.result c.in-Some-take.code
+    c.args.outbox.now c.close.new.self c.requires.within c.remove-process.ensures.value (none_left _ _ c.in_default.ensures.items c.in_default.ensures.rest)
+    (sym c.take.ensures.value ∙ c.in-Some-take.is) c.remove-process.ensures.items c.close.ensures
 
 -- its first text
 pub returns : goal.returns
-returns g c = told_text c.push-2.result c.args.at c.args.self.now.jobs.items c.remove-job.new.self.items c.push.new.self.items c.remove-job.result c.in-Some.said
-    c.pop_front.new.self c.args.outbox.now c.push-2.new.self c.requires.within c.remove-job.ensures.value c.in-Some.ensures.items c.remove-job.ensures.items
+returns g c = told_text c.push-2.result c.args.at c.args.self.now.running.items c.remove-process.new.self.items c.push.new.self.items c.remove-process.result c.in-Some.said
+    c.pop_front.new.self c.args.outbox.now c.push-2.new.self c.requires.within c.remove-process.ensures.value c.in-Some.ensures.items c.remove-process.ensures.items
     c.in_ok-push.ensures.items c.push-2.ensures.ok

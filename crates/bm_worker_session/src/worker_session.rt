@@ -1,0 +1,172 @@
+//! A worker's session: its core, its outbox and the link that is up.
+
+use crate::sending::{hand_over, tell_on};
+use crate::session_fault::SessionFault;
+use bm_link::{Attached, LinkFault, Turn, WorkerLink};
+use bm_outbox::{Outbox, begin};
+use bm_work::{Sent, WorkAct, Worker};
+use bumpalo::Bump;
+use std::alloc::{AllocError, Global};
+use std::collections::VecDeque;
+use std::io::{Read, Write};
+use std::marker::Model;
+use tungstenite::MaskKeys;
+
+/// A worker's session with its master, which outlives its connections: the core, what waits to be
+/// told, and the link that is up, if one is, with the requests that are still to be sent again by it.
+#[derive(Drop)]
+pub struct WorkerSession<S, K> {
+    core: Worker,
+    /// What waits to be told.
+    pub outbox: Outbox,
+    backlog: VecDeque<Sent>,
+    link: Option<WorkerLink<S, K>>,
+}
+
+impl<S, K> Model for WorkerSession<S, K> {
+    ghost use Rattle.bm_worker_session.specs.Sessions.{SessionState};
+
+    ghost Value = { SessionState S };
+
+    ghost view = { λ w. record {
+      core = w.core;
+      outbox = w.outbox;
+      backlog = w.backlog.items;
+      link = w.link;
+    } };
+}
+
+impl<S: Read + Write + Drop, K: MaskKeys + Drop> WorkerSession<S, K> {
+    ghost use Rattle.std.specs.Prelude.{◌≡◌, [], length, not, ◌==◌, min, ◌-◌, ◌^◌, None};
+    ghost use Rattle.bm_work.specs.Core.{bytes_of, unanswered_requests};
+    ghost use Rattle.bm_worker_session.specs.Sessions.{BeginsBy, HearsBy, PingsBy, SendsNext, is_closed, is_resumed, new_session};
+
+    /// Nothing runs, nothing was said, and no link is up.
+    pub fn new(alloc: Global) -> WorkerSession<S, K>
+        ensures { result ≡ new_session }
+    {
+        WorkerSession {
+            core: Worker::new(alloc),
+            outbox: Outbox::new(alloc),
+            backlog: VecDeque::new(alloc),
+            link: None,
+        }
+    }
+
+    /// Goes on by a new link whose login was answered so: a resumed session's requests without an
+    /// answer are to be sent again by it, and what waits waits on; another one begins anew.
+    ///
+    /// # Errors
+    ///
+    /// Want of memory. Nothing was changed, and the new link is gone.
+    pub fn begin(
+        &mut self,
+        alloc: Global,
+        link: WorkerLink<S, K>,
+        attached: Attached,
+    ) -> Result<(), AllocError>
+        ensures { BeginsBy (is_resumed attached) link self.old result self.new }
+    {
+        let resumed = is_resumed(attached);
+        let requests = begin(alloc, resumed, &mut self.core, &mut self.outbox)?;
+        self.backlog = VecDeque::from(requests);
+        self.link = Some(link);
+        Ok(())
+    }
+
+    /// Sends what is next, and answers whether there was anything: the oldest request that is to be
+    /// sent again; or, where there is none, what waits first in the outbox.
+    ///
+    /// # Errors
+    ///
+    /// After a fault of the link it sends nothing more. What it wasn't handed has no answer, so the
+    /// next link sends it again.
+    pub fn send_next(&mut self, alloc: Global) -> Result<bool, SessionFault>
+        ensures { SendsNext S.contents self.old.backlog self.old.link self.old result self.new }
+    {
+        let Some(link) = &mut self.link else {
+            return Err(SessionFault::Link);
+        };
+        let Some(request) = self.backlog.pop_front() else {
+            return tell_on(alloc, &mut self.core, &mut self.outbox, link);
+        };
+        if hand_over(alloc, link, &[request]) {
+            Ok(true)
+        } else {
+            Err(SessionFault::Link)
+        }
+    }
+
+    /// Hears one message of the link, and answers what it asks: a request of the master is answered,
+    /// and an answer of it frees the place of its request.
+    ///
+    /// # Errors
+    ///
+    /// After any fault the link has failed. `Closed` where none is up.
+    pub fn hear(&mut self, alloc: Global, arena: &mut Bump) -> Result<(Turn, WorkAct), LinkFault>
+        ensures { HearsBy S.remaining S.contents self.old.link self.old result self.new }
+    {
+        match &mut self.link {
+            Some(link) => link.turn(alloc, arena, &mut self.core),
+            None => Err(LinkFault::Closed),
+        }
+    }
+
+    /// Asks the master for a sign of life.
+    ///
+    /// # Errors
+    ///
+    /// After any fault the link has failed. `Closed` where none is up.
+    pub fn ping(&mut self) -> Result<(), LinkFault>
+        ensures { PingsBy S.contents self.old.link self.old result self.new }
+    {
+        match &mut self.link {
+            Some(link) => link.ping(),
+            None => Err(LinkFault::Closed),
+        }
+    }
+
+    /// The link is lost, or given up: the core and what waits stay as they are, and the next link
+    /// goes on with them. It answers the link.
+    pub fn lose(&mut self) -> Option<WorkerLink<S, K>>
+        ensures link { result ≡ self.old.link }
+        ensures kept { self.new ≡ record self.old { backlog = []; link = None } }
+    {
+        self.backlog.clear();
+        self.link.take()
+    }
+
+    /// Whether a close frame of the master was read by the link that is up.
+    pub fn is_closed(&self) -> bool
+        ensures { result ≡ is_closed self.now.link }
+    {
+        match &self.link {
+            Some(link) => link.closed(),
+            None => false,
+        }
+    }
+
+    /// Whether a request has no answer.
+    pub fn has_unanswered(&self) -> bool
+        ensures { result ≡ not (length (unanswered_requests self.now.core) == 0) }
+    {
+        self.core.has_unanswered()
+    }
+
+    /// How many bytes the requests without an answer have together.
+    pub fn unanswered_bytes(&self) -> usize
+        ensures { result ≡ min (bytes_of (unanswered_requests self.now.core)) (2 ^ 64 - 1) }
+    {
+        self.core.unanswered_bytes()
+    }
+}
+
+/// Whether a login that was answered so resumed the session.
+fn is_resumed(attached: Attached) -> bool
+    ensures { result ≡ is_resumed attached }
+{
+    match attached {
+        Attached::Resumed => true,
+        Attached::Plain | Attached::New => false,
+    }
+}

@@ -1,0 +1,118 @@
+//! A build worker, and its loop over a connection: what is told, and what is done about its mail.
+
+use crate::connection::{Connection, ConnectionEnd};
+use crate::host::Host;
+use crate::processes::Processes;
+use bm_link::{Attached, WorkerLink};
+use bm_outbox::Tries;
+use bm_worker_session::{SessionFault, WorkerSession};
+use bumpalo::Bump;
+use std::alloc::{AllocError, Global};
+use std::io::{Read, Write};
+use tungstenite::MaskKeys;
+
+/// How many bytes without an answer there are before texts wait, where several commands run: what is
+/// told of one stands behind those of the others. Ends don't wait for this.
+const MOST_UNANSWERED_BYTES: usize = 262_144;
+
+/// All that outlives a connection: the session, and the processes of its commands.
+#[derive(Drop)]
+pub struct BuildWorker<S, K> {
+    pub(crate) session: WorkerSession<S, K>,
+    pub(crate) processes: Processes,
+    pub(crate) tries: Tries,
+    /// Whether a login was answered.
+    pub(crate) is_known: bool,
+}
+
+impl<S: Read + Write + Drop, K: MaskKeys + Drop> BuildWorker<S, K> {
+    /// Nothing runs, and nothing was said.
+    pub fn new(alloc: Global) -> Result<BuildWorker<S, K>, AllocError> {
+        Ok(BuildWorker {
+            session: WorkerSession::new(alloc),
+            processes: Processes::new(alloc)?,
+            tries: Tries::new(),
+            is_known: false,
+        })
+    }
+
+    /// Serves a connection whose login was answered so, to its end. Its link is lost then, and is
+    /// answered.
+    pub fn serve<R: Host>(
+        &mut self,
+        rt: &R,
+        alloc: Global,
+        connection: &Connection,
+        link: WorkerLink<S, K>,
+        attached: Attached,
+    ) -> (ConnectionEnd, Option<WorkerLink<S, K>>) {
+        let mut arena = Bump::new(alloc);
+        let end = self.work(rt, alloc, &mut arena, connection, link, attached);
+        if end == ConnectionEnd::Shutdown {
+            self.hear_last_answers(rt, alloc, &mut arena, connection);
+        }
+        (end, self.session.lose())
+    }
+
+    /// Goes on with the session, or begins anew, and works until the connection ends.
+    fn work<R: Host>(
+        &mut self,
+        rt: &R,
+        alloc: Global,
+        arena: &mut Bump,
+        connection: &Connection,
+        link: WorkerLink<S, K>,
+        attached: Attached,
+    ) -> ConnectionEnd {
+        if attached != Attached::Resumed && self.processes.kill_all(alloc).is_err() {
+            return ConnectionEnd::NoMemory;
+        }
+        if self.session.begin(alloc, link, attached).is_err() {
+            return ConnectionEnd::NoMemory;
+        }
+        if let Err(end) = self.hear(rt, alloc, arena, connection) {
+            return end;
+        }
+        for _ in rt.forever() {
+            if let Err(end) = self.step(rt, alloc, arena, connection) {
+                return end;
+            }
+        }
+        unreachable!()
+    }
+
+    /// Sends what is next, or else waits for mail; and takes all mail that lies ready. So answers
+    /// count although the connection should not last until all is sent again.
+    fn step<R: Host>(
+        &mut self,
+        rt: &R,
+        alloc: Global,
+        arena: &mut Bump,
+        connection: &Connection,
+    ) -> Result<(), ConnectionEnd> {
+        if !self.send_next(rt, alloc)? {
+            if let Some(mail) = self.processes.wait(rt) {
+                self.take(rt, alloc, arena, connection, mail)?;
+            }
+        }
+        self.take_all(rt, alloc, arena, connection)
+    }
+
+    /// Sends what is next, and answers whether there was anything that can be sent.
+    fn send_next<R: Host>(&mut self, rt: &R, alloc: Global) -> Result<bool, ConnectionEnd> {
+        if self.session.outbox.is_empty() {
+            let may_say = self.session.unanswered_bytes() < MOST_UNANSWERED_BYTES;
+            self.processes.look();
+            let outbox = &mut self.session.outbox;
+            let next = self.processes.next(rt, alloc, may_say, outbox);
+            if next.is_err() {
+                return Err(ConnectionEnd::NoMemory);
+            }
+        }
+        match self.session.send_next(alloc) {
+            Ok(is_some) => Ok(is_some),
+            Err(SessionFault::Link) => Err(ConnectionEnd::Lost),
+            Err(SessionFault::Memory) => Err(ConnectionEnd::NoMemory),
+        }
+    }
+}
