@@ -389,7 +389,7 @@ where
         }
         let results = roster.results(common.alloc);
         Left {
-            benches: roster.into_benches(),
+            benches: roster.into_pools(),
             output,
             results,
             has_failed,
