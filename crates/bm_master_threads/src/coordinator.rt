@@ -178,7 +178,7 @@ where
         }
         let results = queue.results(shared.alloc);
         CoordinatorLeft {
-            pools: queue.into_benches(),
+            pools: queue.into_pools(),
             output,
             results,
             has_failed,
