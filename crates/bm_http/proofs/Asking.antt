@@ -1,11 +1,11 @@
 -- What a request asks for, by what is found of its path.
 use Rattle.std.proofs.Common.{◌≡◌, ℕ, List, Some, None, true, false, cond, bytes_eq, codes, refl, sym, ap}
-use Rattle.bm_http.specs.Numbers.{number_of}
+use Rattle.bm_decimal.specs.Decimals.{number_of}
 use Rattle.bm_http.specs.Paths.{Names}
 use Rattle.bm_http.specs.Targets.{path_of, query_of}
 use Rattle.bm_http.specs.Requests.{Asks, refused, page_asked}
 use Rattle.bm_http.specs.declared.paths.Page.{Page}
-use Rattle.bm_http.specs.declared.refusal.Refusal.TheVariants.{NoSuchPage, MethodNotAllowed}
+use Rattle.bm_http.specs.declared.request_refusal.RequestRefusal.TheVariants.{NoSuchPage, MethodNotAllowed}
 
 pub Asks-missing : (method target : List ℕ) → ((page : Page) (id : List ℕ) → ¬ Names (path_of target) page id) → Asks method target (refused NoSuchPage)
 Asks-missing method target h = (None, h, refl)

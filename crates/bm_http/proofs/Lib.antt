@@ -3,8 +3,8 @@ pub mod Finds
 pub mod Walks
 pub mod Hosts
 pub mod Texts
-pub mod Digits
 pub mod Pairs
 pub mod Asking
 pub mod Once
 pub mod LongAnswers
+pub mod Placing

@@ -1,14 +1,14 @@
 -- The text that a piece is.
 use Rattle.std.specs.Prelude.{ℕ, ◌<◌, ◌≤◌, List, length, ⊤}
 use Rattle.json.specs.Print.{escape}
-use Rattle.bm_http.specs.declared.long_answer.Piece.{Piece}
-use Rattle.bm_http.specs.declared.long_answer.Piece.TheVariants.{Ready, Raw}
+use Rattle.bm_http.specs.declared.long_answer.BodyPiece.{BodyPiece}
+use Rattle.bm_http.specs.declared.long_answer.BodyPiece.TheVariants.{Ready, Raw}
 
-abbrev pub piece_text : Piece → List ℕ
+abbrev pub piece_text : BodyPiece → List ℕ
 piece_text (Ready bytes) = bytes
 piece_text (Raw text) = escape text
 
 -- a piece of lines has a byte of their text at least, and 64 KiB at most
-abbrev pub IsBounded : Piece → Type 0
+abbrev pub IsBounded : BodyPiece → Type 0
 IsBounded (Ready bytes) = ⊤
 IsBounded (Raw text) = (0 < length text) × (length text ≤ 65_536)

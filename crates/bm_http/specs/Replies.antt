@@ -8,8 +8,8 @@ use Rattle.bm_store.specs.declared.chunk.ViewRefusal.{ViewRefusal}
 use Rattle.bm_store.specs.declared.chunk.ViewRefusal.TheVariants.{NoLog, Closed, Mem}
 use Rattle.bm_lane.specs.Ends.{Watched}
 use Rattle.bm_lane.specs.Looks.{GivesChunk, GivesState}
-use Rattle.bm_http.specs.declared.refusal.Refusal.{Refusal}
-use Rattle.bm_http.specs.declared.refusal.Refusal.TheVariants.{NoSuchLog}
+use Rattle.bm_http.specs.declared.request_refusal.RequestRefusal.{RequestRefusal}
+use Rattle.bm_http.specs.declared.request_refusal.RequestRefusal.TheVariants.{NoSuchLog}
 use Rattle.bm_http.specs.Refusals.{status_of, text_of}
 use Rattle.bm_http.specs.Bodies.{contents_text, error_text, log_text}
 use Rattle.bm_http.specs.Requests.{Asked, refused, state, lines, Asks}
@@ -22,7 +22,7 @@ pub record Reply : Type 0 where
 abbrev pub page : List ℕ → Reply
 page text = record { status = 200; body = text }
 
-abbrev pub refusal : Refusal → Reply
+abbrev pub refusal : RequestRefusal → Reply
 refusal r = record { status = status_of r; body = error_text (text_of r) }
 
 abbrev pub unavailable : Reply
@@ -43,7 +43,7 @@ abbrev pub state_reply : ℕ → Name → Result LogState ViewRefusal → Reply
 state_reply id name (Ok s) = page (log_text id name (is_some s.ended) s.lines)
 state_reply id name (Err e) = no_view e
 
--- the viewer of a lane went from one sight to the next, and no other one did
+-- the viewer of a lane went on, and no other one did
 abbrev pub ChangesLane : List Watched → List Watched → ℕ → Watched → Watched → Type 0
 ChangesLane old new lane v w = (slice_get old lane ≡ Some v) × (new ≡ slice_set old lane w)
 

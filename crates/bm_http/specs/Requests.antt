@@ -1,9 +1,9 @@
 -- What a request asks for.
 use Rattle.std.specs.Prelude.{◌≡◌, ℕ, ◌-◌, ◌^◌, bytes_eq, List, codes, Option, Some, None, MatchOption, unwrap_or, if◌then◌else◌}
 use Rattle.bm_lines.specs.Names.{Name, stdio}
-use Rattle.bm_http.specs.declared.refusal.Refusal.{Refusal}
-use Rattle.bm_http.specs.declared.refusal.Refusal.TheVariants.{NoSuchPage, MethodNotAllowed, NoSuchLog, BadNumber}
-use Rattle.bm_http.specs.Numbers.{number_of}
+use Rattle.bm_http.specs.declared.request_refusal.RequestRefusal.{RequestRefusal}
+use Rattle.bm_http.specs.declared.request_refusal.RequestRefusal.TheVariants.{NoSuchPage, MethodNotAllowed, NoSuchLog, BadNumber}
+use Rattle.bm_decimal.specs.Decimals.{number_of}
 use Rattle.bm_http.specs.Paths.{Names}
 use Rattle.bm_http.specs.Targets.{parameter, number_or, path_of, query_of}
 use Rattle.bm_http.specs.declared.paths.Page.{Page}
@@ -12,7 +12,7 @@ use Rattle.bm_http.specs.declared.paths.Page.TheVariants.{Log, Contents}
 -- what a request asks for: the state of a log, or some of its lines; or nothing, where it is
 -- refused as it stands
 pub data Asked : Type 0 where
-  refused : Refusal → Asked
+  refused : RequestRefusal → Asked
   state : ℕ → Name → Asked
   lines : ℕ → Name → ℕ → ℕ → Asked
 

@@ -5,7 +5,7 @@ use Rattle.std.specs.Option.{option_or}
 use Rattle.std.specs.Str.{byte}
 use Rattle.std.specs.Str.Lossy.{utf8_lossy}
 use Rattle.form_urlencoded.specs.Form.{raw_pairs, decode}
-use Rattle.bm_http.specs.Numbers.{number_of}
+use Rattle.bm_decimal.specs.Decimals.{number_of}
 
 -- what follows a beginning, in a text that begins with it
 abbrev pub after_start : List ℕ → List ℕ → Option (List ℕ)

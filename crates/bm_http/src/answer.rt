@@ -5,7 +5,7 @@ ghost use Rattle.bm_http.specs.Replies.{page as page_reply, refusal as refusal_r
 ghost use Rattle.bm_http.specs.Replies.{unavailable as unavailable_reply};
 
 use crate::bodies;
-use crate::refusal::Refusal;
+use crate::request_refusal::RequestRefusal;
 use std::alloc::{AllocError, Global};
 
 /// What a request is answered.
@@ -24,7 +24,7 @@ impl Answer {
         Answer { status: 200, body }
     }
 
-    pub(crate) fn refusal(alloc: Global, refusal: Refusal) -> Result<Answer, AllocError>
+    pub(crate) fn refusal(alloc: Global, refusal: RequestRefusal) -> Result<Answer, AllocError>
         ensures { IfOk result (λ a. reply_of a ≡ refusal_reply refusal) }
     {
         let body = bodies::refusal(alloc, refusal.text())?;

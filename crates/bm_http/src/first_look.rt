@@ -1,13 +1,13 @@
 //! What one viewer shows of what was asked for at the first look: a long answer is only begun.
-ghost use Rattle.std.specs.Prelude.{◌≡◌, ◌<◌, ◌/◌, IfOk};
+ghost use Rattle.std.specs.Prelude.{◌≡◌, ◌<◌, ◌/◌, IfOk, IfSome};
 ghost use Rattle.std.specs.Cow.{cow_str_bytes};
-ghost use Rattle.bm_http.specs.FirstLooks.{GoesOn, ShowsLines, Tells, shown_by};
+ghost use Rattle.bm_http.specs.FirstLooks.{GoesOn, ShowsLines, Tells, lane_asked, shown_by};
 ghost use Rattle.bm_http.specs.Replies.{chunk_reply};
 ghost use Rattle.bm_http.specs.Shown.{asked_by};
 
 use crate::long_answer::{LongAnswer, MOST_BYTES};
-use crate::request::{Request, Span};
-use crate::sight::{Sight, state_by};
+use crate::log_request::{LogRequest, Span};
+use crate::lookup::{Lookup, state_by};
 use bm_lane::{Viewer, Yard};
 use bm_store::Chunk;
 use std::alloc::{AllocError, Global};
@@ -17,7 +17,7 @@ use std::borrow::CowStr;
 #[derive(Drop)]
 pub enum FirstLook<'t, Y: Yard> {
     /// All of it.
-    Whole(Sight<'t>),
+    Whole(Lookup<'t>),
     /// Many lines, which are still to be told.
     Long(LongAnswer<Y>),
 }
@@ -38,7 +38,7 @@ fn long_by<'t, Y: Yard>(
 {
     let state = match viewer.state(command, name.as_str()) {
         Ok(state) => state,
-        Err(refused) => return Ok(FirstLook::Whole(Sight::Lines(id, Err(refused)))),
+        Err(refused) => return Ok(FirstLook::Whole(Lookup::Lines(id, Err(refused)))),
     };
     let count = span.limit.min(state.lines.saturating_sub(span.offset));
     // A log of 2^64 lines has no memory, and one that had lines has them still.
@@ -73,7 +73,7 @@ fn lines_by<'t, Y: Yard>(
         0,
         MOST_BYTES,
     ) {
-        Err(refused) => Ok(FirstLook::Whole(Sight::Lines(id, Err(refused)))),
+        Err(refused) => Ok(FirstLook::Whole(Lookup::Lines(id, Err(refused)))),
         Ok(portion) => {
             if !portion.is_last {
                 return long_by(alloc, viewer, command, id, name, span);
@@ -83,47 +83,42 @@ fn lines_by<'t, Y: Yard>(
                 lines: portion.lines,
                 content: portion.content,
             };
-            Ok(FirstLook::Whole(Sight::Lines(id, Ok(chunk))))
+            Ok(FirstLook::Whole(Lookup::Lines(id, Ok(chunk))))
         }
     }
 }
 
-impl<'t> Request<'t> {
+impl<'t> LogRequest<'t> {
     /// The lane whose viewer is asked, of so many; none where no viewer is needed.
     pub fn lane(&self, lanes: u64) -> Option<u64>
         requires { 0 < lanes }
+        ensures { result ≡ lane_asked (asked_by self.now) lanes }
     {
         match self {
-            Request::Refused(_) => None,
-            Request::State(id, _) | Request::Lines(id, _, _) => Some(*id % lanes),
+            LogRequest::Refused(_) => None,
+            LogRequest::State(id, _) | LogRequest::Lines(id, _, _) => Some(*id % lanes),
         }
     }
 
-    /// What the viewer of that lane shows of it. An error where memory is wanting, or where it is
-    /// the viewer of another lane.
+    /// What the viewer of that lane shows of it. An error where memory is wanting.
     pub fn first_look<Y: Yard>(
         self,
         alloc: Global,
         lanes: u64,
         viewer: &mut Viewer<Y>,
     ) -> Result<FirstLook<'t, Y>, AllocError>
-        requires { 0 < lanes }
+        requires some { 0 < lanes }
+        requires own { IfSome (lane_asked (asked_by self) lanes) (λ lane. viewer.old.lane ≡ lane) }
         ensures on { GoesOn viewer.old viewer.new }
         ensures told { IfOk result
             (λ g. Tells (asked_by self.entry) lanes viewer.new (shown_by g)) }
     {
         match self {
-            Request::Refused(refusal) => Ok(FirstLook::Whole(Sight::Refused(refusal))),
-            Request::State(id, name) => {
-                if viewer.lane() != id % lanes {
-                    return Err(AllocError);
-                }
+            LogRequest::Refused(refusal) => Ok(FirstLook::Whole(Lookup::Refused(refusal))),
+            LogRequest::State(id, name) => {
                 Ok(FirstLook::Whole(state_by(viewer, id / lanes, id, name)))
             }
-            Request::Lines(id, name, span) => {
-                if viewer.lane() != id % lanes {
-                    return Err(AllocError);
-                }
+            LogRequest::Lines(id, name, span) => {
                 lines_by(alloc, viewer, id / lanes, id, name, span)
             }
         }

@@ -1,32 +1,32 @@
 //! The chunk server: a request for a log of a lane is answered from what the lane's viewer sees.
 //!
 //! An answer comes in three steps, so that a server holds its viewers for the second alone: what a
-//! request asks for ([`Routes::request`]), what the viewers show of it ([`Request::look`]), and the
-//! answer with its body ([`Sight::answer`]). [`Routes::answer`] takes all three. A server asks the
-//! viewer of one lane alone ([`Request::first_look`]), and gets a long answer piece by piece, each by a
+//! request asks for ([`Routes::request`]), what the viewers show of it ([`LogRequest::look`]), and the
+//! answer with its body ([`Lookup::answer`]). [`Routes::answer`] takes all three. A server asks the
+//! viewer of one lane alone ([`LogRequest::first_look`]), and gets a long answer piece by piece, each by a
 //! short look ([`LongAnswer::next`]): the pieces joined are the body.
 #![tactic(auto)]
 
 mod answer;
 mod bodies;
 mod first_look;
+mod lane_viewers;
 pub mod laws;
+mod log_request;
 mod long_answer;
+mod lookup;
 mod paths;
-mod refusal;
-mod request;
+mod request_refusal;
 mod routes;
-mod sight;
 mod targets;
-mod viewers;
 mod whole_or_long;
 
 pub use answer::Answer;
 pub use first_look::FirstLook;
-pub use long_answer::{LongAnswer, Piece, PieceError};
-pub use refusal::Refusal;
-pub use request::{Request, Span};
+pub use lane_viewers::{LaneViewers, ViewersError};
+pub use log_request::{LogRequest, Span};
+pub use long_answer::{BodyPiece, LongAnswer, PieceError};
+pub use lookup::Lookup;
+pub use request_refusal::RequestRefusal;
 pub use routes::Routes;
-pub use sight::Sight;
-pub use viewers::Viewers;
 pub use whole_or_long::WholeOrLong;

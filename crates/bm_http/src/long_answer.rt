@@ -66,19 +66,19 @@ impl<Y: Yard> Model for LongAnswer<Y> {
 
 /// A piece of a text: as it is, or still to be escaped.
 #[derive(Drop)]
-pub enum Piece {
+pub enum BodyPiece {
     Ready(Bytes),
     Raw(Text),
 }
 
-impl Piece {
+impl BodyPiece {
     /// The bytes. No viewer is needed for it.
     pub fn told(self, alloc: Global) -> Result<Bytes, PieceError>
         ensures { IfOk result (λ b. b ≡ piece_text self) }
     {
         match self {
-            Piece::Ready(bytes) => Ok(bytes),
-            Piece::Raw(text) => match inside(alloc, text) {
+            BodyPiece::Ready(bytes) => Ok(bytes),
+            BodyPiece::Raw(text) => match inside(alloc, text) {
                 Ok(bytes) => Ok(bytes),
                 Err(_) => Err(PieceError::Memory),
             },
@@ -165,7 +165,7 @@ impl<Y: Yard> LongAnswer<Y> {
 
     /// The next piece of the text, or none at its end. The viewer is one of the lane that the
     /// answer began at, which has seen no less; else the piece is lost.
-    pub fn next(&mut self, viewer: &mut Viewer<Y>) -> Option<Result<Piece, PieceError>>
+    pub fn next(&mut self, viewer: &mut Viewer<Y>) -> Option<Result<BodyPiece, PieceError>>
         ensures seen { (viewer.new.lane ≡ viewer.old.lane)
             × IsPrefix viewer.old.seen viewer.new.seen }
         ensures piece { MatchOption result (self.old ≡ [])
@@ -173,7 +173,7 @@ impl<Y: Yard> LongAnswer<Y> {
         ensures bounded { IfSome result (λ r. IfOk r IsBounded) }
     {
         if let Some(front) = self.front.take() {
-            return Some(Ok(Piece::Ready(front)));
+            return Some(Ok(BodyPiece::Ready(front)));
         }
         if self.at < self.end {
             let told = portion_at(
@@ -191,10 +191,10 @@ impl<Y: Yard> LongAnswer<Y> {
             };
             self.at += portion.lines;
             self.skip = portion.skip;
-            return Some(Ok(Piece::Raw(portion.content)));
+            return Some(Ok(BodyPiece::Raw(portion.content)));
         }
         match self.back.take() {
-            Some(back) => Some(Ok(Piece::Ready(back))),
+            Some(back) => Some(Ok(BodyPiece::Ready(back))),
             None => None,
         }
     }

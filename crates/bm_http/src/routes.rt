@@ -6,8 +6,8 @@ ghost use Rattle.bm_http.specs.Shown.{asked_by, reply_of};
 
 use crate::answer::Answer;
 use crate::paths::Paths;
-use crate::refusal::Refusal;
-use crate::request::Request;
+use crate::request_refusal::RequestRefusal;
+use crate::log_request::LogRequest;
 use crate::targets::split;
 use bm_lane::{Viewer, Yard};
 use std::alloc::{AllocError, Global};
@@ -33,17 +33,17 @@ impl Routes {
         alloc: Global,
         method: &str,
         target: &'t str,
-    ) -> Result<Request<'t>, AllocError>
+    ) -> Result<LogRequest<'t>, AllocError>
         ensures { IfOk result (λ r. Asks method.now target.now (asked_by r)) }
     {
         let (path, query) = split(target);
         let Some(found) = self.paths.find(path) else {
-            return Ok(Request::Refused(Refusal::NoSuchPage));
+            return Ok(LogRequest::Refused(RequestRefusal::NoSuchPage));
         };
         if method != "GET" {
-            return Ok(Request::Refused(Refusal::MethodNotAllowed));
+            return Ok(LogRequest::Refused(RequestRefusal::MethodNotAllowed));
         }
-        Request::of_page(alloc, found.page, found.id, query)
+        LogRequest::of_page(alloc, found.page, found.id, query)
     }
 
     fn reply<Y: Yard>(

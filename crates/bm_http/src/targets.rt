@@ -1,10 +1,10 @@
 //! The parts of a request's target.
 ghost use Rattle.std.specs.Prelude.{◌≡◌, IfOk, option_map, if◌then◌else◌, bytes_eq, Some};
 ghost use Rattle.std.specs.Cow.{cow_str_bytes};
-ghost use Rattle.bm_http.specs.Numbers.{number_of};
 ghost use Rattle.bm_http.specs.Targets.{from_slash, local_path, number_or, parameter, path_of, query_of};
 ghost use Rattle.bm_http.specs.Requests.{name_in};
 
+use bm_decimal::read_number;
 use bm_lines::STDIO;
 use std::alloc::{AllocError, Global};
 use std::borrow::CowStr;
@@ -36,16 +36,6 @@ pub fn split(target: &str) -> (&str, &str)
 {
     let (path, query) = target.split_once('?').unwrap_or((target, ""));
     (local(path), query)
-}
-
-/// A number of decimal digits alone.
-pub fn number(text: &str) -> Option<u64>
-    ensures { result ≡ number_of text.now }
-{
-    if text.as_bytes().first() == Some(&b'+') {
-        return None;
-    }
-    text.parse().ok()
 }
 
 // The value of a later pair, where it has the key.
@@ -83,7 +73,7 @@ pub fn number_of_value(
     ensures { IfOk result (λ n. n ≡ number_or missing (parameter key.now query.now)) }
 {
     match value(alloc, query, key)? {
-        Some(text) => Ok(number(text.as_str())),
+        Some(text) => Ok(read_number(text.as_str())),
         None => Ok(Some(missing)),
     }
 }

@@ -24,7 +24,7 @@ impl<'t, Y: Yard> FirstLook<'t, Y> {
         ensures { IfOk result (λ t. reply_told (λ text. text) t ≡ shown_by self.entry) }
     {
         match self {
-            FirstLook::Whole(sight) => Ok(WholeOrLong::Whole(sight.answer(alloc)?)),
+            FirstLook::Whole(lookup) => Ok(WholeOrLong::Whole(lookup.answer(alloc)?)),
             FirstLook::Long(long_answer) => Ok(WholeOrLong::Long(long_answer)),
         }
     }

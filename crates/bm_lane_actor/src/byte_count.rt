@@ -52,6 +52,11 @@ impl ByteCounts {
         }
     }
 
+    /// Whether there is no such command.
+    pub fn is_empty(&self) -> bool {
+        self.commands.is_empty()
+    }
+
     /// Makes room for one command more. Want of memory changes nothing.
     pub fn reserve(&mut self) -> Result<(), AllocError> {
         self.commands.reserve(1)

@@ -6,10 +6,10 @@ ghost use Rattle.bm_lane_actor.specs.LaneEvents.{loss_of};
 use crate::byte_count::{ByteCount, ByteCounts};
 use crate::connection_state::ConnectionState;
 use crate::drain_gate::DrainGate;
-use crate::lane_event::{LaneEvent, event_after, loss_of};
+use crate::lane_event::{EventSink, LaneEvent, event_after, loss_of};
 use crate::lane_request::{LaneRequest, LaneSignal};
 use crate::lane_state::{LaneState, Rest};
-use crate::mailbox::{Mailbox, Received};
+use crate::mailbox::{Mailbox, NextRequest};
 use crate::order_outcome::OrderOutcome;
 use crate::peer_timer::{PeerAction, PeerTimer};
 use crate::stream::{Timed, WorkerStream};
@@ -38,11 +38,6 @@ const MOST_ARENA_BYTES: usize = 32 * 1_048_576;
 
 const MOST_KEPT_BYTES: usize = 1_048_576;
 
-/// Who is told what happens to a lane.
-pub trait EventSink {
-    fn tell(&mut self, event: LaneEvent);
-}
-
 /// The actor of a lane at work.
 #[derive(Drop)]
 struct LaneActor<'a, Y: Yard, S, T, R: Wait + Clock + Drop> {
@@ -59,10 +54,8 @@ struct LaneActor<'a, Y: Yard, S, T, R: Wait + Clock + Drop> {
     gate: &'a DrainGate<R>,
     place: usize,
     events: T,
-    /// How many commands were started whose end no build has seen.
-    open: u64,
-    /// What the updates of these commands carried.
-    bytes: ByteCounts,
+    /// The commands that were started whose end no build has seen, and what their updates carried.
+    commands: ByteCounts,
     /// Whether the last turn heard something.
     is_lively: bool,
     /// Why a cut lane is given up.
@@ -107,8 +100,7 @@ where
         gate,
         place: mailbox.lane() as usize,
         events,
-        open: 0,
-        bytes: ByteCounts::new(alloc),
+        commands: ByteCounts::new(alloc),
         is_lively: false,
         why: LossCause::Expired,
     };
@@ -135,7 +127,7 @@ where
         }
         self.takes_signals(mailbox);
         self.watch();
-        let is_lively = self.is_lively || self.open > 0 || self.waiting.is_some();
+        let is_lively = self.is_lively || !self.commands.is_empty() || self.waiting.is_some();
         match self.state.rest(is_lively) {
             Rest::Request | Rest::Glance => {
                 self.takes(mailbox.wait_for(self.rt, Duration::from_millis(GLANCE_MS)))
@@ -167,11 +159,11 @@ where
     }
 
     /// Obeys what was in the mailbox, or hears the worker where nothing was.
-    fn takes(&mut self, received: Received<WorkerStream<S, R>>) -> bool {
-        match received {
-            Received::Request(request) => self.obeys(request),
-            Received::Nothing => self.turn(),
-            Received::Left => return false,
+    fn takes(&mut self, next: NextRequest<WorkerStream<S, R>>) -> bool {
+        match next {
+            NextRequest::Request(request) => self.obeys(request),
+            NextRequest::Nothing => self.turn(),
+            NextRequest::Left => return false,
         }
         true
     }
@@ -180,9 +172,9 @@ where
     fn takes_all(&mut self, mailbox: &Mailbox<WorkerStream<S, R>>) -> bool {
         for _ in 0..MOST_REQUESTS {
             match mailbox.look(self.rt) {
-                Received::Request(request) => self.obeys(request),
-                Received::Nothing => return true,
-                Received::Left => return false,
+                NextRequest::Request(request) => self.obeys(request),
+                NextRequest::Nothing => return true,
+                NextRequest::Left => return false,
             }
         }
         true
@@ -194,10 +186,7 @@ where
             LaneRequest::Attach(link) => self.attach(link),
             LaneRequest::Start(words, bytes, answer) => self.start(&words, bytes, &answer),
             LaneRequest::Interrupt(command, answer) => self.interrupt(command, &answer),
-            LaneRequest::Seen(command) => {
-                self.open = self.open.saturating_sub(1);
-                self.bytes.end(command);
-            }
+            LaneRequest::Seen(command) => self.commands.end(command),
             LaneRequest::Settle(answer) => {
                 let _ = answer.send(self.rt, ());
             }
@@ -319,7 +308,7 @@ where
             let _ = answer.send(self.rt, OrderOutcome::TooLong);
             return;
         }
-        if self.bytes.reserve().is_err() {
+        if self.commands.reserve().is_err() {
             let _ = answer.send(self.rt, OrderOutcome::Later);
             return;
         }
@@ -327,9 +316,8 @@ where
         let outcome = self.state.start(self.rt, self.alloc, argv);
         match outcome {
             OrderOutcome::Started(command) => {
-                self.open = self.open.saturating_add(1);
                 // There is room for it.
-                let _ = self.bytes.begin(command, bytes);
+                let _ = self.commands.begin(command, bytes);
             }
             OrderOutcome::Full => self.events.tell(LaneEvent::Filled),
             OrderOutcome::Interrupted
@@ -359,7 +347,7 @@ where
             Ok(Turn::Busy) => self.gate.wait_for_place(self.place, took),
             Ok(Turn::Heard) => {
                 if let Some(event) = self.state.last_event() {
-                    self.bytes.note(event);
+                    self.commands.note(event);
                 }
                 self.gate.wake(self.place);
             }

@@ -32,6 +32,11 @@ pub enum LaneEvent {
     Filled,
 }
 
+/// Who is told what happens to a lane.
+pub trait EventSink {
+    fn tell(&mut self, event: LaneEvent);
+}
+
 /// How the lane stands.
 pub(crate) fn connection_of<Y: Yard>(reader: &ReaderEnd<Y>) -> ConnectionState
     ensures { result ≡ connection_of reader.now.trace }

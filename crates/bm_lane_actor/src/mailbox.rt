@@ -219,7 +219,7 @@ impl<S: Drop> LaneHandle<S> {
 
 /// What was found in a mailbox.
 #[derive(Drop)]
-pub(crate) enum Received<S> {
+pub(crate) enum NextRequest<S> {
     Request(LaneRequest<S>),
     Nothing,
     /// Nobody is left who could send.
@@ -245,19 +245,19 @@ impl<S: Drop> Mailbox<S> {
     }
 
     /// The next request, if it comes within this time.
-    pub(crate) fn wait_for<R: Wait + Clock>(&self, rt: &R, most: Duration) -> Received<S> {
+    pub(crate) fn wait_for<R: Wait + Clock>(&self, rt: &R, most: Duration) -> NextRequest<S> {
         match self.receiver.recv_timeout(rt, most) {
-            Ok(request) => Received::Request(request),
-            Err(RecvTimeoutError::Timeout) => Received::Nothing,
-            Err(RecvTimeoutError::Disconnected) => Received::Left,
+            Ok(request) => NextRequest::Request(request),
+            Err(RecvTimeoutError::Timeout) => NextRequest::Nothing,
+            Err(RecvTimeoutError::Disconnected) => NextRequest::Left,
         }
     }
 
     /// The next request, if there is one.
-    pub(crate) fn look<R: Wait>(&self, rt: &R) -> Received<S> {
+    pub(crate) fn look<R: Wait>(&self, rt: &R) -> NextRequest<S> {
         match self.receiver.try_recv(rt) {
-            Ok(request) => Received::Request(request),
-            Err(_) => Received::Nothing,
+            Ok(request) => NextRequest::Request(request),
+            Err(_) => NextRequest::Nothing,
         }
     }
 }

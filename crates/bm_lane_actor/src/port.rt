@@ -2,14 +2,14 @@
 //! viewer of its own.
 
 ghost use Rattle.std.specs.Prelude.{◌≡◌, ◌≤◌, ◌++◌, false, codes, length, IfSome};
-ghost use Rattle.bm_lane_actor.specs.Ports.{Begins, Looks, is_left_out, is_lost, polled, start_refusal};
+ghost use Rattle.bm_lane_actor.specs.Ports.{Begins, Looks, is_lost, polled};
 
 use crate::byte_count::ByteCount;
 use crate::lane_request::LaneRequest;
 use crate::mailbox::LaneHandle;
-use crate::order_outcome::OrderOutcome;
+use crate::orders::{interrupt, is_left_out, settle, start};
 use crate::step_meter::StepMeter;
-use bm_board::{StepPlan, Words};
+use bm_board::StepPlan;
 use bm_lane::{Viewer, Yard};
 use bm_latent::TICK_MS;
 use bm_lines::{STDIO, Text};
@@ -17,7 +17,6 @@ use bm_operator::{StartRefusal, StepLimit};
 use bm_runner::{Entries, Polled, Port};
 use bm_session::Results;
 use bm_store::{LogState, ViewRefusal};
-use crossbeam_channel::bounded;
 use std::alloc::Global;
 use std::marker::Model;
 use std::sync::atomic::{AtomicBool, AtomicU64, Ordering};
@@ -94,13 +93,6 @@ fn polled(state: Result<LogState, ViewRefusal>, is_cancelled: bool) -> Polled
         _ if is_cancelled => Polled::Cancel,
         _ => Polled::Running,
     }
-}
-
-/// Whether a step isn't started, since its build was cancelled before.
-fn is_left_out(is_cancelled: bool, always_run: bool) -> bool
-    ensures { result ≡ is_left_out is_cancelled always_run }
-{
-    is_cancelled && !always_run
 }
 
 /// What a line of a log says, where it is one of headers, and no longer than is told of it.
@@ -200,115 +192,6 @@ impl<'a, Y: Yard, S: Drop, R: Wait + Clock, W: Watch + Drop> Port for LanePort<'
 
     fn interrupt(&mut self, k: u64) {
         interrupt(self.rt, self.alloc, &self.handle, k);
-    }
-}
-
-/// What the actor answers to a start; `Refused` where it has left. None where memory is wanting.
-fn try_start<S: Drop, R: Wait + Clock>(
-    rt: &R,
-    alloc: Global,
-    handle: &LaneHandle<S>,
-    argv: &Words,
-    bytes: &ByteCount,
-) -> Option<OrderOutcome> {
-    let (answer, answers) = bounded(alloc, 1).ok()?;
-    let words = argv.copy().ok()?;
-    let bytes = Arc::try_clone(bytes).ok()?;
-    if !handle.tell(rt, LaneRequest::Start(words, bytes, answer)) {
-        return Some(OrderOutcome::Refused);
-    }
-    match handle.answer(rt, &answers) {
-        Some(outcome) => Some(outcome),
-        None => Some(OrderOutcome::Refused),
-    }
-}
-
-/// What the actor answers to an interruption; `Refused` where it has left, or memory is wanting.
-fn try_interrupt<S: Drop, R: Wait + Clock>(
-    rt: &R,
-    alloc: Global,
-    handle: &LaneHandle<S>,
-    command: u64,
-) -> OrderOutcome {
-    let Ok((answer, answers)) = bounded(alloc, 1) else {
-        return OrderOutcome::Refused;
-    };
-    if !handle.tell(rt, LaneRequest::Interrupt(command, answer)) {
-        return OrderOutcome::Refused;
-    }
-    match handle.answer(rt, &answers) {
-        Some(outcome) => outcome,
-        None => OrderOutcome::Refused,
-    }
-}
-
-/// Waits until the actor has told all that happened to the lane so far, or has left. Where memory
-/// is wanting the actor is given a tick for it.
-fn settle<S: Drop, R: Wait + Clock>(rt: &R, alloc: Global, handle: &LaneHandle<S>) {
-    let Ok((answer, answers)) = bounded(alloc, 1) else {
-        thread::sleep(rt, Duration::from_millis(TICK_MS));
-        return;
-    };
-    if handle.tell(rt, LaneRequest::Settle(answer)) {
-        let _ = handle.answer(rt, &answers);
-    }
-}
-
-/// Why a step isn't started whose order came to this, and isn't tried again.
-fn start_refusal(outcome: OrderOutcome) -> StartRefusal
-    ensures { result ≡ start_refusal outcome }
-{
-    match outcome {
-        OrderOutcome::Full => StartRefusal::Full,
-        OrderOutcome::TooLong => StartRefusal::TooLong,
-        OrderOutcome::Started(_)
-        | OrderOutcome::Interrupted
-        | OrderOutcome::Later
-        | OrderOutcome::Refused => StartRefusal::Lost,
-    }
-}
-
-/// Starts a step's command once the lane is up.
-///
-/// # Errors
-///
-/// `Lost` where the lane is given up, or refuses; `Full` where it has had as many events as it may;
-/// `TooLong` where the words are more than an order carries; `Cancelled` where the step doesn't always run and
-/// its build is cancelled while it waits. Nothing is started then.
-fn start<S: Drop, R: Wait + Clock>(
-    rt: &R,
-    alloc: Global,
-    handle: &LaneHandle<S>,
-    step: &StepPlan,
-    cancelled: &AtomicBool,
-    bytes: &ByteCount,
-) -> Result<u64, StartRefusal> {
-    for _ in rt.forever() {
-        if is_left_out(cancelled.load(Ordering::SeqCst), step.always_run) {
-            return Err(StartRefusal::Cancelled);
-        }
-        match try_start(rt, alloc, handle, &step.argv, bytes) {
-            Some(OrderOutcome::Started(command)) => return Ok(command),
-            Some(OrderOutcome::Later) => thread::sleep(rt, Duration::from_millis(TICK_MS)),
-            Some(outcome) => return Err(start_refusal(outcome)),
-            None => return Err(StartRefusal::Memory),
-        }
-    }
-    unreachable!()
-}
-
-/// Interrupts a command once the lane is up, or does nothing once it is given up.
-fn interrupt<S: Drop, R: Wait + Clock>(
-    rt: &R,
-    alloc: Global,
-    handle: &LaneHandle<S>,
-    command: u64,
-) {
-    for _ in rt.forever() {
-        match try_interrupt(rt, alloc, handle, command) {
-            OrderOutcome::Later => thread::sleep(rt, Duration::from_millis(TICK_MS)),
-            _ => return,
-        }
     }
 }
 

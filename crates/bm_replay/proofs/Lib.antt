@@ -1,4 +1,3 @@
-mod Digits
 mod Lists
 mod Sessions
 mod Agreement

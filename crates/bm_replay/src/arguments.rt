@@ -2,7 +2,7 @@
 
 ghost use Rattle.std.specs.Prelude.{◌≡◌, ◌≤◌};
 
-use crate::numbers::read_number;
+use bm_decimal::read_number;
 use std::io::Write;
 
 /// The text for words that ask for nothing that the program does.

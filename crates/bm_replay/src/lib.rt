@@ -11,7 +11,6 @@ mod answers;
 mod arguments;
 mod incoming;
 pub mod laws;
-mod numbers;
 mod replay;
 mod script;
 

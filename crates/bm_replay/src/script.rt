@@ -4,7 +4,7 @@ ghost use Rattle.std.specs.Prelude.{◌≡◌, ◌≢◌, ◌≤◌, ◌++◌, �
 ghost use Rattle.std.specs.Prelude.{EachIndex, slice_index, vec_len};
 ghost use Rattle.std.specs.Io.KnownBytes.{Consumes, IsAtEnd};
 
-use crate::numbers::read_number;
+use bm_decimal::read_number;
 use bm_lines::STDIO;
 use memchr::memchr;
 use std::alloc::Global;

@@ -1,4 +1,6 @@
--- To believe: Tells, what frames a body gives; Responses, which reply a response is; and Laws.
+-- To believe: Serves, what a service of logs answers; Tells, what frames a body gives; Responses,
+-- which reply a response is; and Laws.
+pub mod Serves
 pub mod Tells
 pub mod Responses
 pub mod Laws

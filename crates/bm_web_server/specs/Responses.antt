@@ -10,16 +10,25 @@ use Rattle.bm_http.specs.LongAnswers.{held}
 use Rattle.bm_web_server.specs.declared.page_body.PageBody.{PageBody}
 use Rattle.bm_web_server.specs.declared.page_body.PageBody.TheVariants.{Whole, Long}
 
-module _ {R S T : Type 0} (text : T → List ℕ) where
+module _ {R S T E : Type 0} (text : T → List ℕ) where
   -- the text of a body
-  abbrev pub body_text : PageBody R S T → List ℕ
-  body_text (Whole b) = held b
+  abbrev pub body_text : PageBody R S T E → List ℕ
+  body_text (Whole b seen) = held b
   body_text (Long t) = text t.rest
 
   -- a status and the bytes of a body
-  abbrev pub replied : Response (PageBody R S T) → Reply
+  abbrev pub replied : Response (PageBody R S T E) → Reply
   replied response =
       record { status = (head_of response).status; body = body_text (body_of response) }
+
+module _ {R S T E : Type 0} where
+  -- what a body was made of
+  abbrev pub seen_of : PageBody R S T E → Option E
+  seen_of (Whole b seen) = seen
+  seen_of (Long t) = t.seen
+
+  abbrev pub seen_in : Response (PageBody R S T E) → Option E
+  seen_in response = seen_of (body_of response)
 
 -- the path and the query of a URI; nothing where it has none
 abbrev pub path_text : Option (List ℕ) → List ℕ

@@ -4,7 +4,7 @@ ghost use Rattle.futures.specs.Task.{IsArmed, Keeps};
 ghost use Rattle.futures.specs.Poll.{OnPending};
 
 use crate::connections::Visit;
-use crate::log_service::Answering;
+use crate::handler::Handler;
 use crate::pages::Pages;
 use crate::write_deadline::WriteDeadline;
 use futures::task::{Context, Poll};
@@ -29,7 +29,7 @@ pub struct Admission<R, S> {
     pub rt: R,
     pub alloc: Global,
     pub incoming: Incoming,
-    pub site: Arc<S>,
+    pub service: Arc<S>,
     pub places: Arc<Semaphore>,
     pub timers: Handle,
     /// How long a connection lives whose peer takes nothing of what is sent.
@@ -38,13 +38,13 @@ pub struct Admission<R, S> {
     pub is_pausing: bool,
 }
 
-impl<R: Wait + Clock + Copy, S: Answering> Admission<R, S> {
+impl<R: Wait + Clock + Copy, S: Handler> Admission<R, S> {
     // The next connection, or none where one could not be taken in.
     fn poll_visit(&mut self, cx: &mut Context<'_>) -> Poll<Option<Visitor<R, S>>>
         ensures armed { OnPending result (IsArmed cx.new) }
         ensures kept { Keeps cx.old cx.new }
     {
-        let Ok(site) = Arc::try_clone(&self.site) else {
+        let Ok(service) = Arc::try_clone(&self.service) else {
             return Poll::Ready(None);
         };
         let Ok(places) = Arc::try_clone(&self.places) else {
@@ -63,7 +63,7 @@ impl<R: Wait + Clock + Copy, S: Answering> Admission<R, S> {
         let pages = Pages {
             rt: self.rt,
             alloc: self.alloc,
-            site,
+            service,
         };
         Poll::Ready(Some(Visit {
             socket,
@@ -91,7 +91,7 @@ impl<R: Wait + Clock + Copy, S: Answering> Admission<R, S> {
     }
 }
 
-impl<R: Wait + Clock + Copy, S: Answering> Stream for Admission<R, S> {
+impl<R: Wait + Clock + Copy, S: Handler> Stream for Admission<R, S> {
     type Item = Visitor<R, S>;
 
     fn poll_next(&mut self, cx: &mut Context<'_>) -> Poll<Option<Visitor<R, S>>> {

@@ -4,6 +4,7 @@
 
 mod admission;
 mod connections;
+mod handler;
 pub mod laws;
 mod log_service;
 mod page_body;
@@ -11,5 +12,6 @@ mod pages;
 mod serving;
 mod write_deadline;
 
-pub use log_service::{Answering, LogService};
+pub use handler::{Handler, Served};
+pub use log_service::LogService;
 pub use serving::{WebLimits, serve};

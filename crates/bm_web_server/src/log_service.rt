@@ -1,76 +1,96 @@
 //! The routes with the viewers that they look at.
-ghost use Rattle.std.specs.Prelude.{◌≡◌, ◌⊎◌, ◌<◌, ◌++◌, ℕ, [], IfOk, List, length, MatchOption};
-ghost use Rattle.bm_lane.specs.Ends.{Watched};
-ghost use Rattle.bm_http.specs.Requests.{Asked, Asks};
-ghost use Rattle.bm_http.specs.Replies.{Reply, unavailable};
-ghost use Rattle.bm_http.specs.FirstLooks.{Tells};
+ghost use Rattle.std.specs.Prelude.{◌≡◌, ◌⊎◌, ◌<◌, IfOk, IfSome, length};
+ghost use Rattle.bm_http.specs.Replies.{unavailable};
+ghost use Rattle.bm_http.specs.Shown.{asked_by};
 ghost use Rattle.bm_http.specs.WholeOrLong.{reply_told};
+ghost use Rattle.bm_web_server.specs.Serves.{Serves, TellsOf};
 
-use bm_http::{Answer, LongAnswer, PieceError, Routes, WholeOrLong};
-use bm_lane::{Viewer, Yard};
+use crate::handler::{Handler, Served};
+use bm_http::{
+    Answer, LaneViewers, LogRequest, LongAnswer, Lookup, PieceError, Routes, ViewersError,
+    WholeOrLong,
+};
+use bm_lane::{Mark, Viewer, Yard};
 use bytes::Bytes;
 use std::alloc::{AllocError, Global};
 use std::sync::{Arc, Mutex, Wait};
 
-/// What is served.
-pub trait Answering: Drop {
-    /// What is left to tell of a long answer.
-    type Rest: Drop;
-
-    // Which replies a request with this method and target may get.
-    ghost gives: { List ℕ → List ℕ → Reply → Type 0 };
-
-    // The text that is left to tell.
-    ghost text: { Self.Rest → List ℕ };
-
-    /// The answer to a request.
-    fn answer<R: Wait>(
-        &self,
-        rt: &R,
-        alloc: Global,
-        method: &str,
-        target: &str,
-    ) -> WholeOrLong<Self::Rest>
-        ensures { gives method.now target.now (reply_told text result) };
-
-    /// The next piece of a long answer; none once all was told.
-    fn piece<R: Wait>(
-        &self,
-        rt: &R,
-        alloc: Global,
-        rest: &mut Self::Rest,
-    ) -> Option<Result<Bytes, PieceError>>
-        ensures { MatchOption result (text rest.old ≡ [])
-            (λ r. IfOk r (λ b. text rest.old ≡ b ++ text rest.new)) };
-}
-
-/// The routes, and the viewer of each lane under a lock of its own.
+/// The routes, and the viewer of each lane.
 #[derive(Drop)]
 pub struct LogService<Y: Yard> {
     routes: Routes,
-    lanes: Vec<Mutex<Viewer<Y>>>,
-    /// Room for all viewers, so that they can be given back without memory.
-    room: Mutex<Vec<Viewer<Y>>>,
-    ghost some: { 0 < length lanes.items },
+    // How many lanes there are.
+    lanes: u64,
+    // A lock for each lane: whoever holds it may take the lane's viewer.
+    turns: Vec<Mutex<()>>,
+    // Held for a moment alone. What a lock guards is known by its type, so all viewers lie under
+    // one: that each is of its place's lane is a fact of all of them.
+    viewers: Mutex<LaneViewers<Y>>,
+    ghost some: { 0 < lanes },
+}
+
+// A lock for each of so many lanes.
+fn turns_of(alloc: Global, lanes: usize) -> Result<Vec<Mutex<()>>, AllocError> {
+    let mut turns = Vec::with_capacity(alloc, lanes)?;
+    for _ in 0..lanes {
+        turns.push(Mutex::new(()))?;
+    }
+    Ok(turns)
 }
 
 impl<Y: Yard> LogService<Y> {
-    /// A site of so many lanes as there are viewers, in the order of their lanes.
-    pub fn new(alloc: Global, viewers: Vec<Viewer<Y>>) -> Result<LogService<Y>, AllocError>
+    /// The service of so many lanes as there are viewers, which are in the order of their lanes.
+    pub fn new(alloc: Global, viewers: Vec<Viewer<Y>>) -> Result<LogService<Y>, ViewersError>
         requires { 0 < length viewers.items }
+        ensures { IfOk result (λ service. service.lanes ≡ length viewers.items) }
     {
-        let room = Mutex::new(Vec::with_capacity(alloc, viewers.len())?);
-        let mut lanes = Vec::with_capacity(alloc, viewers.len())?;
-        for viewer in viewers {
-            lanes.push(Mutex::new(viewer))?;
-        }
-        if lanes.is_empty() {
-            return Err(AllocError);
-        }
         Ok(LogService {
             routes: Routes::new(alloc)?,
-            lanes,
-            room,
+            lanes: viewers.len() as u64,
+            turns: turns_of(alloc, viewers.len())?,
+            viewers: Mutex::new(LaneViewers::new(alloc, viewers)?),
+        })
+    }
+
+    // Takes the viewer of a lane. None where it isn't there.
+    fn take<R: Wait>(&self, rt: &R, lane: u64) -> Option<Viewer<Y>>
+        ensures { IfSome result (λ viewer. viewer.lane ≡ lane) }
+    {
+        self.viewers.lock(rt).take(lane)
+    }
+
+    // Puts a viewer back to its lane.
+    fn put<R: Wait>(&self, rt: &R, viewer: Viewer<Y>) {
+        self.viewers.lock(rt).put(viewer);
+    }
+
+    // The answer to what needs a look of a viewer, which is held for the look alone.
+    fn look<R: Wait>(
+        &self,
+        rt: &R,
+        alloc: Global,
+        request: LogRequest<'_>,
+    ) -> Result<Served<LongAnswer<Y>, Mark<Y>>, AllocError>
+        ensures { IfOk result (λ served. TellsOf (asked_by request.entry) self.now.lanes served.seen
+            (reply_told (λ text. text) served.reply)) }
+    {
+        let Some(lane) = request.lane(self.lanes) else {
+            return Err(AllocError);
+        };
+        let Some(turn) = self.turns.get(lane as usize) else {
+            return Err(AllocError);
+        };
+        let turn = turn.lock(rt);
+        let Some(mut viewer) = self.take(rt, lane) else {
+            return Err(AllocError);
+        };
+        let look = request.first_look(alloc, self.lanes, &mut viewer);
+        let seen = viewer.mark();
+        self.put(rt, viewer);
+        drop(turn);
+        Ok(Served {
+            reply: look?.answer(alloc)?,
+            seen: Some(seen),
         })
     }
 
@@ -80,55 +100,50 @@ impl<Y: Yard> LogService<Y> {
         alloc: Global,
         method: &str,
         target: &str,
-    ) -> Result<WholeOrLong<LongAnswer<Y>>, AllocError>
-        ensures { IfOk result (λ t. (a : Asked) × (lanes : ℕ) × (w : Watched)
-            × Asks method.now target.now a
-            × Tells a lanes w (reply_told (λ text. text) t)) }
+    ) -> Result<Served<LongAnswer<Y>, Mark<Y>>, AllocError>
+        ensures { IfOk result (λ served. Serves self.now.lanes method.now target.now served.seen
+            (reply_told (λ text. text) served.reply)) }
     {
-        let request = self.routes.request(alloc, method, target)?;
-        let lanes = self.lanes.len() as u64;
-        let lane = request.lane(lanes).unwrap_or(0) as usize;
-        if lane >= self.lanes.len() {
-            return Err(AllocError);
+        match self.routes.request(alloc, method, target)? {
+            LogRequest::Refused(refusal) => Ok(Served {
+                reply: WholeOrLong::Whole(Lookup::Refused(refusal).answer(alloc)?),
+                seen: None,
+            }),
+            request => self.look(rt, alloc, request),
         }
-        let mut viewer = self.lanes[lane].lock(rt);
-        let look = request.first_look(alloc, lanes, &mut *viewer)?;
-        drop(viewer);
-        look.answer(alloc)
     }
 
-    /// The viewers, given back, where nobody else holds the site any more.
-    pub fn into_viewers(site: Arc<LogService<Y>>) -> Option<Vec<Viewer<Y>>> {
-        let site = Arc::into_inner(site)?;
-        let mut viewers = site.room.into_inner();
-        for lane in site.lanes {
-            viewers.push(lane.into_inner()).ok()?;
-        }
-        Some(viewers)
+    /// The viewers, given back, where nobody else holds the service any more.
+    pub fn into_viewers(service: Arc<LogService<Y>>) -> Option<Vec<Viewer<Y>>> {
+        let service = Arc::into_inner(service)?;
+        service.viewers.into_inner().into_vec()
     }
 }
 
-impl<Y: Yard> Answering for LogService<Y> {
+impl<Y: Yard> Handler for LogService<Y> {
     type Rest = LongAnswer<Y>;
 
-    // What the viewer of the lane showed as it stood at some moment.
-    ghost gives = { λ method target reply. (reply ≡ unavailable)
-        ⊎ ((a : Asked) × (lanes : ℕ) × (w : Watched) × Asks method target a
-        × Tells a lanes w reply) };
+    type Seen = Mark<Y>;
+
+    // It is made of a mark, which only a viewer of that lane gives: of what that had then seen.
+    ghost gives = { λ service method target seen reply. (reply ≡ unavailable)
+        ⊎ Serves service.lanes method target seen reply };
 
     ghost text = { λ text. text };
 
-    // A viewer is held for a look alone.
     fn answer<R: Wait>(
         &self,
         rt: &R,
         alloc: Global,
         method: &str,
         target: &str,
-    ) -> WholeOrLong<LongAnswer<Y>> {
+    ) -> Served<LongAnswer<Y>, Mark<Y>> {
         match self.reply(rt, alloc, method, target) {
-            Ok(told) => told,
-            Err(_) => WholeOrLong::Whole(Answer::unavailable(alloc)),
+            Ok(served) => served,
+            Err(_) => Served {
+                reply: WholeOrLong::Whole(Answer::unavailable(alloc)),
+                seen: None,
+            },
         }
     }
 
@@ -138,13 +153,16 @@ impl<Y: Yard> Answering for LogService<Y> {
         alloc: Global,
         rest: &mut LongAnswer<Y>,
     ) -> Option<Result<Bytes, PieceError>> {
-        let lane = rest.lane() as usize;
-        if lane >= self.lanes.len() {
+        let Some(turn) = self.turns.get(rest.lane() as usize) else {
             return Some(Err(PieceError::View));
-        }
-        let mut viewer = self.lanes[lane].lock(rt);
-        let next = rest.next(&mut *viewer);
-        drop(viewer);
+        };
+        let turn = turn.lock(rt);
+        let Some(mut viewer) = self.take(rt, rest.lane()) else {
+            return Some(Err(PieceError::View));
+        };
+        let next = rest.next(&mut viewer);
+        self.put(rt, viewer);
+        drop(turn);
         match next {
             Some(Ok(piece)) => Some(piece.told(alloc)),
             Some(Err(error)) => Some(Err(error)),

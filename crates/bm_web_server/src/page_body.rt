@@ -4,7 +4,7 @@ ghost use Rattle.bm_http.specs.LongAnswers.{held};
 ghost use Rattle.bm_web_server.specs.Tells.{Tells};
 ghost use Rattle.bm_web_server.specs.declared.page_body.PageBody.TheVariants.{Whole, Long};
 
-use crate::log_service::Answering;
+use crate::handler::Handler;
 use bm_http::PieceError;
 use bytes::Bytes;
 use futures::task::{Context, Poll};
@@ -12,41 +12,42 @@ use http_body::{Body, Frame, SizeHint};
 use std::alloc::Global;
 use std::sync::{Arc, Wait};
 
-/// What is left of a long answer, with the site that tells it.
+/// What is left of a long answer, with the service that tells it, and what it was made of.
 #[derive(Drop)]
-pub struct Unsent<R, S: Answering> {
+pub struct Unsent<R, S: Handler> {
     pub rt: R,
     pub alloc: Global,
-    pub site: Arc<S>,
+    pub service: Arc<S>,
     pub rest: S::Rest,
+    pub seen: Option<S::Seen>,
 }
 
-impl<R: Wait + Drop, S: Answering> Unsent<R, S> {
-    // The next piece, as the site stands now.
+impl<R: Wait + Drop, S: Handler> Unsent<R, S> {
+    // The next piece, as the service stands now.
     fn next(&mut self) -> Option<Result<Bytes, PieceError>>
         ensures { MatchOption result (S.text self.old.rest ≡ [])
             (λ r. IfOk r (λ b. S.text self.old.rest ≡ b ++ S.text self.new.rest)) }
     {
-        self.site.piece(&self.rt, self.alloc, &mut self.rest)
+        self.service.piece(&self.rt, self.alloc, &mut self.rest)
     }
 }
 
 /// The body of an answer: whole, or told piece by piece as the connection asks for it.
 #[derive(Drop)]
-pub enum PageBody<R, S: Answering> {
-    /// One piece, or none any more.
-    Whole(Option<Bytes>),
+pub enum PageBody<R, S: Handler> {
+    /// One piece, or none any more, and what it was made of.
+    Whole(Option<Bytes>, Option<S::Seen>),
     /// Pieces that are still to come.
     Long(Unsent<R, S>),
 }
 
-impl<R: Wait + Drop, S: Answering> Body for PageBody<R, S> {
+impl<R: Wait + Drop, S: Handler> Body for PageBody<R, S> {
     type Data = Bytes;
 
     type Error = PieceError;
 
     ghost yields = { elim [
-      | Whole b ↦ Tells (held b)
+      | Whole b seen ↦ Tells (held b)
       | Long t ↦ Tells (S.text t.rest)
     ] };
 
@@ -55,7 +56,7 @@ impl<R: Wait + Drop, S: Answering> Body for PageBody<R, S> {
         _cx: &mut Context<'_>,
     ) -> Poll<Option<Result<Frame<Bytes>, PieceError>>> {
         match self {
-            PageBody::Whole(held) => match held.take() {
+            PageBody::Whole(held, _) => match held.take() {
                 Some(bytes) => Poll::Ready(Some(Ok(Frame::data(bytes)))),
                 None => Poll::Ready(None),
             },
@@ -68,13 +69,13 @@ impl<R: Wait + Drop, S: Answering> Body for PageBody<R, S> {
     }
 
     fn is_end_stream(&self) -> bool {
-        matches!(self, PageBody::Whole(None))
+        matches!(self, PageBody::Whole(None, _))
     }
 
     fn size_hint(&self) -> SizeHint {
         match self {
-            PageBody::Whole(Some(bytes)) => SizeHint::with_exact(bytes.len() as u64),
-            PageBody::Whole(None) => SizeHint::with_exact(0),
+            PageBody::Whole(Some(bytes), _) => SizeHint::with_exact(bytes.len() as u64),
+            PageBody::Whole(None, _) => SizeHint::with_exact(0),
             PageBody::Long(_) => SizeHint::new(),
         }
     }

@@ -1,13 +1,14 @@
 //! The service of one connection.
 ghost use Rattle.std.specs.Prelude.{◌≡◌, ◌⊎◌, IsSomeAnd, IsOkAnd};
+ghost use Rattle.std.specs.Arc.{arc_value};
 ghost use Rattle.http.specs.Request as request;
-ghost use Rattle.bm_http.specs.Replies.{Reply, page};
+ghost use Rattle.bm_http.specs.Replies.{page};
 ghost use Rattle.bm_http.specs.Replies.{unavailable as unavailable_reply};
 ghost use Rattle.bm_http.specs.Shown.{reply_of};
 ghost use Rattle.bm_http.specs.LongAnswers.{held};
-ghost use Rattle.bm_web_server.specs.Responses.{body_text, replied, target_of};
+ghost use Rattle.bm_web_server.specs.Responses.{body_text, replied, seen_in, seen_of, target_of};
 
-use crate::log_service::Answering;
+use crate::handler::{Handler, Served};
 use crate::page_body::{PageBody, Unsent};
 use bm_http::{Answer, WholeOrLong};
 use bytes::Bytes;
@@ -21,39 +22,42 @@ use std::alloc::Global;
 use std::convert::Infallible;
 use std::sync::{Arc, Wait};
 
-/// The pages of a site. A request's body is never read.
+/// The pages of a service. A request's body is never read.
 #[derive(Drop)]
 pub struct Pages<R, S> {
     pub rt: R,
     pub alloc: Global,
-    pub site: Arc<S>,
+    pub service: Arc<S>,
 }
 
-impl<R: Wait + Copy, S: Answering> Pages<R, S> {
+impl<R: Wait + Copy, S: Handler> Pages<R, S> {
     // The response to a request.
     fn page(&self, method: &str, target: &str) -> Response<PageBody<R, S>>
-        ensures { (reply : Reply) × S.gives method.now target.now reply
-            × ((replied S.text result ≡ reply) ⊎ (replied S.text result ≡ unavailable_reply)) }
+        ensures { (replied S.text result ≡ unavailable_reply)
+            ⊎ S.gives (arc_value self.now.service) method.now target.now (seen_in result)
+            (replied S.text result) }
     {
-        match self.site.answer(&self.rt, self.alloc, method, target) {
-            WholeOrLong::Whole(answer) => response(self.alloc, answer),
-            WholeOrLong::Long(rest) => long(self, rest),
+        let Served { reply, seen } = self.service.answer(&self.rt, self.alloc, method, target);
+        match reply {
+            WholeOrLong::Whole(answer) => response(self.alloc, answer, seen),
+            WholeOrLong::Long(rest) => long(self, rest, seen),
         }
     }
 }
 
-impl<R: Wait + Copy, S: Answering, I: Drop> Service<Request<Incoming<I>>> for Pages<R, S> {
+impl<R: Wait + Copy, S: Handler, I: Drop> Service<Request<Incoming<I>>> for Pages<R, S> {
     type Response = Response<PageBody<R, S>>;
 
     type Error = Infallible;
 
     type Future = Ready<Result<Response<PageBody<R, S>>, Infallible>>;
 
-    // The response is a reply that the site gives to a request with this method and target.
+    // The response is a reply that the service gives to a request with this method and target, made
+    // of what the response keeps.
     ghost calls = { λ p req future. IsSomeAnd future.0 (λ given. IsOkAnd given (λ response.
-        (reply : Reply)
-        × S.gives (request.head_of req).method (target_of (request.head_of req).uri) reply
-        × ((replied S.text response ≡ reply) ⊎ (replied S.text response ≡ unavailable_reply)))) };
+        (replied S.text response ≡ unavailable_reply)
+        ⊎ S.gives (arc_value p.service) (request.head_of req).method
+        (target_of (request.head_of req).uri) (seen_in response) (replied S.text response))) };
 
     fn call(&self, req: Request<Incoming<I>>) -> Self::Future {
         let method = req.method().as_str();
@@ -74,8 +78,12 @@ fn target_in(uri: &Uri) -> &str
 
 // The response with an answer: JSON under each status but 503. Under 405 it names the one method
 // that is allowed (RFC 9110).
-fn response<R: Wait + Drop, S: Answering>(alloc: Global, answer: Answer) -> Response<PageBody<R, S>>
-    ensures { (replied S.text result ≡ reply_of answer)
+fn response<R: Wait + Drop, S: Handler>(
+    alloc: Global,
+    answer: Answer,
+    seen: Option<S::Seen>,
+) -> Response<PageBody<R, S>>
+    ensures { ((replied S.text result ≡ reply_of answer) × (seen_in result ≡ seen))
         ⊎ (replied S.text result ≡ unavailable_reply) }
 {
     let Answer { status, body } = answer;
@@ -85,7 +93,7 @@ fn response<R: Wait + Drop, S: Answering>(alloc: Global, answer: Answer) -> Resp
     let Ok(status) = StatusCode::from_u16(status) else {
         return unavailable(alloc);
     };
-    let mut response = Response::new(alloc, whole(body));
+    let mut response = Response::new(alloc, whole(body, seen));
     *response.status_mut() = status;
     let json = HeaderValue::from_static("application/json");
     if status != StatusCode::SERVICE_UNAVAILABLE
@@ -103,21 +111,23 @@ fn response<R: Wait + Drop, S: Answering>(alloc: Global, answer: Answer) -> Resp
 }
 
 // A page that is told piece by piece.
-fn long<R: Wait + Copy, S: Answering>(
+fn long<R: Wait + Copy, S: Handler>(
     pages: &Pages<R, S>,
     rest: S::Rest,
+    seen: Option<S::Seen>,
 ) -> Response<PageBody<R, S>>
-    ensures { (replied S.text result ≡ page (S.text rest))
+    ensures { ((replied S.text result ≡ page (S.text rest)) × (seen_in result ≡ seen))
         ⊎ (replied S.text result ≡ unavailable_reply) }
 {
-    let Ok(site) = Arc::try_clone(&pages.site) else {
+    let Ok(service) = Arc::try_clone(&pages.service) else {
         return unavailable(pages.alloc);
     };
     let unsent = Unsent {
         rt: pages.rt,
         alloc: pages.alloc,
-        site,
+        service,
         rest,
+        seen,
     };
     let mut response = Response::new(pages.alloc, PageBody::Long(unsent));
     let json = HeaderValue::from_static("application/json");
@@ -127,19 +137,19 @@ fn long<R: Wait + Copy, S: Answering>(
     response
 }
 
-fn whole<R: Wait + Drop, S: Answering>(body: Bytes) -> PageBody<R, S>
-    ensures { body_text S.text result ≡ body }
+fn whole<R: Wait + Drop, S: Handler>(body: Bytes, seen: Option<S::Seen>) -> PageBody<R, S>
+    ensures { (body_text S.text result ≡ body) × (seen_of result ≡ seen) }
 {
     if body.is_empty() {
-        return PageBody::Whole(None);
+        return PageBody::Whole(None, seen);
     }
-    PageBody::Whole(Some(body))
+    PageBody::Whole(Some(body), seen)
 }
 
-fn unavailable<R: Wait + Drop, S: Answering>(alloc: Global) -> Response<PageBody<R, S>>
+fn unavailable<R: Wait + Drop, S: Handler>(alloc: Global) -> Response<PageBody<R, S>>
     ensures { replied S.text result ≡ unavailable_reply }
 {
-    let mut response = Response::new(alloc, PageBody::Whole(None));
+    let mut response = Response::new(alloc, PageBody::Whole(None, None));
     *response.status_mut() = StatusCode::SERVICE_UNAVAILABLE;
     response
 }

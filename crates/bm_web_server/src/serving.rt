@@ -3,7 +3,7 @@ ghost use Rattle.std.specs.Prelude.{◌<◌};
 
 use crate::admission::Admission;
 use crate::connections::Connections;
-use crate::log_service::Answering;
+use crate::handler::Handler;
 use futures::StreamExt;
 use hyper::rt::TokioTimer;
 use hyper::server::conn::http1;
@@ -45,13 +45,14 @@ pub fn serve<R, S>(
     rt: R,
     limits: WebLimits,
     listener: net::TcpListener,
-    site: Arc<S>,
+    service: Arc<S>,
     stop: oneshot::Receiver<()>,
 ) -> io::Result<()>
 where
     R: Wait + Threads + Clock + RandomSource + AllocGlobal + Net + Copy + Send + Sync,
-    S: Answering + Send + Sync,
+    S: Handler + Send + Sync,
     S::Rest: Send,
+    S::Seen: Send,
     requires { 0 < limits.workers }
 {
     let alloc = rt.alloc();
@@ -71,7 +72,7 @@ where
         rt,
         alloc,
         incoming: listener.incoming(),
-        site,
+        service,
         places: Arc::new(alloc, Semaphore::new(alloc, places)?)?,
         timers,
         stalled: limits.stalled,

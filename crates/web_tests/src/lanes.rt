@@ -2,7 +2,7 @@
 ghost use Rattle.std.specs.Prelude.{◌≡◌};
 
 use bm_lane::{Blank, Drained, Ends, ReaderEnd, WriterEnd, Yard};
-use bm_lines::{Letter, LogName, LineBatch};
+use bm_lines::{Letter, LineBatch, LogName};
 use bm_session::{Body, Event};
 use std::alloc::Global;
 use std::sync::Wait;

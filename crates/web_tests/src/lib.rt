@@ -9,6 +9,8 @@ mod clients;
 #[cfg(test)]
 mod lanes;
 #[cfg(test)]
+mod loopback;
+#[cfg(test)]
 mod memory;
 #[cfg(test)]
 mod pieces;

@@ -2,7 +2,7 @@
 ghost use Rattle.std.specs.Prelude.{◌≡◌};
 
 use crate::lanes::shown;
-use bm_http::{LongAnswer, Piece, Routes, WholeOrLong};
+use bm_http::{BodyPiece, LongAnswer, Routes, WholeOrLong};
 use bm_lane::{Blank, Viewer, Yard, open};
 use std::alloc::{AllocError, AllocGlobal, Global};
 use std::marker::Brand;
@@ -39,6 +39,9 @@ fn long_answer<Y: Yard>(
     viewer: &mut Viewer<Y>,
 ) -> Option<LongAnswer<Y>> {
     let request = routes.request(alloc, "GET", TARGET).ok()?;
+    if request.lane(1) != Some(viewer.lane()) {
+        return None;
+    }
     let look = request.first_look(alloc, 1, viewer).ok()?;
     match look.answer(alloc) {
         Ok(WholeOrLong::Long(answer)) => Some(answer),
@@ -47,7 +50,7 @@ fn long_answer<Y: Yard>(
 }
 
 // Whether the piece's bytes could be added.
-fn is_added(alloc: Global, all: &mut Vec<u8>, piece: Piece) -> bool {
+fn is_added(alloc: Global, all: &mut Vec<u8>, piece: BodyPiece) -> bool {
     match piece.told(alloc) {
         Ok(bytes) => all.extend_from_slice(bytes.as_slice()).is_ok(),
         Err(_) => false,

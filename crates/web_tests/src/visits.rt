@@ -1,29 +1,18 @@
-//! The server, and clients that visit it.
-ghost use Rattle.std.specs.Prelude.{◌≡◌};
-
+//! What clients of the server do.
 use crate::clients::{Client, is_begun, says};
-use crate::lanes::shown;
 use crate::rows::{LINES, NOT_ALLOWED, WIRE};
-use bm_lane::{Blank, Ends, Viewer, Yard, open};
-use bm_web_server::{WebLimits, LogService, serve};
-use std::alloc::{AllocError, AllocGlobal, Global};
-use std::marker::Brand;
-use std::net::{Net, SocketAddr, TcpListener, TcpStream};
-use std::process::Abort;
-use std::random::RandomSource;
-use std::sync::{Arc, Wait};
-use std::test::Fail;
-use std::thread::{Threads, join};
+use std::alloc::{AllocError, AllocGlobal};
+use std::net::{Net, TcpStream};
 use std::time::{Clock, Duration, Instant};
 use std::{io, thread};
 use tokio::sync::oneshot;
 
 /// How many connections the server has open at most.
-const PLACES: usize = 40;
+pub const PLACES: usize = 40;
 
 /// What clients do.
 #[derive(Clone, Copy)]
-enum Visit {
+pub enum Visit {
     Rows,
     Pipelined,
     Many,
@@ -280,8 +269,8 @@ impl<R: Net<Stream = TcpStream> + Clock + AllocGlobal + Copy> Client<R> {
         says(&stream, "GET /").then_some(stream)
     }
 
-    // Pays the visit, says half a head, and tells the server to stop.
-    fn visit(self, visit: Visit, stop: oneshot::Sender<()>) -> Left {
+    /// Pays the visit, says half a head, and tells the server to stop.
+    pub fn visit(self, visit: Visit, stop: oneshot::Sender<()>) -> Left {
         let is_pleased = self.is_pleased(visit);
         let half = self.half();
         let stopped = Instant::now(&self.rt).ok();
@@ -350,7 +339,7 @@ fn is_begun_without(stream: &TcpStream, others: Vec<TcpStream>) -> bool {
 
 /// What clients leave behind at the stop.
 #[derive(Drop)]
-struct Left {
+pub struct Left {
     is_pleased: bool,
     // One that has said half a head.
     half: Option<TcpStream>,
@@ -358,8 +347,8 @@ struct Left {
 }
 
 impl Left {
-    // Whether the server did what is wanted, and ended less than a second after the stop.
-    fn is_well<R: Clock>(&self, rt: &R) -> bool {
+    /// Whether the server did what is wanted, and ended less than a second after the stop.
+    pub fn is_well<R: Clock>(&self, rt: &R) -> bool {
         self.is_pleased && self.half.is_some() && is_prompt(rt, self.stopped)
     }
 }
@@ -370,234 +359,4 @@ fn is_prompt<R: Clock>(rt: &R, stopped: Option<Instant>) -> bool {
         Some(stopped) => matches!(stopped.elapsed(rt), Ok(time) if time < Duration::from_secs(1)),
         None => false,
     }
-}
-
-/// What is served, where, and until when.
-#[derive(Drop)]
-struct Serving<R, Y: Yard> {
-    rt: R,
-    listener: TcpListener,
-    site: Arc<LogService<Y>>,
-    stopped: oneshot::Receiver<()>,
-}
-
-// A listener at a port that was free, and where that is.
-fn bound<R: Net<Listener = TcpListener, Stream = TcpStream>>(
-    rt: &R,
-) -> Option<(TcpListener, SocketAddr)> {
-    let listener = TcpListener::bind(rt, "127.0.0.1:0").ok()?;
-    let address = listener.local_addr().ok();
-    Some(listener).zip(address)
-}
-
-impl<R, Y: Yard + Send + Sync> Serving<R, Y>
-where
-    R: Net<Listener = TcpListener, Stream = TcpStream>
-        + Wait
-        + Threads
-        + Clock
-        + RandomSource
-        + AllocGlobal
-        + Copy
-        + Send
-        + Sync,
-{
-    // What serves the site, what tells it to stop, and who visits it.
-    fn new(rt: R, site: Arc<LogService<Y>>) -> Option<(Serving<R, Y>, oneshot::Sender<()>, Client<R>)> {
-        let channel = oneshot::channel(rt.alloc()).ok();
-        let ((stop, stopped), (listener, address)) = channel.zip(bound(&rt))?;
-        let serving = Serving {
-            rt,
-            listener,
-            site,
-            stopped,
-        };
-        Some((serving, stop, Client { rt, address }))
-    }
-
-    // Serves until the stop. It answers whether serving could begin.
-    fn serve(self) -> bool {
-        let Serving {
-            rt,
-            listener,
-            site,
-            stopped,
-        } = self;
-        let limits = WebLimits {
-            workers: 2,
-            connections: PLACES,
-            idle: Duration::from_millis(1500),
-            stalled: Duration::from_secs(30),
-        };
-        serve(rt, limits, listener, site, stopped).is_ok()
-    }
-}
-
-// Whether a server of the site does what is wanted, and stops in time.
-fn is_visited<
-    Y: Yard + Send + Sync,
-    R: Net<Listener = TcpListener, Stream = TcpStream>
-        + Wait
-        + Threads
-        + Clock
-        + RandomSource
-        + AllocGlobal
-        + Copy
-        + Send
-        + Sync,
->(rt: R, site: Arc<LogService<Y>>, visit: Visit) -> bool {
-    let Some((serving, stop, client)) = Serving::new(rt, site) else {
-        return false;
-    };
-    let (left, is_served) = join(
-        &rt,
-        move || client.visit(visit, stop),
-        move || serving.serve(),
-    );
-    left.is_well(&rt) && is_served
-}
-
-// The site of these viewers, held twice. None where there are none.
-fn site_of<Y: Yard>(
-    alloc: Global,
-    viewers: Vec<Viewer<Y>>,
-) -> Option<(Arc<LogService<Y>>, Arc<LogService<Y>>)> {
-    if viewers.is_empty() {
-        return None;
-    }
-    let site = LogService::new(alloc, viewers).ok()?;
-    let site = Arc::new(alloc, site).ok()?;
-    let held = Arc::try_clone(&site).ok();
-    Some(site).zip(held)
-}
-
-// Whether nobody else holds the site of so many lanes, which gives their viewers back.
-fn is_back<Y: Yard>(site: Arc<LogService<Y>>, lanes: usize) -> bool {
-    match LogService::into_viewers(site) {
-        Some(viewers) => viewers.len() == lanes,
-        None => false,
-    }
-}
-
-// Whether a server of these viewers does what is wanted, stops in time and gives the viewers back.
-fn is_well<
-    Y: Yard + Send + Sync,
-    R: Net<Listener = TcpListener, Stream = TcpStream>
-        + Wait
-        + Threads
-        + Clock
-        + RandomSource
-        + AllocGlobal
-        + Copy
-        + Send
-        + Sync,
->(rt: R, viewers: Vec<Viewer<Y>>, visit: Visit) -> bool {
-    let lanes = viewers.len();
-    match site_of(rt.alloc(), viewers) {
-        Some((site, held)) => {
-            let is_right = is_visited(rt, site, visit);
-            is_back(held, lanes) && is_right
-        }
-        None => false,
-    }
-}
-
-// A text of many lines where there is to be much to read.
-fn text_for(alloc: Global, visit: Visit) -> Result<String, AllocError> {
-    match visit {
-        Visit::Leaving => {
-            "0123456789012345678901234567890123456789012345678\n".repeat(alloc, 2000)
-        }
-        _ => String::from_str(alloc, "b\nc\n"),
-    }
-}
-
-// The ends of a lane that showed what the visit is for.
-fn shown_for<Y: Yard, W: Wait + Drop, R: Wait + AllocGlobal>(
-    rt: &R,
-    blank: Blank<W>,
-    visit: Visit,
-) -> Option<Ends<Y, W>>
-    requires { (blank.queue ≡ Y.queue 0) × (blank.copy ≡ Y.copy 0) }
-{
-    match text_for(rt.alloc(), visit) {
-        Ok(text) => shown::<Y, W, R>(rt, rt.alloc(), blank, 0, "a b", &text),
-        Err(_) => None,
-    }
-}
-
-// Whether a server of a lane does all of that. The other ends stay: viewers see nothing once their
-// writer is gone.
-fn on_lane<
-    Y: Yard + Send + Sync,
-    W: Wait + Drop,
-    R: Net<Listener = TcpListener, Stream = TcpStream>
-        + Wait
-        + Threads
-        + Clock
-        + RandomSource
-        + AllocGlobal
-        + Copy
-        + Send
-        + Sync,
->(rt: R, blank: Blank<W>, visit: Visit) -> bool
-    requires { (blank.queue ≡ Y.queue 0) × (blank.copy ≡ Y.copy 0) }
-{
-    match shown_for::<Y, W, R>(&rt, blank, visit) {
-        Some(ends) => is_well(rt, ends.viewers, visit),
-        None => false,
-    }
-}
-
-fn on_loopback<
-    R: Net<Listener = TcpListener, Stream = TcpStream>
-        + Wait
-        + Threads
-        + Clock
-        + RandomSource
-        + AllocGlobal
-        + Copy
-        + Send
-        + Sync
-        + Abort
-        + Drop,
->(rt: R, visit: Visit) -> Result<(), Fail> {
-    let blank = open(rt, rt.alloc(), 8, 1).ok().ok_or("no lane")?;
-    assert!(rt; on_lane::<Brand, R, R>(rt, blank, visit));
-    Ok(())
-}
-
-#[test]
-fn each_request_is_answered(rt: HostRuntime) -> Result<(), Fail> {
-    on_loopback(rt, Visit::Rows)
-}
-
-#[test]
-fn pipelined_requests_are_answered_in_order(rt: HostRuntime) -> Result<(), Fail> {
-    on_loopback(rt, Visit::Pipelined)
-}
-
-#[test]
-fn many_clients_are_answered_at_once(rt: HostRuntime) -> Result<(), Fail> {
-    on_loopback(rt, Visit::Many)
-}
-
-#[test]
-fn who_leaves_in_mid_answer_harms_nobody(rt: HostRuntime) -> Result<(), Fail> {
-    on_loopback(rt, Visit::Leaving)
-}
-
-#[test]
-fn who_is_slow_stalls_nobody(rt: HostRuntime) -> Result<(), Fail> {
-    on_loopback(rt, Visit::Slow)
-}
-
-#[test]
-fn who_finds_no_place_waits(rt: HostRuntime) -> Result<(), Fail> {
-    on_loopback(rt, Visit::Full)
-}
-
-#[test]
-fn bodies_and_long_heads_are_refused(rt: HostRuntime) -> Result<(), Fail> {
-    on_loopback(rt, Visit::Refused)
 }

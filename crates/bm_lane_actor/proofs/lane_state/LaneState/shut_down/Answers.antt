@@ -7,7 +7,7 @@ returns-in-Some g c =
     rw (← c.self.view_is) (
     shut_down g.S.Write.contents
     (record { lane = c.self.inside.reader; carry = c.self.inside.carry; link = c.self.inside.link; timer = c.self.inside.timer })
-    (record { lane = c.self.inside.reader; carry = c.ask.new.carry; link = Some c.ask.new.self; timer = c.dismiss.new.self })
+    (record { lane = c.self.inside.reader; carry = c.ask.new.resume_state; link = Some c.ask.new.self; timer = c.dismiss.new.self })
     c.in-Some.link c.ask.new.self c.ask.result
     c.in-Some.is c.ask.ensures.asked refl refl c.dismiss.ensures
     )

@@ -1,0 +1,2 @@
+-- To believe: which number a text writes.
+pub mod Decimals

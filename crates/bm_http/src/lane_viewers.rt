@@ -1,0 +1,109 @@
+//! The viewers of all lanes, of which each look takes one.
+ghost use Rattle.std.specs.Prelude.{◌≡◌, ◌∷◌, ◌++◌, [], map, Some, None, slice_get, slice_set, IfSome, IfOk, MatchOption};
+
+use bm_lane::{Viewer, Yard};
+use std::alloc::{AllocError, Global};
+use std::marker::Model;
+use thiserror::Error;
+
+/// Why viewers can't serve.
+#[derive(Clone, Copy, Debug, PartialEq, Eq, Error)]
+pub enum ViewersError {
+    /// Memory is wanting.
+    #[error("out of memory")]
+    Memory,
+    /// They aren't one of each lane, in the order of the lanes.
+    #[error("a viewer of another lane")]
+    Lane,
+}
+
+impl From<AllocError> for ViewersError {
+    fn from(_error: AllocError) -> ViewersError {
+        ViewersError::Memory
+    }
+}
+
+/// The viewers of all lanes, each at the place of its lane while no look has it. Contracts see the
+/// places.
+#[derive(Drop)]
+pub struct LaneViewers<Y: Yard> {
+    places: Vec<Option<Viewer<Y>>>,
+    // Room for all, so that they can be given back without memory.
+    room: Vec<Viewer<Y>>,
+}
+
+impl<Y: Yard> Model for LaneViewers<Y> {
+    ghost use Rattle.std.specs.Prelude.{◌≡◌, [], List, Option};
+    ghost use Rattle.bm_lane.specs.Ends.{Watched};
+    ghost use Rattle.bm_http.specs.Placed.{IsPlaced};
+
+    ghost Value = { List (Option Watched) };
+
+    ghost view = { λ v. v.places.items };
+
+    ghost invariant = { λ v. IsPlaced v.places.items × (v.room.items ≡ []) };
+}
+
+impl<Y: Yard> LaneViewers<Y> {
+    /// The viewers of all lanes, in the order of the lanes. This is where each is compared with its
+    /// place.
+    pub fn new(alloc: Global, viewers: Vec<Viewer<Y>>) -> Result<LaneViewers<Y>, ViewersError>
+        ensures { IfOk result (λ all. all ≡ map Some viewers.items) }
+    {
+        let mut all = LaneViewers {
+            places: Vec::with_capacity(alloc, viewers.len())?,
+            room: Vec::with_capacity(alloc, viewers.len())?,
+        };
+        for viewer in viewers {
+            all.add(viewer)?;
+        }
+        Ok(all)
+    }
+
+    // Adds the viewer of the next lane.
+    fn add(&mut self, viewer: Viewer<Y>) -> Result<(), ViewersError>
+        ensures { IfOk result (λ _. self.new ≡ self.old ++ Some viewer ∷ []) }
+    {
+        if viewer.lane() != self.places.len() as u64 {
+            return Err(ViewersError::Lane);
+        }
+        match self.places.push(Some(viewer)) {
+            Ok(()) => Ok(()),
+            Err(_) => Err(ViewersError::Memory),
+        }
+    }
+
+    /// Takes the viewer of a lane. None where another look has it, or there is no such lane.
+    pub fn take(&mut self, lane: u64) -> Option<Viewer<Y>>
+        ensures own { IfSome result (λ v. v.lane ≡ lane) }
+        ensures taken { MatchOption result (self.new ≡ self.old) (λ v.
+            (slice_get self.old lane ≡ Some (Some v)) × (self.new ≡ slice_set self.old lane None)) }
+    {
+        let place = lane as usize;
+        if place >= self.places.len() {
+            return None;
+        }
+        self.places[place].take()
+    }
+
+    /// Puts a viewer back to its lane's place.
+    pub fn put(&mut self, viewer: Viewer<Y>)
+        ensures { self.new ≡ slice_set self.old viewer.lane (Some viewer) }
+    {
+        let place = viewer.lane() as usize;
+        if place < self.places.len() {
+            self.places[place] = Some(viewer);
+        }
+    }
+
+    /// The viewers, given back. None where a look has one.
+    pub fn into_vec(self) -> Option<Vec<Viewer<Y>>>
+        ensures { IfSome result (λ all. map Some all.items ≡ self) }
+    {
+        let LaneViewers { places, mut room } = self;
+        for place in places {
+            room.push(place?).ok()?;
+        }
+        Some(room)
+    }
+}

@@ -1,0 +1,134 @@
+//! The orders of a build to the actor of its worker's lane.
+
+ghost use Rattle.std.specs.Prelude.{◌≡◌};
+ghost use Rattle.bm_lane_actor.specs.Ports.{is_left_out, start_refusal};
+
+use crate::byte_count::ByteCount;
+use crate::lane_request::LaneRequest;
+use crate::mailbox::LaneHandle;
+use crate::order_outcome::OrderOutcome;
+use bm_board::{StepPlan, Words};
+use bm_latent::TICK_MS;
+use bm_operator::StartRefusal;
+use crossbeam_channel::bounded;
+use std::alloc::Global;
+use std::sync::atomic::{AtomicBool, Ordering};
+use std::sync::{Arc, Wait};
+use std::thread;
+use std::time::{Clock, Duration};
+
+/// Whether a step isn't started, since its build was cancelled before.
+pub(crate) fn is_left_out(is_cancelled: bool, always_run: bool) -> bool
+    ensures { result ≡ is_left_out is_cancelled always_run }
+{
+    is_cancelled && !always_run
+}
+
+/// What the actor answers to a start; `Refused` where it has left. None where memory is wanting.
+fn try_start<S: Drop, R: Wait + Clock>(
+    rt: &R,
+    alloc: Global,
+    handle: &LaneHandle<S>,
+    argv: &Words,
+    bytes: &ByteCount,
+) -> Option<OrderOutcome> {
+    let (answer, answers) = bounded(alloc, 1).ok()?;
+    let words = argv.copy().ok()?;
+    let bytes = Arc::try_clone(bytes).ok()?;
+    if !handle.tell(rt, LaneRequest::Start(words, bytes, answer)) {
+        return Some(OrderOutcome::Refused);
+    }
+    match handle.answer(rt, &answers) {
+        Some(outcome) => Some(outcome),
+        None => Some(OrderOutcome::Refused),
+    }
+}
+
+/// What the actor answers to an interruption; `Refused` where it has left, or memory is wanting.
+fn try_interrupt<S: Drop, R: Wait + Clock>(
+    rt: &R,
+    alloc: Global,
+    handle: &LaneHandle<S>,
+    command: u64,
+) -> OrderOutcome {
+    let Ok((answer, answers)) = bounded(alloc, 1) else {
+        return OrderOutcome::Refused;
+    };
+    if !handle.tell(rt, LaneRequest::Interrupt(command, answer)) {
+        return OrderOutcome::Refused;
+    }
+    match handle.answer(rt, &answers) {
+        Some(outcome) => outcome,
+        None => OrderOutcome::Refused,
+    }
+}
+
+/// Waits until the actor has told all that happened to the lane so far, or has left. Where memory
+/// is wanting the actor is given a tick for it.
+pub(crate) fn settle<S: Drop, R: Wait + Clock>(rt: &R, alloc: Global, handle: &LaneHandle<S>) {
+    let Ok((answer, answers)) = bounded(alloc, 1) else {
+        thread::sleep(rt, Duration::from_millis(TICK_MS));
+        return;
+    };
+    if handle.tell(rt, LaneRequest::Settle(answer)) {
+        let _ = handle.answer(rt, &answers);
+    }
+}
+
+/// Why a step isn't started whose order came to this, and isn't tried again.
+fn start_refusal(outcome: OrderOutcome) -> StartRefusal
+    ensures { result ≡ start_refusal outcome }
+{
+    match outcome {
+        OrderOutcome::Full => StartRefusal::Full,
+        OrderOutcome::TooLong => StartRefusal::TooLong,
+        OrderOutcome::Started(_)
+        | OrderOutcome::Interrupted
+        | OrderOutcome::Later
+        | OrderOutcome::Refused => StartRefusal::Lost,
+    }
+}
+
+/// Starts a step's command once the lane is up.
+///
+/// # Errors
+///
+/// `Lost` where the lane is given up, or refuses; `Full` where it has had as many events as it may;
+/// `TooLong` where the words are more than an order carries; `Cancelled` where the step doesn't always run and
+/// its build is cancelled while it waits. Nothing is started then.
+pub(crate) fn start<S: Drop, R: Wait + Clock>(
+    rt: &R,
+    alloc: Global,
+    handle: &LaneHandle<S>,
+    step: &StepPlan,
+    cancelled: &AtomicBool,
+    bytes: &ByteCount,
+) -> Result<u64, StartRefusal> {
+    for _ in rt.forever() {
+        if is_left_out(cancelled.load(Ordering::SeqCst), step.always_run) {
+            return Err(StartRefusal::Cancelled);
+        }
+        match try_start(rt, alloc, handle, &step.argv, bytes) {
+            Some(OrderOutcome::Started(command)) => return Ok(command),
+            Some(OrderOutcome::Later) => thread::sleep(rt, Duration::from_millis(TICK_MS)),
+            Some(outcome) => return Err(start_refusal(outcome)),
+            None => return Err(StartRefusal::Memory),
+        }
+    }
+    unreachable!()
+}
+
+/// Interrupts a command once the lane is up, or does nothing once it is given up.
+pub(crate) fn interrupt<S: Drop, R: Wait + Clock>(
+    rt: &R,
+    alloc: Global,
+    handle: &LaneHandle<S>,
+    command: u64,
+) {
+    for _ in rt.forever() {
+        match try_interrupt(rt, alloc, handle, command) {
+            OrderOutcome::Later => thread::sleep(rt, Duration::from_millis(TICK_MS)),
+            _ => return,
+        }
+    }
+}

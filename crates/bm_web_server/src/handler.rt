@@ -1,0 +1,52 @@
+//! What answers requests.
+ghost use Rattle.std.specs.Prelude.{◌≡◌, ◌++◌, ℕ, [], IfOk, List, MatchOption, Option};
+ghost use Rattle.bm_http.specs.Replies.{Reply};
+ghost use Rattle.bm_http.specs.WholeOrLong.{reply_told};
+
+use bm_http::{PieceError, WholeOrLong};
+use bytes::Bytes;
+use std::alloc::Global;
+use std::sync::Wait;
+
+/// An answer, and what it was made of.
+#[derive(Drop)]
+pub struct Served<T, E> {
+    pub reply: WholeOrLong<T>,
+    /// What was seen, which nothing but contracts reads: none where nothing had to be.
+    pub seen: Option<E>,
+}
+
+/// What answers requests, whatever carries them.
+pub trait Handler: Drop {
+    /// What is left to tell of a long answer.
+    type Rest: Drop;
+
+    /// What an answer is made of.
+    type Seen: Drop;
+
+    // Which replies a request with this method and target may get, made of what was seen.
+    ghost gives: { Self → List ℕ → List ℕ → Option Seen → Reply → Type 0 };
+
+    // The text that is left to tell.
+    ghost text: { Self.Rest → List ℕ };
+
+    /// The answer to a request.
+    fn answer<R: Wait>(
+        &self,
+        rt: &R,
+        alloc: Global,
+        method: &str,
+        target: &str,
+    ) -> Served<Self::Rest, Self::Seen>
+        ensures { gives self.now method.now target.now result.seen (reply_told text result.reply) };
+
+    /// The next piece of a long answer; none once all was told.
+    fn piece<R: Wait>(
+        &self,
+        rt: &R,
+        alloc: Global,
+        rest: &mut Self::Rest,
+    ) -> Option<Result<Bytes, PieceError>>
+        ensures { MatchOption result (text rest.old ≡ [])
+            (λ r. IfOk r (λ b. text rest.old ≡ b ++ text rest.new)) };
+}
