@@ -5,8 +5,8 @@ mod memory;
 ghost use Rattle.std.specs.Prelude.{◌≡◌, ◌<◌, ◌≤◌, All};
 
 use bm_board::{Build, LockUse, LockUses, Mode, StepPlans};
-use bm_lane::{Blank, Viewer, Yard, open};
 use bm_build_queue::*;
+use bm_lane::{Blank, Viewer, Yard, open};
 use bm_session::Results;
 use std::alloc::{AllocError, Global};
 use std::marker::Brand;

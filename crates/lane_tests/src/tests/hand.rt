@@ -2,7 +2,7 @@
 ghost use Rattle.std.specs.Prelude.{◌≡◌, ◌<◌, ◌≤◌};
 
 use bm_lane::*;
-use bm_lines::{Letter, LogName, LineBatch};
+use bm_lines::{Letter, LineBatch, LogName};
 use bm_session::{Body, Event, Refusal, Reply, Results};
 use bm_store::{Book, Chunk, LogState, ViewRefusal};
 use std::alloc::{AllocError, Global};

@@ -46,7 +46,11 @@ impl ViewerPool {
     }
 
     /// A worker that names this session, whose link reads these messages after the handshake.
-    fn named(alloc: Global, session: Option<&str>, messages: &[&[u8]]) -> Result<ViewerPool, LinkFault> {
+    fn named(
+        alloc: Global,
+        session: Option<&str>,
+        messages: &[&[u8]],
+    ) -> Result<ViewerPool, LinkFault> {
         match script_of(alloc, AGREED, messages) {
             Ok(stream) => ViewerPool::over(alloc, session, stream),
             Err(_) => Err(LinkFault::Mem),

@@ -7,8 +7,8 @@ ghost use Rattle.std.specs.Prelude.{◌≡◌};
 
 use super::{build_of, roster_of, starts_none};
 use bm_board::{BoardRefusal, Build, Mode};
-use bm_lane::{Blank, Viewer, Yard, open};
 use bm_build_queue::{Assignment, BuildQueue};
+use bm_lane::{Blank, Viewer, Yard, open};
 use bm_session::Results;
 use std::alloc::{AllocGlobal, Global};
 use std::marker::Brand;
@@ -43,7 +43,12 @@ fn build_again(alloc: Global) -> Option<Build> {
 }
 
 /// Whether the build is added under that number, by a second call where memory was wanting.
-fn takes_again<Y: Yard>(alloc: Global, roster: &mut BuildQueue<Y>, build: &Build, number: u64) -> bool {
+fn takes_again<Y: Yard>(
+    alloc: Global,
+    roster: &mut BuildQueue<Y>,
+    build: &Build,
+    number: u64,
+) -> bool {
     let before = look_at(roster);
     match roster.add(alloc, build) {
         Err(BoardRefusal::Mem) => {
@@ -82,7 +87,12 @@ fn is_ended<Y: Yard>(
 
 /// Whether the other build is started beside the first, no build is left, and both end with their
 /// results.
-fn are_ended<Y: Yard>(roster: &mut BuildQueue<Y>, first: Assignment<Y>, one: u64, other: u64) -> bool {
+fn are_ended<Y: Yard>(
+    roster: &mut BuildQueue<Y>,
+    first: Assignment<Y>,
+    one: u64,
+    other: u64,
+) -> bool {
     let Some(second) = next_again(roster) else {
         return false;
     };

@@ -1,6 +1,6 @@
 //! Steps as data, for rows and random scripts.
 
-use bm_lines::{Letter, LogName, LineBatch, Text};
+use bm_lines::{Letter, LineBatch, LogName, Text};
 use bm_session::{Body, Event};
 use bm_world::*;
 use std::alloc::{AllocError, Global};
