@@ -75,7 +75,7 @@ pub struct Coordinator<'s, Y: Yard, R: Wait + Clock + Drop, O> {
 impl<'s, Y, R, O> Coordinator<'s, Y, R, O>
 where
     Y: Yard + Send + Sync + 's,
-    R: MasterHost,
+    R: MasterHost + 's,
     O: Write + Drop,
 {
     /// How long it is there. None where the clock fails.

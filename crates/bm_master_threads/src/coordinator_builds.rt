@@ -15,7 +15,7 @@ use std::thread::Scope;
 impl<'s, Y, R, O> Coordinator<'s, Y, R, O>
 where
     Y: Yard + Send + Sync + 's,
-    R: MasterHost,
+    R: MasterHost + 's,
     O: Write + Drop,
 {
     /// Starts each build that can be started.

@@ -14,7 +14,7 @@ const NOTHING_SAID: &str = "no exit code";
 impl<'s, Y, R, O> Coordinator<'s, Y, R, O>
 where
     Y: Yard + Send + Sync + 's,
-    R: MasterHost,
+    R: MasterHost + 's,
     O: Write + Drop,
 {
     /// Tells the operator.

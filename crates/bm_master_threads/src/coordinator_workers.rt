@@ -17,7 +17,7 @@ const LAST_TICKS: u64 = 1_001;
 impl<'s, Y, R, O> Coordinator<'s, Y, R, O>
 where
     Y: Yard + Send + Sync + 's,
-    R: MasterHost,
+    R: MasterHost + 's,
     O: Write + Drop,
 {
     // Something happened to a worker: what follows is done.

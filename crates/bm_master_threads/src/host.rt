@@ -20,8 +20,7 @@ pub trait MasterHost: Wait
     + Copy
     + Drop
     + Send
-    + Sync
-    + 'static {}
+    + Sync {}
 
 impl<R> MasterHost for R
 where
@@ -35,6 +34,5 @@ where
         + Copy
         + Drop
         + Send
-        + Sync
-        + 'static,
+        + Sync,
 {}

@@ -36,7 +36,7 @@ fn refuse<F: Write>(faults: &mut F, key: &str) -> u8 {
 /// NAME COMMANDS LINES` for each worker. On `faults` stand remarks for an operator.
 pub fn serve<R, I, O, F>(rt: &R, config: Config, input: I, output: O, faults: F) -> u8
 where
-    R: MasterHost,
+    R: MasterHost + 'static,
     I: Read + Drop + Send,
     O: Write + Drop + Send,
     F: Write + Drop + Send + 'static,

@@ -90,7 +90,7 @@ fn run_all<'s, E, Y, R, I, O>(
 ) -> Option<MasterLeft<Y, O>>
 where
     Y: Yard + Send + Sync + 's,
-    R: MasterHost,
+    R: MasterHost + 's,
     I: Read + Drop + Send + 's,
     O: Write + Drop + Send + 's,
 {

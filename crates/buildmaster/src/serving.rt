@@ -59,7 +59,7 @@ fn refuse<F: Write + Drop>(refusal: ConfigRefusal, faults: F) -> u8 {
 /// a text that is no TOML and `file` for a file that can't be read.
 pub fn serve_file<R, I, O, F>(rt: &R, path: &str, input: I, output: O, faults: F) -> u8
 where
-    R: MasterHost + Files,
+    R: MasterHost + Files + 'static,
     I: Read + Drop + Send,
     O: Write + Drop + Send,
     F: Write + Drop + Send + 'static,

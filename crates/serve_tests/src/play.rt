@@ -59,7 +59,7 @@ impl Play {
     /// Whether a master goes through it as it stands here, from its start to its end.
     pub fn goes<R>(&self, rt: R) -> bool
     where
-        R: MasterHost,
+        R: MasterHost + 'static,
     {
         match open(rt, self.config, self.session) {
             Some(scene) => scene.goes_through(self.acts, self.last, self.status),

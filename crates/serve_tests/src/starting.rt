@@ -37,7 +37,7 @@ fn on_loopback(alloc: Global, rest: &str) -> Option<Config> {
 // Starts the master of the configuration over these streams.
 fn launch<R>(rt: R, config: Config, streams: Streams<R>, ends: Ends) -> Option<Stage<R>>
 where
-    R: MasterHost,
+    R: MasterHost + 'static,
 {
     let Streams {
         feed,
@@ -60,7 +60,7 @@ where
 /// Starts the master of a configuration, to which addresses of the loopback are added.
 pub fn start<R>(rt: R, rest: &str) -> Option<Stage<R>>
 where
-    R: MasterHost,
+    R: MasterHost + 'static,
 {
     let config = on_loopback(rt.alloc(), rest)?;
     match open_streams(rt) {
@@ -72,7 +72,7 @@ where
 /// Starts the master of a configuration, and its worker `w0`, which logs in.
 pub fn open<R>(rt: R, rest: &str, session: Option<&str>) -> Option<Scene<R>>
 where
-    R: MasterHost,
+    R: MasterHost + 'static,
 {
     match start(rt, rest) {
         Some(stage) => stage.joined(session),
@@ -83,7 +83,7 @@ where
 // Whether the master of the configuration refuses it, with this line on its faults.
 fn refuses<R>(rt: R, config: Config, streams: Streams<R>, ends: Ends, line: &str) -> bool
 where
-    R: MasterHost,
+    R: MasterHost + 'static,
 {
     let Streams {
         feed,
@@ -103,7 +103,7 @@ where
 /// Whether a master of this configuration refuses it, with this line on its faults.
 pub fn refused<R>(rt: R, text: &str, line: &str) -> bool
 where
-    R: MasterHost,
+    R: MasterHost + 'static,
 {
     let Ok(config) = read_config(rt.alloc(), text) else {
         return false;

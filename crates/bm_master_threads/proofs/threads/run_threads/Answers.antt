@@ -3,7 +3,7 @@ use denote.Param.Send.{Quiet-if, sendable}
 use mir.Syntax.{of_param}
 use Rattle.bm_master_threads.proofs.threads.run_threads.Goals as goal
 
-pub scoped-left-requires : goal.scoped-done-requires
+pub scoped-left-requires : goal.scoped-left-requires
 scoped-left-requires g c = let b = c.type_bounds in
     record {
       at = λ a. (
