@@ -107,7 +107,7 @@ fn link_over(alloc: Global, stream: TcpStream) -> Option<Link> {
 
 /// A lane whose worker is given one command.
 #[derive(Drop)]
-struct LaneState<Y: Yard, W: Wait + Drop> {
+struct CommandLane<Y: Yard, W: Wait + Drop> {
     alloc: Global,
     ends: Ends<Y, W>,
     carry: ResumeState,
@@ -122,10 +122,10 @@ fn user_of(alloc: Global) -> Result<User, AllocError> {
     })
 }
 
-impl<Y: Yard, W: Wait + Drop> LaneState<Y, W> {
+impl<Y: Yard, W: Wait + Drop> CommandLane<Y, W> {
     /// A lane without a link. No user is known, and there is no command to start.
-    fn new(alloc: Global, ends: Ends<Y, W>) -> LaneState<Y, W> {
-        LaneState {
+    fn new(alloc: Global, ends: Ends<Y, W>) -> CommandLane<Y, W> {
+        CommandLane {
             alloc,
             ends,
             carry: ResumeState::new(alloc, true),
@@ -154,7 +154,7 @@ impl<Y: Yard, W: Wait + Drop> LaneState<Y, W> {
     }
 }
 
-impl<Y: Yard, W: Wait + Drop> LaneState<Y, W> {
+impl<Y: Yard, W: Wait + Drop> CommandLane<Y, W> {
     /// Whether the command has ended over one of the next connections, which are served in turn.
     fn serves_all<R: Wait + Net<Listener = TcpListener, Stream = TcpStream>>(
         &mut self,
@@ -288,7 +288,7 @@ where
 /// Whether a desk served a worker whose first connections are cut so, and the worker then left.
 fn has_served<Y: Yard, W: Wait + Drop, R>(
     rt: R,
-    desk: &mut LaneState<Y, W>,
+    desk: &mut CommandLane<Y, W>,
     cuts: Cuts,
 ) -> Option<bool>
 where
@@ -316,7 +316,7 @@ where
 /// What the lane of a new desk has of a command of a worker whose first connections are cut so.
 fn log_at<Y: Yard, W: Wait + Drop, R>(
     rt: R,
-    mut desk: LaneState<Y, W>,
+    mut desk: CommandLane<Y, W>,
     task: Task,
     cuts: Cuts,
 ) -> Option<Log>
@@ -363,7 +363,7 @@ where
     requires { (blank.queue ≡ Y.queue 0) × (blank.copy ≡ Y.copy 0) }
 {
     let ends = blank.ends::<Y>(rt.alloc(), 0).ok()?;
-    log_at(rt, LaneState::new(rt.alloc(), ends), task, cuts)
+    log_at(rt, CommandLane::new(rt.alloc(), ends), task, cuts)
 }
 
 /// What a new lane has of a command of a worker whose first connections are cut so.

@@ -2,7 +2,7 @@
 //! limits.
 
 use super::calls::{Answer, BAD, CLOSED, Call, DROPPED, HEARD, PLAIN};
-use super::desk::{Row, plays};
+use super::linked_lane::{Row, plays};
 use super::{ANSWER, AUTH, CLOSE, TRUE, UPDATE};
 
 /// A ping of a byte more than a ping may have.

@@ -12,8 +12,8 @@
 //!   and gets the same answer. It adds no line.
 
 use super::calls::{Answer, CLOSED, Call, HEARD, NOTED};
-use super::desk::{LaneState, Outcome, Trial, tried};
 use super::failing::ended_right;
+use super::linked_lane::{LinkedLane, Outcome, Trial, tried};
 use super::links::Links;
 use super::watch::{End, Step, Watch};
 use super::{
@@ -305,7 +305,7 @@ fn given_up(ended: Option<Results>, commands: u64) -> Option<Results> {
     }
 }
 
-impl<Y: Yard, W: Wait + Drop> LaneState<Y, W> {
+impl<Y: Yard, W: Wait + Drop> LinkedLane<Y, W> {
     /// The log of the command is whole, each line once; it ended as it was told to, once; and the
     /// session is there to be resumed.
     fn is_through(&mut self) -> bool {

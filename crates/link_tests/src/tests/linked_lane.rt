@@ -117,15 +117,15 @@ fn is_logged_for<Y: Yard>(viewer: &mut Viewer<Y>, name: &str, content: &str) -> 
 
 /// A lane, and the links over it.
 #[derive(Drop)]
-pub(crate) struct LaneState<Y: Yard, W: Wait + Drop> {
+pub(crate) struct LinkedLane<Y: Yard, W: Wait + Drop> {
     pub ends: Ends<Y, W>,
     pub links: Links,
 }
 
-impl<Y: Yard, W: Wait + Drop> LaneState<Y, W> {
+impl<Y: Yard, W: Wait + Drop> LinkedLane<Y, W> {
     /// A lane without a link.
-    pub fn new(alloc: Global, ends: Ends<Y, W>, resumable: bool) -> LaneState<Y, W> {
-        LaneState {
+    pub fn new(alloc: Global, ends: Ends<Y, W>, resumable: bool) -> LinkedLane<Y, W> {
+        LinkedLane {
             ends,
             links: Links::new(alloc, resumable),
         }
@@ -239,7 +239,7 @@ fn tried_at<Y: Yard, W: Wait + Drop, R: Wait + Abort>(
     resumable: bool,
     trial: Trial<'_>,
 ) -> Outcome {
-    LaneState::new(alloc, ends, resumable).tries(rt, alloc, trial)
+    LinkedLane::new(alloc, ends, resumable).tries(rt, alloc, trial)
 }
 
 fn tried_on<Y: Yard, W: Wait + Drop, R: Wait + Abort>(
