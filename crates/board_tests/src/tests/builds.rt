@@ -104,7 +104,12 @@ fn try_build(alloc: Global, worker: usize, locks: &[LockUse], plans: &[Plan]) ->
     }
 }
 
-pub fn make_build(alloc: Global, worker: usize, locks: &[LockUse], plans: &[Plan]) -> Option<Build> {
+pub fn make_build(
+    alloc: Global,
+    worker: usize,
+    locks: &[LockUse],
+    plans: &[Plan],
+) -> Option<Build> {
     match try_build(alloc, worker, locks, plans) {
         None => try_build(alloc, worker, locks, plans),
         build => build,
