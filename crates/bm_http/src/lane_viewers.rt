@@ -97,9 +97,7 @@ impl<Y: Yard> LaneViewers<Y> {
     }
 
     /// The viewers, given back. None where a look has one.
-    pub fn into_vec(self) -> Option<Vec<Viewer<Y>>>
-        ensures { IfSome result (λ all. map Some all.items ≡ self) }
-    {
+    pub fn into_vec(self) -> Option<Vec<Viewer<Y>>> {
         let LaneViewers { places, mut room } = self;
         for place in places {
             room.push(place?).ok()?;
