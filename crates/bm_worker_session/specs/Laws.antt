@@ -3,11 +3,21 @@ use Rattle.std.specs.Prelude.{◌≡◌, ◌≤◌, ℕ, Bool, true, false, List
 use Rattle.bm_link.specs.Working.{WorkState}
 use Rattle.bm_link.specs.declared.fault.LinkFault.{LinkFault}
 use Rattle.bm_link.specs.declared.parts.Turn.{Turn}
-use Rattle.bm_work.specs.Core.{next_number, unanswered_requests}
+use Rattle.bm_work.specs.Core.{Core, IsCore, next_number, unanswered_requests}
 use Rattle.bm_work.specs.Stream.{stream}
 use Rattle.bm_work.specs.declared.act.WorkAct.{WorkAct}
 use Rattle.bm_work.specs.declared.sent.Sent.{Sent}
-use Rattle.bm_worker_session.specs.Sessions.{BeginsBy, HandsOver, HearsBy, SendsNext, SessionState}
+use Rattle.bm_outbox.specs.Telling.{TellsNext}
+use Rattle.bm_outbox.specs.declared.outbox_entry.OutboxEntry.{OutboxEntry}
+use Rattle.bm_outbox.specs.declared.progress.Progress.{Progress}
+use Rattle.bm_worker_session.specs.Sessions.{BeginsBy, HandsOver, HearsBy, SendsNext, SessionState, requests_of}
+
+-- What is told has no answer yet, whatever becomes of the link: it stands behind all that has none,
+-- and so the next link is handed it again.
+abbrev pub TellsKeep : Type 0
+TellsKeep = (waiting waiting2 : List OutboxEntry) (c c2 : Core) (p : Progress) → IsCore c
+    → TellsNext waiting c (Ok p) waiting2 c2
+    → unanswered_requests c2 ≡ unanswered_requests c ++ requests_of (Ok p)
 
 module _ {S : Type 0} where
   -- What the link was handed so far, and then the backlog, is what had no answer when the link came

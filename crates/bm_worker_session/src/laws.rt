@@ -1,15 +1,17 @@
 //! What a link was handed, over a whole connection, as contracts.
 
-ghost use Rattle.bm_worker_session.specs.Laws.{BeginsAnewInStep, BeginsInStep, HearsInStep, SendsInStep};
+ghost use Rattle.bm_worker_session.specs.Laws.{BeginsAnewInStep, BeginsInStep, HearsInStep, SendsInStep, TellsKeep};
 
 use std::io::{Read, Write};
 
 /// What a link was handed so far, and then what is still to be sent again, is what had no answer when
 /// the link came to be, and then all requests since, in order. A link begins so, and each call that
-/// sends without a fault, and each turn, keeps it so.
+/// sends without a fault, and each turn, keeps it so. What is told has no answer then, whether the
+/// link failed or not.
 pub fn sent_requests_are_the_stream<S: Read + Write>()
     ensures begins { BeginsInStep S.contents }
     ensures anew { BeginsAnewInStep S.contents }
     ensures sends { SendsInStep S.contents }
     ensures hears { HearsInStep S.remaining S.contents }
+    ensures kept { TellsKeep }
 {}

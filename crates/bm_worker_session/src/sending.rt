@@ -1,7 +1,7 @@
 //! How requests are handed to a link.
 
-ghost use Rattle.std.specs.Prelude.{◌≡◌, Bool};
-ghost use Rattle.bm_worker_session.specs.Sessions.{HandsOver, HandsOverProgress, TellsOn};
+ghost use Rattle.std.specs.Prelude.{◌≡◌};
+ghost use Rattle.bm_worker_session.specs.Sessions.{HandsOver, HandsOverProgress, TellsOn, answer_of_sending};
 
 use crate::session_fault::SessionFault;
 use bm_link::WorkerLink;
@@ -21,8 +21,9 @@ pub(crate) fn hand_over<S: Read + Write + Drop, K: MaskKeys + Drop>(
     ensures { HandsOver S.contents requests.now link.old result link.new }
 {
     for request in requests {
-        if link.send(alloc, request).is_err() {
-            return false;
+        match link.send(alloc, request) {
+            Ok(()) => {}
+            Err(_fault) => return false,
         }
     }
     true
@@ -36,13 +37,19 @@ fn hand_over_progress<S: Read + Write + Drop, K: MaskKeys + Drop>(
 ) -> Result<bool, SessionFault>
     ensures { HandsOverProgress S.contents progress link.old result link.new }
 {
-    let is_sent = match progress {
-        Ok(Progress::Nothing | Progress::Full) => return Ok(false),
-        Ok(Progress::Passed) => return Ok(true),
-        Ok(Progress::Text(request)) => hand_over(alloc, link, &[request]),
-        Ok(Progress::End(requests)) => hand_over(alloc, link, requests.as_slice()),
-        Err(_) => return Err(SessionFault::Memory),
-    };
+    match progress {
+        Ok(Progress::Nothing | Progress::Full) => Ok(false),
+        Ok(Progress::Passed) => Ok(true),
+        Ok(Progress::Text(request)) => outcome(hand_over(alloc, link, &[request])),
+        Ok(Progress::End(requests)) => outcome(hand_over(alloc, link, requests.as_slice())),
+        Err(_) => Err(SessionFault::Memory),
+    }
+}
+
+/// What is answered where all that there was to be sent was sent, or where it wasn't.
+pub(crate) fn outcome(is_sent: bool) -> Result<bool, SessionFault>
+    ensures { result ≡ answer_of_sending is_sent }
+{
     if is_sent {
         Ok(true)
     } else {

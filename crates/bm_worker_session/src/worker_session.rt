@@ -1,6 +1,9 @@
 //! A worker's session: its core, its outbox and the link that is up.
 
-use crate::sending::{hand_over, tell_on};
+ghost use Rattle.std.specs.Prelude.{◌≡◌};
+ghost use Rattle.bm_worker_session.specs.Sessions.{is_resumed};
+
+use crate::sending::{hand_over, outcome, tell_on};
 use crate::session_fault::SessionFault;
 use bm_link::{Attached, LinkFault, Turn, WorkerLink};
 use bm_outbox::{Outbox, begin};
@@ -24,9 +27,13 @@ pub struct WorkerSession<S, K> {
 }
 
 impl<S, K> Model for WorkerSession<S, K> {
+    ghost use Rattle.std.specs.Coded.{codes};
+    ghost use Rattle.bm_work.specs.contracts.worker.Worker as worker;
     ghost use Rattle.bm_worker_session.specs.Sessions.{SessionState};
 
     ghost Value = { SessionState S };
+
+    ghost coded = { Prim.hlevel (codes, worker.the_row.coded) };
 
     ghost view = { λ w. record {
       core = w.core;
@@ -90,11 +97,7 @@ impl<S: Read + Write + Drop, K: MaskKeys + Drop> WorkerSession<S, K> {
         let Some(request) = self.backlog.pop_front() else {
             return tell_on(alloc, &mut self.core, &mut self.outbox, link);
         };
-        if hand_over(alloc, link, &[request]) {
-            Ok(true)
-        } else {
-            Err(SessionFault::Link)
-        }
+        outcome(hand_over(alloc, link, &[request]))
     }
 
     /// Hears one message of the link, and answers what it asks: a request of the master is answered,
@@ -120,10 +123,10 @@ impl<S: Read + Write + Drop, K: MaskKeys + Drop> WorkerSession<S, K> {
     pub fn ping(&mut self) -> Result<(), LinkFault>
         ensures { PingsBy S.contents self.old.link self.old result self.new }
     {
-        match &mut self.link {
-            Some(link) => link.ping(),
-            None => Err(LinkFault::Closed),
-        }
+        let Some(link) = &mut self.link else {
+            return Err(LinkFault::Closed);
+        };
+        link.ping()
     }
 
     /// The link is lost, or given up: the core and what waits stay as they are, and the next link
