@@ -1,5 +1,5 @@
 -- What is told of the command at a place.
-use Rattle.std.proofs.Common.{◌≡◌, refl, sym, ap, ◌∙◌, subst, ℕ, ◌<◌, nat_lt, Bool, true, false, true≢false, ◌||◌, List, [], ◌∷◌, ◌++◌, length, drop, map, get_or, arith, suc, Option, Some, None, Result, Ok, Err, OnOk, IfSome}
+use Rattle.std.proofs.Common.{◌≡◌, refl, sym, ap, ◌∙◌, subst, ℕ, ◌<◌, nat_lt, Bool, true, false, true≢false, ◌||◌, List, [], ◌∷◌, ◌++◌, length, drop, map, get_or, arith, suc, Option, Some, None, Result, Ok, Err, OnOk}
 use Rattle.std.specs.List.{remove, slice_index_or, position}
 use Rattle.std.proofs.lemmas.List.{get_or-map}
 use Rattle.std.proofs.lemmas.List.Quantifiers.{position-Some}
@@ -43,7 +43,7 @@ told_end (Ok v) at all running process code old new within is texts ended left t
   slice_get-get_or all at process within ∙ ap Some (sym is),
   subst (λ (t : List Said). TellsOf process t process.code (remove all at) running old new) (sym texts)
       (subst (λ c. TellsOf process [] c (remove all at) running old new) (sym ended)
-      (subst (λ c. IfSome c (λ (x : ExitCode). x.command ≡ process.pipes.command)) ended process.own, told, left)),
+      (process.own code ended, told, left)),
 )
 told_end (Err e) at all running process code old new within is texts ended left told = tt
 

@@ -1,7 +1,7 @@
 //! A command whose process was started.
 
-ghost use Rattle.std.specs.Prelude.{◌≡◌, IfSome};
-ghost use Rattle.bm_worker_threads.specs.Turns.{ready_of};
+ghost use Rattle.std.specs.Prelude.{◌≡◌};
+ghost use Rattle.std.specs.Option.{ForSome};
 
 use bm_outbox::{ExitCode, Pipes, Ready, Said};
 use crossbeam_channel::Sender;
@@ -21,10 +21,12 @@ pub(crate) struct RunningCommand {
     pub(crate) permits: Sender<()>,
     /// How it ended, once that is known.
     pub(crate) code: Option<ExitCode>,
-    pub(crate) ghost own: { IfSome code (λ c. c.command ≡ pipes.command) },
+    pub(crate) ghost own: { ForSome code (λ c. c.command ≡ pipes.command) },
 }
 
 impl RunningCommand {
+    ghost use Rattle.bm_worker_threads.specs.Turns.{ready_of};
+
     /// Whether all that the process printed was taken, and how it ended isn't known yet.
     pub(crate) fn is_ending(&self) -> bool {
         self.pipes.are_over() && self.code.is_none()
