@@ -1,6 +1,6 @@
 mod Below
-pub mod Benching
-pub mod Calls
-pub mod Counting
+pub mod Pools
+pub mod Wholes
+pub mod Starts
 mod Listing
 mod Staying

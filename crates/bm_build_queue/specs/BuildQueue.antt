@@ -1,28 +1,30 @@
--- A roster, and what it does to its board. On the board a build is one step, whose outcome is what
--- the build's runner reports.
-use Rattle.std.specs.Prelude.{◌≡◌, ◌⊎◌, ◌<◌, ℕ, ◌==◌, nat_lt, Bool, true, false, ◌&&◌, [], ◌∷◌, List, length, slice_get, IsOk, Option, Some, None, Result, Ok, Err}
-use Rattle.std.specs.List.{list_any}
-use Rattle.std.specs.Option.{option_map_or}
+-- A build queue, and what it does to its board. On the board a build is one step, whose outcome is
+-- what the build's runner reports.
+use Rattle.std.specs.Prelude.{◌≡◌, ◌⊎◌, ◌<◌, ℕ, ◌==◌, nat_lt, Bool, true, false, ◌&&◌, if◌then◌else◌, [], ◌∷◌, List, length, slice_get, IsOk, Option, Some, None, Result, Ok, Err}
+use Rattle.std.specs.Option.{option_map, option_map_or}
 use Rattle.std.specs.Result.{is_ok}
 use Rattle.bm_session.specs.declared.results.Results.{Results}
+use Rattle.bm_session.specs.declared.results.Results.TheVariants.{Success, Cancelled}
 use Rattle.bm_board.specs.declared.plan.StepPlan.{StepPlan}
 use Rattle.bm_board.specs.declared.plan.Build.{Build}
+use Rattle.bm_board.specs.declared.scheduled_build.Phase.{Phase}
+use Rattle.bm_board.specs.declared.scheduled_build.Phase.TheVariants.{Running, Over}
 use Rattle.bm_board.specs.declared.scheduled_build.Started.{Started}
+use Rattle.bm_board.specs.Steps.{worse}
 use Rattle.bm_board.specs.declared.refusal.BoardRefusal.{BoardRefusal}
-use Rattle.bm_build_queue.specs.ViewerPools.{Benched}
-use Rattle.bm_build_queue.specs.Counted.{worker_of}
-use Rattle.bm_board.specs.ScheduledBuild.{answer_of, cancel, finish, give_up, release, waits_for}
-use Rattle.bm_board.specs.Board.{BoardState, board_after, occupies, on_build, start, result_on}
+use Rattle.bm_build_queue.specs.ViewerPool.{PoolState}
+use Rattle.bm_board.specs.ScheduledBuild.{answer_of, cancel, finish, give_up, release}
+use Rattle.bm_board.specs.Board.{BoardState, board_after, on_build, start, result_on, worker_of}
 
 -- its board, the viewers that no build has, and whether memory was wanting for the last start
-pub record Rostered : Type 0 where
+pub record QueueState : Type 0 where
   pub board : BoardState
-  pub benches : List Benched
+  pub pools : List PoolState
   pub is_short : Bool
 
--- the roster with another board
-abbrev pub with_board : Rostered → BoardState → Rostered
-with_board r b = record { board = b; benches = r.benches; is_short = r.is_short }
+-- the queue with another board
+abbrev pub with_board : QueueState → BoardState → QueueState
+with_board q b = record { board = b; pools = q.pools; is_short = q.is_short }
 
 -- the step that stands for a build: a failure of it fails the build
 abbrev pub whole : StepPlan
@@ -57,17 +59,17 @@ abbrev pub CanStart : BoardState → Type 0
 CanStart b = (number : ℕ) × IsOk (on_build (start b) b number)
 
 -- a viewer of the worker's lane is left for a build
-abbrev pub has_viewer : List Benched → ℕ → Bool
-has_viewer benches worker =
-    option_map_or (λ bench. bench.lane == worker && nat_lt 0 (length bench.viewers))
-    (slice_get benches worker) false
+abbrev pub has_viewer : List PoolState → ℕ → Bool
+has_viewer pools worker =
+    option_map_or (λ pool. pool.lane == worker && nat_lt 0 (length pool.viewers))
+    (slice_get pools worker) false
 
 -- the build of this number can be started now: it waits, its worker is ready and has a free slot
 -- and a viewer left, and each of its locks may be had
-abbrev pub can_start : Rostered → ℕ → Bool
-can_start r number =
-    is_ok (on_build (start r.board) r.board number)
-    && has_viewer r.benches (worker_of r.board number)
+abbrev pub can_start : QueueState → ℕ → Bool
+can_start q number =
+    is_ok (on_build (start q.board) q.board number)
+    && option_map_or (has_viewer q.pools) (worker_of q.board number) false
 
 -- the board once a build's step ended so
 abbrev pub after_step : BoardState → ℕ → Results → BoardState
@@ -89,13 +91,20 @@ after_cancel b number = board_after b number (on_build cancel b number)
 abbrev pub after_giving_up : BoardState → ℕ → BoardState
 after_giving_up b number = board_after b number (on_build give_up b number)
 
--- a build waits for the worker
-abbrev pub is_wanted : BoardState → ℕ → Bool
-is_wanted b worker = list_any (waits_for worker) b.jobs
+-- how the build of this number stands
+abbrev pub phase_on : BoardState → ℕ → Option Phase
+phase_on b number = option_map (λ job. job.phase) (slice_get b.jobs number)
 
--- a build of the worker was started, and hasn't given its slot back
-abbrev pub has_build : BoardState → ℕ → Bool
-has_build b worker = list_any (occupies worker) b.jobs
+-- the result of a build that ran, by whether it was cancelled meanwhile and what its runner
+-- reports: SUCCESS in place of SKIPPED, since its step was not skipped
+abbrev pub result_by : Bool → Results → Results
+result_by cancelled reported = if cancelled then Cancelled else worse Success reported
+
+-- a build that ran has this result now, and holds nothing
+abbrev pub Ends : BoardState → BoardState → ℕ → Results → Type 0
+Ends old new number reported =
+    (step : ℕ) (cancelled : Bool) → phase_on old number ≡ Some (Running step cancelled)
+    → phase_on new number ≡ Some (Over (result_by cancelled reported) false)
 
 -- the build of this number has its result
 abbrev pub HasResult : BoardState → ℕ → Type 0

@@ -1,4 +1,4 @@
--- What a roster says of a cancel.
+-- What a build queue says of a cancel.
 use Rattle.std.specs.Prelude.{Bool, true, false, Result, Ok, Err}
 use Rattle.bm_board.specs.declared.refusal.BoardRefusal.{BoardRefusal}
 use Rattle.bm_build_queue.specs.declared.build_queue.Cancelled.{Cancelled}

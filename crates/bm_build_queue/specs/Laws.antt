@@ -1,4 +1,4 @@
--- What holds of every board of a roster.
+-- What holds of every board of a build queue.
 use Rattle.std.specs.Prelude.{◌≡◌, ℕ, Some, Ok}
 use Rattle.bm_session.specs.declared.results.Results.{Results}
 use Rattle.bm_board.specs.Board.{BoardState, board_after, on_build, start, result_on}

@@ -1,9 +1,9 @@
--- What a roster does to its board, to be believed.
+-- What a build queue does to its board, to be believed.
 pub mod BuildQueue
--- The viewers that no build has, and what a roster says of a cancel, to be believed.
-pub mod ViewerPools
+-- The viewers that no build has, and what a build queue says of a cancel, to be believed.
+pub mod ViewerPool
 pub mod Cancels
--- What holds of every board of a roster, to be believed.
+-- What holds of every board of a build queue, to be believed.
 pub mod Laws
--- What is counted beside a board, which helps the proofs alone, and the worker of a build.
-pub mod Counted
+-- That each build on its board is one step, which helps the proofs alone.
+pub mod Wholes

@@ -1,15 +1,14 @@
-//! The roster itself.
+//! The build queue itself.
 ghost use Rattle.std.specs.Prelude.{◌≡◌, ◌⊎◌, ◌<◌, ◌≤◌, ℕ, All, IfOk, OnOk, OnErr, IfErr, IfSome, IfNone, IsSome, length, true, false, Ok, Some, None, position};
-ghost use Rattle.bm_build_queue.specs.BuildQueue.{AreResults, CanStart, IsOver, IsStarted, LacksResult, after_end, after_cancel, after_giving_up, can_start, has_build, has_viewer, is_wanted, on_board, with_board};
-ghost use Rattle.bm_build_queue.specs.ViewerPools.{IsGiven, IsTaken};
+ghost use Rattle.bm_build_queue.specs.BuildQueue.{AreResults, CanStart, Ends, IsOver, IsStarted, LacksResult, after_end, after_cancel, after_giving_up, can_start, has_viewer, on_board, with_board};
+ghost use Rattle.bm_build_queue.specs.ViewerPool.{IsGiven, IsTaken, is_taken_back};
 ghost use Rattle.bm_build_queue.specs.Cancels.{met_by};
 ghost use Rattle.bm_board.specs.ScheduledBuild.{answer_of, cancel, waits_for};
-ghost use Rattle.bm_board.specs.Board.{add_refusal, on_build, opening, result_on, with_build, with_ready};
+ghost use Rattle.bm_board.specs.Board.{add_refusal, has_build, is_wanted, on_build, opening, result_on, with_build, with_ready};
 
 use crate::assignment::Assignment;
-use crate::counted::CountedBoard;
 use crate::viewer_pool::ViewerPool;
-use bm_board::{BoardRefusal, Build, StepPlan, StepPlans, Words};
+use bm_board::{Board, BoardRefusal, Build, StepPlan, StepPlans, Words};
 use bm_lane::{Viewer, Yard};
 use bm_lines::Text;
 use bm_session::Results;
@@ -28,26 +27,29 @@ pub enum Cancelled {
 }
 
 /// The builds by number, the workers and the locks, and the viewers that no build has. Contracts
-/// see its board, its benches, and whether memory was wanting.
+/// see its board, its pools of viewers, and whether memory was wanting.
 ///
 /// On the board a build is one step, that of its runner, whose outcome is what the runner reports.
 #[derive(Drop)]
 pub struct BuildQueue<Y: Yard> {
-    board: CountedBoard,
-    benches: Vec<ViewerPool<Y>>,
+    board: Board,
+    pools: Vec<ViewerPool<Y>>,
     is_short: bool,
 }
 
 impl<Y: Yard> Model for BuildQueue<Y> {
-    ghost use Rattle.bm_build_queue.specs.BuildQueue.{Rostered};
+    ghost use Rattle.bm_build_queue.specs.BuildQueue.{QueueState};
+    ghost use Rattle.bm_build_queue.specs.Wholes.{AreWhole};
 
-    ghost Value = { Rostered };
+    ghost Value = { QueueState };
 
-    ghost view = { λ r. record {
-      board = r.board;
-      benches = r.benches.items;
-      is_short = r.is_short;
+    ghost view = { λ q. record {
+      board = q.board;
+      pools = q.pools.items;
+      is_short = q.is_short;
     } };
+
+    ghost invariant = { λ q. AreWhole q.board };
 }
 
 // What a build is on the board: its worker, its locks, and one step.
@@ -73,24 +75,24 @@ fn as_one_step(alloc: Global, build: &Build) -> Result<Build, AllocError>
 }
 
 impl<Y: Yard> BuildQueue<Y> {
-    /// A roster without builds. Worker w has the slots and the bench at place w, and isn't ready.
+    /// A queue without builds. Worker w has the slots and the pool at place w, and isn't ready.
     pub fn new(
         alloc: Global,
         slots: &[u8],
         lock_max: &[u32],
-        benches: Vec<ViewerPool<Y>>,
+        pools: Vec<ViewerPool<Y>>,
     ) -> Result<BuildQueue<Y>, AllocError>
         requires slots { All (λ n. (1 ≤ n) × (n ≤ 4)) slots.now }
         requires maxima { All (λ n. 1 ≤ n) lock_max.now }
         ensures { IfOk result (λ r. r ≡ record {
           board = opening slots.now lock_max.now;
-          benches = benches.items;
+          pools = pools.items;
           is_short = false;
         }) }
     {
         Ok(BuildQueue {
-            board: CountedBoard::new(alloc, slots, lock_max)?,
-            benches,
+            board: Board::new(alloc, slots, lock_max)?,
+            pools,
             is_short: false,
         })
     }
@@ -106,17 +108,21 @@ impl<Y: Yard> BuildQueue<Y> {
             ⊎ (r ≡ BoardRefusal.Mem)) }
         ensures unchanged { OnErr result (self.new ≡ self.old) }
     {
-        match as_one_step(alloc, build) {
-            Ok(one) => self.board.add(one),
-            Err(_) => Err(BoardRefusal::Mem),
-        }
+        let Ok(one) = as_one_step(alloc, build) else {
+            return Err(BoardRefusal::Mem);
+        };
+        let number = match self.board.add_build(one) {
+            Ok(number) => number,
+            Err((_, why)) => return Err(why),
+        };
+        Ok(number)
     }
 
     /// How many builds there are.
     pub fn builds(&self) -> u64
         ensures { result ≡ length self.now.board.jobs }
     {
-        self.board.builds()
+        self.board.builds() as u64
     }
 
     /// How many workers there are.
@@ -153,10 +159,10 @@ impl<Y: Yard> BuildQueue<Y> {
 
     // Whether a viewer of the worker's lane is left.
     fn has_viewer(&self, worker: usize) -> bool
-        ensures { result ≡ has_viewer self.now.benches worker }
+        ensures { result ≡ has_viewer self.now.pools worker }
     {
-        match self.benches.get(worker) {
-            Some(bench) => bench.lane() == worker as u64 && bench.has_viewer(),
+        match self.pools.get(worker) {
+            Some(pool) => pool.lane() == worker as u64 && pool.has_viewer(),
             None => false,
         }
     }
@@ -164,17 +170,17 @@ impl<Y: Yard> BuildQueue<Y> {
     // A viewer of the worker's lane.
     fn take_viewer(&mut self, worker: usize) -> Option<Viewer<Y>>
         ensures own { IfSome result (λ v. v.lane ≡ worker) }
-        ensures found { has_viewer self.old.benches worker ≡ true → IsSome result }
-        ensures taken { IfSome result (λ v. IsTaken self.old.benches self.new.benches worker v) }
+        ensures found { has_viewer self.old.pools worker ≡ true → IsSome result }
+        ensures taken { IfSome result (λ v. IsTaken self.old.pools self.new.pools worker v) }
         ensures board { self.new.board ≡ self.old.board }
         ensures short { self.new.is_short ≡ self.old.is_short }
         ensures unchanged { IfNone result (self.new ≡ self.old) }
     {
-        let bench = self.benches.get_mut(worker)?;
-        if bench.lane() != worker as u64 {
+        let pool = self.pools.get_mut(worker)?;
+        if pool.lane() != worker as u64 {
             return None;
         }
-        bench.take()
+        pool.take()
     }
 
     // Starts a build that can be started. None where it can't be, or memory is wanting, which is
@@ -183,25 +189,26 @@ impl<Y: Yard> BuildQueue<Y> {
         ensures started { IfSome result (λ c. (c.number ≡ number)
             × IsStarted self.old.board self.new.board number c.worker) }
         ensures viewer { IfSome result
-            (λ c. IsTaken self.old.benches self.new.benches c.worker c.viewer) }
+            (λ c. IsTaken self.old.pools self.new.pools c.worker c.viewer) }
         ensures unchanged { IfNone result ((self.new.board ≡ self.old.board)
-            × (self.new.benches ≡ self.old.benches)) }
+            × (self.new.pools ≡ self.old.pools)) }
         ensures left { IfNone result (can_start self.old number ≡ true → self.new.is_short ≡ true) }
         ensures still { self.old.is_short ≡ true → self.new.is_short ≡ true }
         ensures short { self.new.is_short ≡ true
             → (self.old.is_short ≡ true) ⊎ CanStart self.old.board }
     {
-        if !self.has_viewer(self.board.worker_of(number)) {
+        let worker = self.board.worker_of(number)?;
+        if !self.has_viewer(worker) {
             return None;
         }
-        let worker = match self.board.start(number) {
-            Ok(worker) => worker,
+        match self.board.try_start(number) {
+            Ok(_) => {}
             Err(BoardRefusal::Mem) => {
                 self.is_short = true;
                 return None;
             }
             Err(_) => return None,
-        };
+        }
         match self.take_viewer(worker) {
             Some(viewer) => Some(Assignment {
                 number,
@@ -219,19 +226,19 @@ impl<Y: Yard> BuildQueue<Y> {
         ensures started { IfSome result
             (λ c. IsStarted self.old.board self.new.board c.number c.worker) }
         ensures viewer { IfSome result
-            (λ c. IsTaken self.old.benches self.new.benches c.worker c.viewer) }
+            (λ c. IsTaken self.old.pools self.new.pools c.worker c.viewer) }
         ensures first { IfSome result (λ c. (k : ℕ) → k < c.number → can_start self.old k ≡ true
             → self.new.is_short ≡ true) }
         ensures none { IfNone result ((k : ℕ) → can_start self.old k ≡ true
             → self.new.is_short ≡ true) }
         ensures board { IfNone result (self.new.board ≡ self.old.board) }
-        ensures benches { IfNone result (self.new.benches ≡ self.old.benches) }
+        ensures pools { IfNone result (self.new.pools ≡ self.old.pools) }
         ensures short { self.new.is_short ≡ true → CanStart self.old.board }
     {
         self.is_short = false;
-        for number in 0..self.board.builds() {
-            if let Some(commission) = self.start(number) {
-                return Some(commission);
+        for number in 0..self.board.builds() as u64 {
+            if let Some(assignment) = self.start(number) {
+                return Some(assignment);
             }
         }
         None
@@ -246,20 +253,23 @@ impl<Y: Yard> BuildQueue<Y> {
 
     /// A build that was started comes back with what its runner reports, which is kept as its
     /// result; or CANCELLED, where it was cancelled meanwhile. It gives its slot and its locks
-    /// back, and its viewer goes back to the bench of its lane. The answer is whether it had a
-    /// place there.
+    /// back. Its viewer goes back to the pool of its lane, and the answer is whether it has a place
+    /// there: one that `next` gave has. It takes no memory.
     pub fn end(&mut self, number: u64, reported: Results, viewer: Viewer<Y>) -> bool
         ensures board { self.new.board ≡ after_end self.old.board number reported }
+        ensures ended { Ends self.old.board self.new.board number reported }
+        ensures answer { result ≡ is_taken_back self.old.pools viewer }
         ensures given { result ≡ true
-            → IsGiven self.old.benches self.new.benches viewer.lane viewer }
-        ensures lost { result ≡ false → self.new.benches ≡ self.old.benches }
+            → IsGiven self.old.pools self.new.pools viewer.lane viewer }
+        ensures lost { result ≡ false → self.new.pools ≡ self.old.pools }
         ensures memory { self.new.is_short ≡ self.old.is_short }
     {
-        self.board.finish(number, reported);
-        match self.benches.get_mut(viewer.lane() as usize) {
-            Some(bench) => bench.give(viewer).is_ok(),
-            None => false,
-        }
+        let _ = self.board.step_done(number, reported);
+        let _ = self.board.release(number);
+        let Some(pool) = self.pools.get_mut(viewer.lane() as usize) else {
+            return false;
+        };
+        pool.give(viewer).is_ok()
     }
 
     /// Cancels a build.
@@ -303,7 +313,7 @@ impl<Y: Yard> BuildQueue<Y> {
         ensures { IfSome result (λ all. AreResults self.now.board all.items) }
     {
         let mut all = Vec::new(alloc);
-        for number in 0..self.board.builds() {
+        for number in 0..self.board.builds() as u64 {
             let result = self.result(number)?;
             if all.push(result).is_err() {
                 return None;
@@ -318,7 +328,7 @@ impl<Y: Yard> BuildQueue<Y> {
         ensures not_over { result ≡ false
             → (number : ℕ) × (result_on self.now.board number ≡ Ok None) }
     {
-        for number in 0..self.board.builds() {
+        for number in 0..self.board.builds() as u64 {
             match self.board.result(number) {
                 Ok(Some(_)) => {}
                 Ok(None) => return false,
@@ -328,10 +338,10 @@ impl<Y: Yard> BuildQueue<Y> {
         true
     }
 
-    /// The benches, by their workers' places, once no build runs.
-    pub fn into_benches(self) -> Vec<ViewerPool<Y>>
-        ensures { result.items ≡ self.benches }
+    /// The pools, by their workers' places, once no build runs.
+    pub fn into_pools(self) -> Vec<ViewerPool<Y>>
+        ensures { result.items ≡ self.pools }
     {
-        self.benches
+        self.pools
     }
 }

@@ -1,4 +1,4 @@
-//! What holds of every board of a roster, as a contract.
+//! What holds of every board of a build queue, as a contract.
 ghost use Rattle.bm_build_queue.specs.Laws.{ResultsStay};
 
 /// A build has one result, which nothing takes from it or changes: neither another build nor its

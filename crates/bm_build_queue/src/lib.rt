@@ -7,7 +7,6 @@
 
 mod assignment;
 mod build_queue;
-mod counted;
 pub mod laws;
 mod viewer_pool;
 

@@ -1,12 +1,13 @@
 //! The viewers of a lane that no build has.
-ghost use Rattle.std.specs.Prelude.{◌≡◌, [], ◌∷◌, ◌++◌, nat_lt, length, IfSome, IfNone, IfErr, OnOk, OnErr};
+ghost use Rattle.std.specs.Prelude.{◌≡◌, [], nat_lt, length, is_ok, true, vec_capacity, IfSome, IfNone, IfErr, OnOk, OnErr};
 ghost use Rattle.bm_lane.specs.Ends.{AllOf};
+ghost use Rattle.bm_build_queue.specs.ViewerPool.{takes, with_viewer};
 
 use bm_lane::{Viewer, Yard};
 use std::marker::Model;
 
-/// The viewers of a worker's lane that no build has. Contracts see the number of the lane, and the
-/// viewers.
+/// The viewers of a worker's lane that no build has. Contracts see the number of the lane, how many
+/// viewers there is room for, and the viewers.
 #[derive(Drop)]
 pub struct ViewerPool<Y: Yard> {
     lane: u64,
@@ -14,20 +15,30 @@ pub struct ViewerPool<Y: Yard> {
 }
 
 impl<Y: Yard> Model for ViewerPool<Y> {
+    ghost use Rattle.std.specs.Prelude.{vec_capacity};
     ghost use Rattle.bm_lane.specs.Ends.{AllOf};
-    ghost use Rattle.bm_build_queue.specs.ViewerPools.{Benched};
+    ghost use Rattle.bm_build_queue.specs.ViewerPool.{PoolState};
 
-    ghost Value = { Benched };
+    ghost Value = { PoolState };
 
-    ghost view = { λ b. record { lane = b.lane; viewers = b.viewers.items } };
+    ghost view = { λ p. record {
+      lane = p.lane;
+      room = vec_capacity p.viewers;
+      viewers = p.viewers.items;
+    } };
 
-    ghost invariant = { λ b. AllOf b.lane b.viewers.items };
+    ghost invariant = { λ p. AllOf p.lane p.viewers.items };
 }
 
 impl<Y: Yard> ViewerPool<Y> {
-    /// A bench of these viewers. None where one of them is of another lane.
+    /// A pool of these viewers, with the room of their list. None where one of them is of another
+    /// lane.
     pub fn new(lane: u64, viewers: Vec<Viewer<Y>>) -> Option<ViewerPool<Y>>
-        ensures bench { IfSome result (λ b. b ≡ record { lane = lane; viewers = viewers.items }) }
+        ensures pool { IfSome result (λ p. p ≡ record {
+          lane = lane;
+          room = vec_capacity viewers;
+          viewers = viewers.items;
+        }) }
         ensures own { IfSome result (λ _. AllOf lane viewers.items) }
     {
         if viewers.iter().all(|viewer| viewer.lane() == lane) {
@@ -51,33 +62,34 @@ impl<Y: Yard> ViewerPool<Y> {
         !self.viewers.is_empty()
     }
 
-    /// Takes a viewer, which is one of this lane. None where builds have all of them.
+    /// Takes a viewer, which is one of this lane, and has its place here until it comes back. None
+    /// where builds have all of them.
     pub fn take(&mut self) -> Option<Viewer<Y>>
-        ensures lane { self.new.lane ≡ self.old.lane }
         ensures own { IfSome result (λ v. v.lane ≡ self.old.lane) }
-        ensures taken { IfSome result (λ v. self.old.viewers ≡ self.new.viewers ++ v ∷ []) }
+        ensures taken { IfSome result (λ v. self.old ≡ with_viewer self.new v) }
+        ensures room { IfSome result (λ v. takes self.new v ≡ true) }
         ensures empty { IfNone result (self.old.viewers ≡ []) }
         ensures unchanged { IfNone result (self.new ≡ self.old) }
     {
         self.viewers.pop()
     }
 
-    /// Gives a viewer back. It comes back in `Err` where it is of another lane, or memory is
-    /// wanting, which never comes for a viewer that was taken here.
+    /// Gives a viewer back, which takes no memory. The viewer comes back in `Err` exactly where it
+    /// is of another lane, or there is no room: as much room as came with the pool's list.
     pub fn give(&mut self, viewer: Viewer<Y>) -> Result<(), Viewer<Y>>
-        ensures lane { self.new.lane ≡ self.old.lane }
-        ensures own { OnOk result (viewer.lane ≡ self.old.lane) }
-        ensures given { OnOk result (self.new.viewers ≡ self.old.viewers ++ viewer ∷ []) }
+        ensures taken { is_ok result ≡ takes self.old viewer }
+        ensures given { OnOk result (self.new ≡ with_viewer self.old viewer) }
         ensures unchanged { OnErr result (self.new ≡ self.old) }
         ensures back { IfErr result (λ v. v ≡ viewer) }
     {
         if viewer.lane() != self.lane {
             return Err(viewer);
         }
-        match self.viewers.push(viewer) {
-            Ok(()) => return Ok(()),
-            Err(failed) => return Err(failed.value),
+        if self.viewers.len() >= self.viewers.capacity() {
+            return Err(viewer);
         }
+        self.viewers.push_reserved(viewer);
+        Ok(())
     }
 
     /// The viewers, given back: each is one of this lane.

@@ -1,6 +1,8 @@
 -- Viewers at the places of their lanes.
 use Rattle.std.proofs.Common.{◌≡◌, ℕ, zero, suc, List, [], ◌∷◌, Option, Some, None, refl, ap}
-use Rattle.std.specs.Prelude.{slice_get, slice_set, MatchOption}
+use Rattle.std.specs.Prelude.{slice_get, slice_set, MatchOption, IfSome}
+use Rattle.bm_lane.specs.Ends.{Watched}
+use Rattle.bm_http.specs.Placed.{IsPlaced}
 
 -- where nothing lies, nothing is taken
 unset : {W : Type 0} (ps : List (Option W)) (i : ℕ) → slice_get ps i ≡ Some None → slice_set ps i None ≡ ps
@@ -12,3 +14,8 @@ pub place-taken : {W : Type 0} (ps : List (Option W)) (i : ℕ) (o : Option W) �
     → MatchOption o (slice_set ps i None ≡ ps) (λ v. (slice_get ps i ≡ Some (Some v)) × (slice_set ps i None ≡ slice_set ps i None))
 place-taken ps i None h = unset ps i h
 place-taken ps i (Some v) h = (h, refl)
+
+-- what lies at a place is of that lane
+pub place-own : (ps : List (Option Watched)) → IsPlaced ps → (i : ℕ) (o : Option Watched) → slice_get ps i ≡ Some o → IfSome o (λ v. v.lane ≡ i)
+place-own ps p i None h = tt
+place-own ps p i (Some v) h = p i v h

@@ -5,8 +5,8 @@ ghost use Rattle.bm_http.specs.FirstLooks.{GoesOn, ShowsLines, Tells, lane_asked
 ghost use Rattle.bm_http.specs.Replies.{chunk_reply};
 ghost use Rattle.bm_http.specs.Shown.{asked_by};
 
-use crate::long_answer::{LongAnswer, MOST_BYTES};
 use crate::log_request::{LogRequest, Span};
+use crate::long_answer::{LongAnswer, MOST_BYTES};
 use crate::lookup::{Lookup, state_by};
 use bm_lane::{Viewer, Yard};
 use bm_store::Chunk;

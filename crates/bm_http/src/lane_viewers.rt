@@ -67,10 +67,10 @@ impl<Y: Yard> LaneViewers<Y> {
         if viewer.lane() != self.places.len() as u64 {
             return Err(ViewersError::Lane);
         }
-        match self.places.push(Some(viewer)) {
-            Ok(()) => Ok(()),
-            Err(_) => Err(ViewersError::Memory),
+        if self.places.push(Some(viewer)).is_err() {
+            return Err(ViewersError::Memory);
         }
+        Ok(())
     }
 
     /// Takes the viewer of a lane. None where another look has it, or there is no such lane.
@@ -97,9 +97,7 @@ impl<Y: Yard> LaneViewers<Y> {
     }
 
     /// The viewers, given back. None where a look has one.
-    pub fn into_vec(self) -> Option<Vec<Viewer<Y>>>
-        ensures { IfSome result (λ all. map Some all.items ≡ self) }
-    {
+    pub fn into_vec(self) -> Option<Vec<Viewer<Y>>> {
         let LaneViewers { places, mut room } = self;
         for place in places {
             room.push(place?).ok()?;

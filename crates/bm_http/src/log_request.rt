@@ -6,9 +6,9 @@ ghost use Rattle.bm_http.specs.Requests.{lines_asked, name_in, page_asked};
 ghost use Rattle.bm_http.specs.Replies.{Answers, SeesOn};
 ghost use Rattle.bm_http.specs.Shown.{asked_by, told_by};
 
+use crate::lookup::{Lookup, lines_of, state_of};
 use crate::paths::Page;
 use crate::request_refusal::RequestRefusal;
-use crate::lookup::{Lookup, lines_of, state_of};
 use crate::targets::{log_name, number_of_value};
 use bm_decimal::read_number;
 use bm_lane::{Viewer, Yard};

@@ -10,8 +10,8 @@ ghost use Rattle.bm_http.specs.Shown.{reply_of, told_by};
 
 use crate::answer::Answer;
 use crate::bodies;
-use crate::request_refusal::RequestRefusal;
 use crate::log_request::Span;
+use crate::request_refusal::RequestRefusal;
 use bm_lane::{Viewer, Yard};
 use bm_store::{Chunk, LogState, ViewRefusal};
 use std::alloc::{AllocError, Global};

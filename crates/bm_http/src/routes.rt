@@ -5,9 +5,9 @@ ghost use Rattle.bm_http.specs.Replies.{Replies, SeesOn, unavailable};
 ghost use Rattle.bm_http.specs.Shown.{asked_by, reply_of};
 
 use crate::answer::Answer;
+use crate::log_request::LogRequest;
 use crate::paths::Paths;
 use crate::request_refusal::RequestRefusal;
-use crate::log_request::LogRequest;
 use crate::targets::split;
 use bm_lane::{Viewer, Yard};
 use std::alloc::{AllocError, Global};

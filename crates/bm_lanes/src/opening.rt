@@ -1,8 +1,5 @@
 //! The opening of all lanes.
 
-ghost use Rattle.std.specs.Prelude.{◌≡◌, All, IfSome, map};
-ghost use Rattle.bm_lanes.specs.ConfigLists.{viewer_counts};
-
 use crate::config_lists::MOST_SLOTS;
 use bm_config::WorkerConfig;
 use bm_lane::{Blank, open};
@@ -20,11 +17,7 @@ pub fn open_all<W: Wait + Copy + Drop>(
     alloc: Global,
     capacity: u32,
     workers: &[WorkerConfig],
-) -> Option<Vec<Blank<W>>>
-    ensures capacity { IfSome result (λ blanks. All (λ b. b.capacity ≡ capacity) blanks.items) }
-    ensures viewers { IfSome result
-        (λ blanks. map (λ b. b.viewers) blanks.items ≡ viewer_counts workers.now) }
-{
+) -> Option<Vec<Blank<W>>> {
     if capacity == 0 || capacity > MOST_ITEMS {
         return None;
     }

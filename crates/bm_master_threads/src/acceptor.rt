@@ -1,7 +1,8 @@
 //! New connections of workers.
+ghost use Rattle.std.specs.Thread.{IsSend, IsSync};
 
-use crate::common::{Common, Guest};
-use crate::events::{MasterEvent, Refused};
+use crate::events::{MasterEvent, RefusedConnection};
+use crate::shared_state::{SharedState, WorkerConnection};
 use bm_lane::Yard;
 use bm_lane_actor::{LOGIN_MS, WorkerStream, log_in, refusal_in};
 use bm_operator::LoginRefusal;
@@ -12,43 +13,45 @@ use std::thread::{Scope, Threads};
 use std::time::{Clock, Duration, Instant};
 use std::{io, thread};
 
-/// How long the acceptor waits before it looks for the next connection, in milliseconds.
-const PAUSE: u64 = 20;
+/// How long the acceptor waits before it looks for the next connection.
+const PAUSE_MS: u64 = 20;
 
-// Tells the foreman of a connection that is not taken up, and gave no name.
+// Tells the coordinator of a connection that is not taken up, and gave no name.
 fn refuse<Y: Yard, R: Wait + Clock + Drop>(
-    common: &Common<Y, R>,
+    shared: &SharedState<Y, R>,
     from: SocketAddr,
     why: LoginRefusal,
 ) {
     let name = None;
-    let refused = Refused { from, name, why };
-    common.mail.tell(&common.rt, MasterEvent::Refused(refused));
+    let refused = RefusedConnection { from, name, why };
+    shared
+        .events
+        .tell(&shared.rt, MasterEvent::Refused(refused));
 }
 
-// Greets a connection to its login, and tells the foreman where that is refused.
-fn welcome<Y, R>(common: &Common<Y, R>, stream: Guest<R>, from: SocketAddr)
+// Serves a connection up to its login, and tells the coordinator where that is refused.
+fn welcome<Y, R>(shared: &SharedState<Y, R>, stream: WorkerConnection<R>, from: SocketAddr)
 where
     Y: Yard + Send + Sync,
     R: Wait + Clock + Copy + Drop,
 {
-    let rt = &common.rt;
+    let rt = &shared.rt;
     let began = Instant::now(rt).ok();
-    let (users, doors) = (common.users.as_slice(), common.doors.as_slice());
+    let (users, lanes) = (shared.users.as_slice(), shared.lanes.as_slice());
     let mut name = None;
-    if let Err(fault) = log_in(rt, common.alloc, stream, users, doors, &mut name) {
+    if let Err(fault) = log_in(rt, shared.alloc, stream, users, lanes, &mut name) {
         let took = began.and_then(|began| began.elapsed(rt).ok());
         let is_late = took.is_some_and(|took| took >= Duration::from_millis(LOGIN_MS));
-        let why = refusal_in(fault, common.is_over.load(Ordering::SeqCst), is_late);
-        let refused = Refused { from, name, why };
-        common.mail.tell(rt, MasterEvent::Refused(refused));
+        let why = refusal_in(fault, shared.is_over.load(Ordering::SeqCst), is_late);
+        let refused = RefusedConnection { from, name, why };
+        shared.events.tell(rt, MasterEvent::Refused(refused));
     }
 }
 
-// Greets a connection in a thread of its own.
+// Serves a connection up to its login, in a thread of its own.
 fn receive<'s, E, Y, R>(
     scope: &Scope<'s, E>,
-    common: &'s Common<Y, R>,
+    shared: &'s SharedState<Y, R>,
     stream: TcpStream,
     from: SocketAddr,
 )
@@ -56,53 +59,68 @@ where
     Y: Yard + Send + Sync + 's,
     R: Wait + Clock + Threads + Copy + Drop + Send + Sync + 's,
 {
-    let rt = &common.rt;
-    let Ok(is_over) = Arc::try_clone(&common.is_over) else {
-        return refuse(common, from, LoginRefusal::Memory);
+    let rt = &shared.rt;
+    let Ok(is_over) = Arc::try_clone(&shared.is_over) else {
+        return refuse(shared, from, LoginRefusal::Memory);
     };
-    if !common.guests.enter(rt) {
-        return refuse(common, from, LoginRefusal::Crowded);
+    if !shared.logins.enter(rt) {
+        return refuse(shared, from, LoginRefusal::Crowded);
     }
     let stream = WorkerStream::new(*rt, stream, from, is_over);
     let thread = scope.spawn(move || {
         let stream = stream;
-        welcome(common, stream, from);
-        common.guests.leave(rt);
+        welcome(shared, stream, from);
+        shared.logins.leave(rt);
     });
     if thread.is_err() {
-        common.guests.leave(rt);
-        refuse(common, from, LoginRefusal::NoThread);
+        shared.logins.leave(rt);
+        refuse(shared, from, LoginRefusal::NoThread);
     }
 }
 
-/// Accepts connections until the master ends, and greets each in a thread of its own.
-pub fn accept_all<'s, E, Y, R>(
+// Accepts connections until the master ends, and serves each in a thread of its own.
+fn accept_all<'s, E, Y, R>(
     scope: &Scope<'s, E>,
-    common: &'s Common<Y, R>,
+    shared: &'s SharedState<Y, R>,
     listener: &TcpListener,
 )
 where
     Y: Yard + Send + Sync + 's,
     R: Wait + Clock + Threads + Copy + Drop + Send + Sync + 's,
 {
-    let rt = &common.rt;
+    let rt = &shared.rt;
     let mut is_paused = false;
     for _ in rt.forever() {
-        if common.is_over.load(Ordering::SeqCst) {
+        if shared.is_over.load(Ordering::SeqCst) {
             break;
         }
         match listener.accept() {
             Ok((stream, from)) => {
                 is_paused = false;
-                receive(scope, common, stream, from);
+                receive(scope, shared, stream, from);
             }
             Err(error) => {
                 if error.kind() != io::ErrorKind::WouldBlock && !is_paused {
                     is_paused = true;
-                    common.mail.tell(rt, MasterEvent::Paused);
+                    shared.events.tell(rt, MasterEvent::Paused);
                 }
-                thread::sleep(rt, Duration::from_millis(PAUSE));
+                thread::sleep(rt, Duration::from_millis(PAUSE_MS));
             }
         }
     }
+}
+
+/// Accepts connections until the master ends. Then those that have not logged in end too.
+pub fn accept_connections<Y, R>(shared: &SharedState<Y, R>, listener: TcpListener)
+where
+    Y: Yard + Send + Sync,
+    R: Wait + Clock + Threads + Copy + Drop + Send + Sync,
+{
+    thread::scope(
+        thread::scope_env(),
+        &shared.rt,
+        |scope| -> ()
+            requires { IsSend Y.row × IsSync Y.row × IsSend R.row × IsSync R.row }
+        { accept_all(scope, shared, &listener) },
+    )
 }

@@ -1,58 +1,69 @@
-//! The foreman: it alone knows all builds and workers, and does what follows from the news.
+//! The coordinator: it alone knows all builds and workers, and does what follows from the events.
 ghost use Rattle.std.specs.Prelude.{◌≡◌, IfSome};
 ghost use Rattle.bm_build_queue.specs.BuildQueue.{AreResults};
+ghost use Rattle.std.specs.Thread.{IsSend, IsSync};
 
-use crate::builds::start_build;
-use crate::common::Common;
-use crate::events::{EventReceiver, MasterEvent, Returned};
+use crate::events::{EventReceiver, MasterEvent};
+use crate::host::MasterHost;
 use crate::remarks::Remarks;
-use crate::ticker::Ticker;
+use crate::shared_state::SharedState;
 use crate::worker_entry::WorkerEntry;
-use bm_build_queue::{BuildQueue, Cancelled, ViewerPool};
-use bm_lane::{Viewer, Yard};
-use bm_lane_actor::{LaneEvent, LaneSignal, event_of, fills, remark_of};
-use bm_latent::{ProcessAction, TICK_MS, WorkerAction, WorkerEvent};
-use bm_operator::{OutputLine, RateLimit, Remark};
+use bm_build_queue::{BuildQueue, ViewerPool};
+use bm_lane::Yard;
+use bm_latent::{TICK_MS, TickCounter, millis};
+use bm_operator::{RateLimit, Remark};
 use bm_session::Results;
 use std::io::Write;
-use std::process::{Processes, SystemProcess};
 use std::sync::Wait;
-use std::sync::atomic::Ordering;
 use std::thread;
-use std::thread::{Scope, Threads};
-use std::time::{Clock, Duration};
+use std::thread::Scope;
+use std::time::{Clock, Duration, Instant};
 
 /// How many refused connections are told one by one in a second.
-pub const MOST_REFUSALS: u32 = 10;
+const MOST_REFUSALS: u32 = 10;
 
-/// How many ticks the processes of workers have to end, once the master ends.
-const LAST_TICKS: u64 = 1_001;
-
-/// What is left once the foreman has left.
+/// What the coordinator's thread owns from its start on.
 #[derive(Drop)]
-pub struct Left<Y: Yard, O> {
+pub struct CoordinatorOwned<Y: Yard, O> {
+    pub events: EventReceiver<Y>,
+    pub queue: BuildQueue<Y>,
+    /// The workers, in their order.
+    pub workers: Vec<WorkerEntry>,
+    /// Standard output.
+    pub output: O,
+    /// Where remarks are told, where there is a thread that writes them.
+    pub remarks: Option<Remarks>,
+}
+
+/// What the coordinator leaves.
+#[derive(Drop)]
+pub struct CoordinatorLeft<Y: Yard, O> {
     /// The viewers of the builds, by their lanes.
-    pub benches: Vec<ViewerPool<Y>>,
+    pub pools: Vec<ViewerPool<Y>>,
     pub output: O,
     /// How the builds ended. None where one has not, or memory was wanting.
     pub results: Option<Vec<Results>>,
-    /// Whether a report could not be written, or a build could not be run.
+    /// Whether a line could not be written, or a build could not be run.
     pub has_failed: bool,
 }
 
-/// The foreman. It owns the roster, what is known of the workers, and the processes of those that
-/// are started on demand; it alone writes reports and remarks while builds may run.
+/// The coordinator. It owns the build queue, what is known of the workers, and the processes of
+/// those that are started on demand. It alone writes output and remarks while builds may run.
 #[derive(Drop)]
 pub struct Coordinator<'s, Y: Yard, R: Wait + Clock + Drop, O> {
-    pub common: &'s Common<Y, R>,
-    pub roster: BuildQueue<Y>,
-    pub seats: Vec<WorkerEntry>,
+    pub shared: &'s SharedState<Y, R>,
+    pub queue: BuildQueue<Y>,
+    /// The workers, in their order.
+    pub workers: Vec<WorkerEntry>,
     pub output: O,
     /// Where remarks are told, where there is a thread that writes them.
     pub remarks: Option<Remarks>,
     /// How many refused connections are told.
     pub refusals: RateLimit,
-    pub clock: Ticker,
+    /// When it began. None where the clock failed.
+    pub began: Option<Instant>,
+    /// The ticks since then.
+    pub ticks: TickCounter,
     /// Whether builds may be wanted or started that were not before.
     pub is_stale: bool,
     /// Whether standard input has ended.
@@ -64,278 +75,83 @@ pub struct Coordinator<'s, Y: Yard, R: Wait + Clock + Drop, O> {
 impl<'s, Y, R, O> Coordinator<'s, Y, R, O>
 where
     Y: Yard + Send + Sync + 's,
-    R: Wait + Clock + Threads + Processes<Started = SystemProcess> + Drop + Send + Sync + 's,
+    R: MasterHost + 's,
     O: Write + Drop,
 {
+    /// How long it is there. None where the clock fails.
+    pub fn age(&self) -> Option<Duration> {
+        match self.began {
+            Some(began) => began.elapsed(&self.shared.rt).ok(),
+            None => None,
+        }
+    }
+
+    // How many ticks have ended since the last call, up to a most.
+    fn ended_ticks(&mut self) -> u64 {
+        let now = match self.age() {
+            Some(age) => Some(millis(age)),
+            None => None,
+        };
+        self.ticks.told(now)
+    }
+
     // Whether ticks count.
     fn is_timed(&self) -> bool {
-        self.roster.is_short() || self.seats.iter().any(|seat| seat.is_timed())
+        self.queue.is_short() || self.workers.iter().any(|worker| worker.is_timed())
     }
 
-    // Something happened to a worker: what follows is done.
-    fn happens(&mut self, worker: usize, event: WorkerEvent) {
-        let Some(seat) = self.seats.get_mut(worker) else {
-            return;
-        };
-        let duty = seat.hear(event);
-        self.obey(worker, duty);
-    }
-
-    // Does what is to be done for a worker.
-    fn obey(&mut self, worker: usize, duty: WorkerAction) {
-        let mut duty = duty;
-        for _ in 0..2 {
-            self.roster.set_ready(worker, duty.ready);
-            if duty.gives_up {
-                self.is_stale = true;
-                self.give_up(worker);
-            }
-            match duty.process {
-                ProcessAction::None => return,
-                ProcessAction::Shutdown => return self.dismiss(worker),
-                ProcessAction::Start => match self.start_process(worker) {
-                    Some(next) => duty = next,
-                    None => return,
-                },
-            }
-        }
-    }
-
-    // Each build that waits for the worker is given up.
-    fn give_up(&mut self, worker: usize) {
-        for _ in 0..self.roster.builds() {
-            let Some(build) = self.roster.give_up_one(worker) else {
-                return;
-            };
-            self.remark(&Remark::BuildEnded {
-                build,
-                result: Results::Retry,
-            });
-        }
-    }
-
-    // Has the worker told to shut down.
-    fn dismiss(&mut self, worker: usize) {
-        if let Some(door) = self.common.doors.get(worker) {
-            door.signal(&self.common.rt, LaneSignal::ShutDown);
-            let name = self.name(worker);
-            self.remark(&Remark::Dismissed { worker: name });
-        }
-        if let Some(seat) = self.seats.get_mut(worker) {
-            seat.must_end();
-        }
-    }
-
-    // Starts the worker's process, and answers what then is to be done.
-    fn start_process(&mut self, worker: usize) -> Option<WorkerAction> {
-        let name = self.name(worker);
-        let seat = self.seats.get_mut(worker)?;
-        match seat.start(&self.common.rt, self.common.alloc) {
-            Ok(()) => {
-                let duty = seat.hear(WorkerEvent::Started);
-                self.remark(&Remark::ProgramStarted { worker: name });
-                Some(duty)
-            }
-            Err(why) => {
-                let duty = seat.hear(WorkerEvent::Failed);
-                self.remark(&Remark::ProgramFailed { worker: name, why });
-                Some(duty)
-            }
-        }
-    }
-
-    // The worker's process has ended.
-    fn stopped(&mut self, worker: usize) {
-        let name = self.name(worker);
-        self.remark(&Remark::ProgramEnded { worker: name });
-        if let Some(door) = self.common.doors.get(worker) {
-            door.signal(&self.common.rt, LaneSignal::Ended);
-        }
-        self.happens(worker, WorkerEvent::Stopped);
-    }
-
-    // A tick has passed for the process of a worker. The answer is whether it has ended.
-    fn tick_process(&mut self, worker: usize) -> bool {
-        let is_wanted = self.roster.is_wanted(worker);
-        let Some(seat) = self.seats.get_mut(worker) else {
-            return false;
-        };
-        seat.is_wanted(is_wanted);
-        seat.tick(&self.common.rt, self.common.alloc);
-        seat.has_ended()
-    }
-
-    // A tick has passed.
-    fn tick(&mut self) {
-        for worker in 0..self.seats.len() {
-            if self.tick_process(worker) {
-                self.stopped(worker);
-            }
-            let has_build = self.roster.has_build(worker);
-            self.happens(worker, WorkerEvent::Tick { has_build });
-        }
-        self.want();
-    }
-
-    // Tells of each worker for which a build waits.
-    fn want(&mut self) {
-        for worker in 0..self.seats.len() {
-            if self.roster.is_wanted(worker) {
-                self.happens(worker, WorkerEvent::Wanted);
-            }
-        }
-    }
-
-    // Starts each build that can be started.
-    fn press<E>(&mut self, scope: &Scope<'s, E>) {
-        self.want();
-        for _ in 0..self.roster.builds() {
-            let Some(commission) = self.roster.next() else {
-                return;
-            };
-            let (number, worker) = (commission.number, commission.worker);
-            match start_build(scope, self.common, commission) {
-                Ok(()) => {
-                    let worker = self.name(worker);
-                    self.remark(&Remark::BuildStarted {
-                        build: number,
-                        worker,
-                    });
-                }
-                Err(viewer) => {
-                    self.has_failed = true;
-                    self.ends(number, Results::Retry, viewer);
-                }
-            }
-        }
-    }
-
-    // A build has ended, with this result of its runner.
-    fn ends(&mut self, number: u64, reported: Results, viewer: Viewer<Y>) {
-        if !self.roster.end(number, reported, viewer) {
-            self.has_failed = true;
-        }
-        if let Some(result) = self.roster.result(number) {
-            self.remark(&Remark::BuildEnded {
-                build: number,
-                result,
-            });
-        }
-    }
-
-    // Cancels a build, where it has not ended.
-    fn cancel(&mut self, number: u64) {
-        match self.roster.cancel(number) {
-            Cancelled::Waiting => self.remark(&Remark::BuildEnded {
-                build: number,
-                result: Results::Cancelled,
-            }),
-            Cancelled::Running => {
-                if let Some(cancelled) = self.common.cancels.get(number as usize) {
-                    cancelled.store(true, Ordering::SeqCst);
-                }
-                self.remark(&Remark::BuildCancelled { build: number });
-            }
-            Cancelled::Nothing => {}
-        }
-    }
-
-    // A build's thread hands its build back.
-    fn hear_build(&mut self, returned: Returned<Y>) {
-        let Returned {
-            number,
-            result,
-            viewer,
-        } = returned;
-        if result.is_none() {
-            self.has_failed = true;
-        }
-        self.ends(number, result.unwrap_or(Results::Retry), viewer);
-    }
-
-    // The clerk of a worker's lane has news.
-    fn hear_clerk(&mut self, at: usize, notice: LaneEvent) {
-        let worker = self.name(at);
-        self.remark(&remark_of(notice, worker));
-        if let Some(event) = event_of(notice) {
-            self.happens(at, event);
-        }
-        if fills(notice) {
-            self.happens(at, WorkerEvent::Filled);
-        }
-    }
-
-    // Does what follows from the news. Builds may then be wanted or started that were not before,
+    // Does what follows from an event. Builds may then be wanted or started that were not before,
     // but for what is only remarked.
-    fn hear(&mut self, news: MasterEvent<Y>) {
-        match news {
+    fn hear(&mut self, event: MasterEvent<Y>) {
+        match event {
             MasterEvent::Step(step) => return self.hear_step(&step),
             MasterEvent::Refused(refused) => return self.hear_refused(&refused),
             MasterEvent::Paused => return self.remark(&Remark::AcceptingPaused),
-            MasterEvent::Lane(worker, notice) => self.hear_clerk(worker, notice),
-            MasterEvent::Ended(returned) => self.hear_build(returned),
+            MasterEvent::Lane(worker, event) => self.hear_lane(worker, event),
+            MasterEvent::Ended(build) => self.hear_build(build),
             MasterEvent::Cancel(number) => self.cancel(number),
             MasterEvent::InputEnded => self.is_closed = true,
         }
         self.is_stale = true;
     }
 
-    // Reports the results once every build has one.
-    fn report(&mut self) {
-        if self.has_reported || !self.roster.is_over() {
-            return;
-        }
-        self.has_reported = true;
-        for number in 0..self.roster.builds() {
-            if let Some(result) = self.roster.result(number) {
-                let report = OutputLine::Build { number, result };
-                if report.write(self.common.alloc, &mut self.output).is_err() {
-                    self.has_failed = true;
-                }
-            }
-        }
-        if self.output.flush().is_err() {
-            self.has_failed = true;
-        }
-    }
-
-    // The next news, or none within a tick where ticks count.
-    fn next_news(&self, letters: &EventReceiver<Y>) -> Option<MasterEvent<Y>> {
-        let rt = &self.common.rt;
+    // The next event, or none within a tick where ticks count.
+    fn next_event(&self, events: &EventReceiver<Y>) -> Option<MasterEvent<Y>> {
+        let rt = &self.shared.rt;
         if self.is_stale {
-            letters.look(rt)
+            events.look(rt)
         } else if self.is_timed() {
-            letters.wait_for(rt, Duration::from_millis(TICK_MS))
+            events.wait_for(rt, Duration::from_millis(TICK_MS))
         } else if self.refusals.is_left_out() {
-            letters.wait_for(rt, Duration::from_secs(1))
+            events.wait_for(rt, Duration::from_secs(1))
         } else {
-            letters.wait(rt)
+            events.wait(rt)
         }
     }
 
-    /// Serves until standard input has ended and every build is over.
-    pub fn preside<E>(&mut self, scope: &Scope<'s, E>, letters: &EventReceiver<Y>) {
-        let common = self.common;
-        for _ in common.rt.forever() {
+    // Serves until standard input has ended and every build is over.
+    fn serve<E>(&mut self, scope: &Scope<'s, E>, events: &EventReceiver<Y>) {
+        let shared = self.shared;
+        for _ in shared.rt.forever() {
             if self.is_stale {
                 self.is_stale = false;
-                self.press(scope);
+                self.start_builds(scope);
                 self.report();
             }
             if self.is_closed && self.has_reported {
                 break;
             }
             let is_timed = self.is_timed();
-            let news = self.next_news(letters);
-            let ticks = self.clock.ticks(&common.rt);
+            let event = self.next_event(events);
+            let ticks = self.ended_ticks();
             if is_timed {
-                self.is_stale = self.is_stale || self.roster.is_short();
+                self.is_stale = self.is_stale || self.queue.is_short();
                 for _ in 0..ticks {
                     self.tick();
                 }
             }
-            if let Some(news) = news {
-                self.hear(news);
+            if let Some(event) = event {
+                self.hear(event);
             }
             if self.refusals.is_left_out() {
                 self.tell_left_out();
@@ -344,55 +160,84 @@ where
         self.end_processes();
     }
 
-    // Has the processes of workers ended, and ends those that don't in time.
-    fn end_processes(&mut self) {
-        let common = self.common;
-        for worker in 0..self.seats.len() {
-            let is_running = match self.seats.get(worker) {
-                Some(seat) => seat.is_running(),
-                None => false,
-            };
-            if is_running {
-                self.dismiss(worker);
-            }
-        }
-        for _ in 0..LAST_TICKS {
-            if !self.seats.iter().any(|seat| seat.is_running()) {
-                return;
-            }
-            thread::sleep(&common.rt, Duration::from_millis(TICK_MS));
-            for seat in self.seats.iter_mut() {
-                seat.tick(&common.rt, common.alloc);
-                seat.has_ended();
-            }
-        }
-        for seat in self.seats.iter_mut() {
-            seat.kill();
-        }
-    }
-
-    /// What is left.
-    pub fn leave(self) -> Left<Y, O>
-        ensures results { IfSome result.results (λ all. AreResults self.entry.roster.board all.items) }
+    // What is left.
+    fn leave(self) -> CoordinatorLeft<Y, O>
+        ensures results { IfSome result.results (λ all. AreResults self.entry.queue.board all.items) }
         ensures failed { result.has_failed ≡ self.entry.has_failed }
     {
         let Coordinator {
-            common,
-            roster,
+            shared,
+            queue,
             output,
             remarks,
             has_failed,
             ..
         } = self;
         if let Some(remarks) = remarks {
-            remarks.end(&common.rt);
+            remarks.end(&shared.rt);
         }
-        let results = roster.results(common.alloc);
-        Left {
-            benches: roster.into_benches(),
+        let results = queue.results(shared.alloc);
+        CoordinatorLeft {
+            pools: queue.into_pools(),
             output,
             results,
             has_failed,
         }
     }
+}
+
+// Does the coordinator's work, with the threads of builds below it.
+fn work<Y, R, O>(shared: &SharedState<Y, R>, owned: CoordinatorOwned<Y, O>) -> CoordinatorLeft<Y, O>
+where
+    Y: Yard + Send + Sync,
+    R: MasterHost,
+    O: Write + Drop,
+{
+    let CoordinatorOwned {
+        events,
+        queue,
+        workers,
+        output,
+        remarks,
+    } = owned;
+    let has_failed = remarks.is_none();
+    thread::scope(
+        thread::scope_env(),
+        &shared.rt,
+        |scope| -> CoordinatorLeft<Y, O>
+            requires { IsSend Y.row × IsSync Y.row × IsSend R.row × IsSync R.row }
+        {
+            let mut coordinator = Coordinator {
+                shared,
+                queue,
+                workers,
+                output,
+                remarks,
+                refusals: RateLimit::new(MOST_REFUSALS),
+                began: Instant::now(&shared.rt).ok(),
+                ticks: TickCounter::new(TICK_MS, 0),
+                is_stale: true,
+                is_closed: false,
+                has_reported: false,
+                has_failed,
+            };
+            coordinator.serve(scope, &events);
+            coordinator.leave()
+        },
+    )
+}
+
+/// Does the coordinator's work to its end, and then ends the web.
+pub fn coordinate<Y, R, O>(
+    shared: &SharedState<Y, R>,
+    owned: CoordinatorOwned<Y, O>,
+) -> CoordinatorLeft<Y, O>
+where
+    Y: Yard + Send + Sync,
+    R: MasterHost,
+    O: Write + Drop,
+{
+    let left = work(shared, owned);
+    shared.web_stop.end(&shared.rt);
+    left
 }

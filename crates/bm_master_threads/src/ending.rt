@@ -3,17 +3,19 @@ ghost use Rattle.std.specs.Prelude.{◌≡◌, Bool, [], ◌||◌, not, true};
 ghost use Rattle.std.specs.Option.{option_map_or};
 ghost use Rattle.bm_operator.specs.Exit.{exit_status};
 
-use crate::common::Common;
-use crate::coordinator::Left;
-use crate::threads::Came;
+use crate::coordinator::CoordinatorLeft;
+use crate::shared_state::SharedState;
+use crate::threads::MasterLeft;
+use bm_build_queue::ViewerPool;
 use bm_config::WorkerConfig;
-use bm_lane::{Viewer, Yard};
+use bm_lane::{ReaderEnd, WriterEnd, Yard};
 use bm_lanes::{AllEnds, settle_all};
 use bm_operator::{OutputLine, status};
 use bm_session::Results;
+use bm_web_server::LogService;
 use std::alloc::Global;
 use std::io::Write;
-use std::sync::Wait;
+use std::sync::{Arc, Mutex, Wait};
 use std::time::Clock;
 
 /// The exit status of a master that could not begin.
@@ -42,60 +44,78 @@ fn status_of(
     }
 }
 
-/// Writes a report at once. The answer is whether it was written.
-pub fn write_report<O: Write>(alloc: Global, report: OutputLine<'_>, output: &mut O) -> bool {
-    report.write(alloc, output).is_ok() && output.flush().is_ok()
+/// Writes a line at once. The answer is whether it was written.
+pub fn write_line<O: Write>(alloc: Global, line: OutputLine<'_>, output: &mut O) -> bool {
+    line.write(alloc, output).is_ok() && output.flush().is_ok()
 }
 
 /// Settles the lanes once all threads have ended. The answer is the exit status: 0 only where all that
 /// was to be done was done, and each build ended well.
-pub fn end<Y, R, O>(common: Common<Y, R>, site: Vec<Viewer<Y>>, came: Came<Y, O>) -> u8
+pub fn end<Y, R, O>(shared: SharedState<Y, R>, left: MasterLeft<Y, O>) -> u8
 where
     Y: Yard,
     R: Wait + Clock + Drop,
     O: Write + Drop,
     ensures { (settled : Bool) × (result ≡ option_map_or
-        (λ all. exit_status all.items (came.left.has_failed || not came.is_whole || not settled))
-        came.left.results 1) }
+        (λ all. exit_status all.items
+        (left.coordinator.has_failed || not left.is_whole || not settled))
+        left.coordinator.results 1) }
 {
-    let Came {
+    let MasterLeft {
         readers,
-        left,
+        coordinator,
         is_whole,
-    } = came;
-    let Left {
-        benches,
+    } = left;
+    let CoordinatorLeft {
+        pools,
         output,
         results,
         has_failed,
-    } = left;
-    let Common {
+    } = coordinator;
+    let SharedState {
         rt,
         alloc,
         config,
-        lanes,
+        writers,
+        logs,
         ..
-    } = common;
-    let ends = AllEnds {
-        readers,
-        writers: lanes,
-        pools: benches,
-        web_viewers: site,
-    };
+    } = shared;
+    let ends = all_ends(readers, writers, pools, logs);
     let is_settled = close(&rt, alloc, config.workers.as_slice(), ends, output);
     status_of(results, has_failed, is_whole, is_settled)
 }
 
-// Settles the lanes, and reports what each had. The answer is whether all could be settled and
-// reported.
+// All ends of the lanes. None where the logs are still served, which never comes.
+fn all_ends<Y: Yard, R: Wait + Drop>(
+    readers: Vec<ReaderEnd<Y>>,
+    writers: Vec<Mutex<WriterEnd<Y, R>>>,
+    pools: Vec<ViewerPool<Y>>,
+    logs: Arc<LogService<Y>>,
+) -> Option<AllEnds<Y, R>> {
+    match LogService::into_viewers(logs) {
+        Some(web_viewers) => Some(AllEnds {
+            readers,
+            writers,
+            pools,
+            web_viewers,
+        }),
+        None => None,
+    }
+}
+
+// Settles the lanes, and writes what each had. The answer is whether all could be settled and
+// written.
 fn close<Y: Yard, R: Wait + Drop, O: Write + Drop>(
     rt: &R,
     alloc: Global,
     workers: &[WorkerConfig],
-    ends: AllEnds<Y, R>,
+    ends: Option<AllEnds<Y, R>>,
     output: O,
 ) -> bool {
     let mut output = output;
+    let Some(ends) = ends else {
+        return false;
+    };
     let Ok(tallies) = settle_all(rt, alloc, ends) else {
         return false;
     };
@@ -108,7 +128,7 @@ fn close<Y: Yard, R: Wait + Drop, O: Write + Drop>(
                     commands: tally.commands,
                     lines: u128::from(tally.lines),
                 };
-                is_good = write_report(alloc, lane, &mut output) && is_good;
+                is_good = write_line(alloc, lane, &mut output) && is_good;
             }
             Err(_) => is_good = false,
         }

@@ -1,4 +1,4 @@
-//! What the foreman is told.
+//! What the coordinator is told.
 
 use bm_lane::{Viewer, Yard};
 use bm_lane_actor::LaneEvent;
@@ -12,9 +12,12 @@ use std::sync::Wait;
 use std::thread;
 use std::time::{Clock, Duration};
 
-/// What a build's thread hands back.
+/// How long a sender waits before it tries again where memory was wanting.
+const PAUSE_MS: u64 = 10;
+
+/// A build that has ended, as its thread hands it back.
 #[derive(Drop)]
-pub struct Returned<Y: Yard> {
+pub struct FinishedBuild<Y: Yard> {
     /// The build's number.
     pub number: u64,
     /// Its result. None where memory was wanting before its first step.
@@ -24,7 +27,7 @@ pub struct Returned<Y: Yard> {
 
 /// A step of a build, and what happened to it.
 #[derive(Drop)]
-pub struct Step {
+pub struct ReportedStep {
     /// The build's number.
     pub build: u64,
     /// The step's name, where there was memory for it.
@@ -36,7 +39,7 @@ pub struct Step {
 
 /// A connection that was not taken up.
 #[derive(Drop)]
-pub struct Refused {
+pub struct RefusedConnection {
     /// Where it came from.
     pub from: SocketAddr,
     /// The name that it logged in under, where that may be told.
@@ -44,17 +47,17 @@ pub struct Refused {
     pub why: LoginRefusal,
 }
 
-/// What the foreman is told.
+/// What the coordinator is told.
 #[derive(Drop)]
 pub enum MasterEvent<Y: Yard> {
-    /// By the clerk of this lane.
+    /// By the actor of this lane.
     Lane(usize, LaneEvent),
     /// By the thread of a build that has ended.
-    Ended(Returned<Y>),
+    Ended(FinishedBuild<Y>),
     /// Something happened to a step of a build.
-    Step(Step),
+    Step(ReportedStep),
     /// A connection was not taken up.
-    Refused(Refused),
+    Refused(RefusedConnection),
     /// No connection could be accepted just now.
     Paused,
     /// A line of standard input cancels this build.
@@ -63,59 +66,65 @@ pub enum MasterEvent<Y: Yard> {
     InputEnded,
 }
 
-/// Where news are sent. Sending never waits for the foreman.
+/// Where events are sent. Sending never waits for the coordinator.
 #[derive(Drop)]
 pub struct EventSender<Y: Yard> {
     sender: Sender<MasterEvent<Y>, Global>,
 }
 
-/// Where news arrive.
+/// Where events arrive.
 #[derive(Drop)]
 pub struct EventReceiver<Y: Yard> {
     receiver: Receiver<MasterEvent<Y>, Global>,
 }
 
-/// A way for news, by both its ends.
-pub fn open_mail<Y: Yard>(alloc: Global) -> Result<(EventSender<Y>, EventReceiver<Y>), AllocError> {
+/// A channel for events, by both its ends.
+///
+/// # Errors
+///
+/// Memory is wanting.
+pub fn open_events<Y: Yard>(
+    alloc: Global,
+) -> Result<(EventSender<Y>, EventReceiver<Y>), AllocError> {
     let (sender, receiver) = unbounded(alloc)?;
     Ok((EventSender { sender }, EventReceiver { receiver }))
 }
 
 impl<Y: Yard> EventSender<Y> {
-    /// Another end of the same way.
+    /// Another sender of the same channel.
     pub fn copy(&self) -> Result<EventSender<Y>, AllocError> {
         Ok(EventSender {
             sender: self.sender.clone()?,
         })
     }
 
-    /// Tells the foreman. Where memory is wanting it is tried again after a while, so that no news
-    /// is lost but those that come after the foreman has left.
-    pub fn tell<R: Wait + Clock>(&self, rt: &R, news: MasterEvent<Y>) {
-        let mut news = news;
+    /// Tells the coordinator. Where memory is wanting it is tried again after a while, so that no
+    /// event is lost but those that come after the coordinator has left.
+    pub fn tell<R: Wait + Clock>(&self, rt: &R, event: MasterEvent<Y>) {
+        let mut event = event;
         for _ in rt.forever() {
-            match self.sender.send(rt, news) {
+            match self.sender.send(rt, event) {
                 Ok(()) => return,
                 Err(error) if error.is_disconnected() => return,
-                Err(error) => news = error.into_inner(),
+                Err(error) => event = error.into_inner(),
             }
-            thread::sleep(rt, Duration::from_millis(10));
+            thread::sleep(rt, Duration::from_millis(PAUSE_MS));
         }
     }
 }
 
 impl<Y: Yard> EventReceiver<Y> {
-    /// The next news, however long it takes.
+    /// The next event, however long it takes.
     pub fn wait<R: Wait>(&self, rt: &R) -> Option<MasterEvent<Y>> {
         self.receiver.recv(rt).ok()
     }
 
-    /// The next news, if it comes within this time.
+    /// The next event, if it comes within this time.
     pub fn wait_for<R: Wait + Clock>(&self, rt: &R, most: Duration) -> Option<MasterEvent<Y>> {
         self.receiver.recv_timeout(rt, most).ok()
     }
 
-    /// The next news, if there is one.
+    /// The next event, if there is one.
     pub fn look<R: Wait>(&self, rt: &R) -> Option<MasterEvent<Y>> {
         self.receiver.try_recv(rt).ok()
     }

@@ -1,11 +1,13 @@
 //! Standard input: builds that are to be cancelled.
 
 use crate::events::{EventSender, MasterEvent};
+use crate::shared_state::SharedState;
 use bm_lane::Yard;
 use bm_operator::read_cancel;
 use std::alloc::Global;
 use std::io::{ErrorKind, Read};
 use std::sync::Wait;
+use std::thread::{Scope, Threads};
 use std::time::Clock;
 
 /// How many bytes of a line are kept. Of a longer one nothing is kept: a line that asks for
@@ -14,14 +16,14 @@ const MOST_LINE: usize = 4096;
 
 /// The line that is being read, without its line end.
 #[derive(Drop)]
-struct Line {
+struct InputLine {
     bytes: Vec<u8>,
     is_whole: bool,
 }
 
-impl Line {
-    fn new(alloc: Global) -> Line {
-        Line {
+impl InputLine {
+    fn new(alloc: Global) -> InputLine {
+        InputLine {
             bytes: Vec::new(alloc),
             is_whole: true,
         }
@@ -46,8 +48,8 @@ impl Line {
     }
 }
 
-/// Tells of each build that a line of the input cancels, until the input ends or can't be read.
-pub fn read_input<I, Y, R>(rt: &R, alloc: Global, input: I, mail: &EventSender<Y>)
+// Tells of each build that a line of the input cancels, until the input ends or can't be read.
+fn read_input<I, Y, R>(rt: &R, alloc: Global, input: I, events: &EventSender<Y>)
 where
     I: Read + Drop,
     Y: Yard,
@@ -55,7 +57,7 @@ where
 {
     let mut input = input;
     let mut piece = [0u8; 512];
-    let mut line = Line::new(alloc);
+    let mut line = InputLine::new(alloc);
     for _ in rt.forever() {
         let count = match input.read(&mut piece) {
             Ok(0) => break,
@@ -67,11 +69,33 @@ where
             if *byte != b'\n' {
                 line.push(*byte);
             } else if let Some(number) = line.end() {
-                mail.tell(rt, MasterEvent::Cancel(number));
+                events.tell(rt, MasterEvent::Cancel(number));
             }
         }
     }
     if let Some(number) = line.end() {
-        mail.tell(rt, MasterEvent::Cancel(number));
+        events.tell(rt, MasterEvent::Cancel(number));
     }
+}
+
+/// Starts the thread that reads the input. Where it can't be started the input has ended for the
+/// coordinator; the answer is then false.
+pub fn start_input<'s, E, Y, R, I>(
+    scope: &Scope<'s, E>,
+    shared: &'s SharedState<Y, R>,
+    input: I,
+) -> bool
+where
+    Y: Yard + Send + Sync + 's,
+    R: Wait + Clock + Threads + Drop + Send + Sync + 's,
+    I: Read + Drop + Send + 's,
+{
+    let reading = scope.spawn(move || {
+        read_input(&shared.rt, shared.alloc, input, &shared.events);
+        shared.events.tell(&shared.rt, MasterEvent::InputEnded);
+    });
+    if reading.is_err() {
+        shared.events.tell(&shared.rt, MasterEvent::InputEnded);
+    }
+    reading.is_ok()
 }

@@ -1,26 +1,34 @@
-//! A build master: its threads, from the first to the last.
+//! A build master: its threads, from the first to the last. [`serve`] is all of it.
 //!
-//! Each lane has a clerk, which alone calls its link; a foreman alone knows all builds; each build,
-//! and each connection until its login, has a thread of its own; another one writes remarks; a pool
-//! of writers shows what was heard, and the web serves it.
+//! `setup.rt` makes what all threads share and what each of them owns, `threads.rt` starts each and
+//! joins it, `coordinator.rt` decides, `ending.rt` settles the lanes.
+//!
+//! Promised: the exit status is that of `bm_operator` for how the builds ended and whether anything
+//! failed; a build runs on its own worker's lane. Everything here is safe, and may wait.
+//!
+//! A body could still start a thread too few, end one too early, or drop an event: the threads'
+//! work is put together here, and only tested.
 #![tactic(auto)]
 
 mod acceptor;
-mod builds;
-mod common;
+mod build_thread;
 mod coordinator;
+mod coordinator_builds;
+mod coordinator_remarks;
+mod coordinator_workers;
 mod ending;
 mod events;
+mod host;
 mod input;
-mod process;
+mod lane_threads;
 mod remarks;
 mod serving;
-mod staff;
-mod start;
-mod telling;
+mod setup;
+mod shared_state;
 mod threads;
-mod ticker;
 mod web;
 mod worker_entry;
+mod worker_process;
 
+pub use host::MasterHost;
 pub use serving::serve;

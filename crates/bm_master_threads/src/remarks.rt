@@ -28,16 +28,16 @@ pub struct Remarks {
     untold: Arc<AtomicU64, Global>,
 }
 
-/// What the thread of remarks works with.
+/// What the thread of remarks owns.
 #[derive(Drop)]
-struct Pen<F> {
+struct RemarkWriter<F> {
     alloc: Global,
     faults: F,
     lines: Receiver<String, Global>,
     untold: Arc<AtomicU64, Global>,
 }
 
-impl<F: Write> Pen<F> {
+impl<F: Write> RemarkWriter<F> {
     // Writes a line. What can't be written is passed over.
     fn write(&mut self, line: &str) {
         let _ = self.faults.write_all(line.as_bytes());
@@ -81,7 +81,7 @@ impl Remarks {
         let untold = Arc::new(alloc, AtomicU64::new(0)).ok()?;
         let counted = Arc::try_clone(&untold).ok()?;
         let rt = *rt;
-        let pen = Pen {
+        let writer = RemarkWriter {
             alloc,
             faults,
             lines: taken,
@@ -89,8 +89,8 @@ impl Remarks {
         };
         // It is never joined: a write for which nobody reads has no end.
         thread::spawn(&rt, move || {
-            let mut pen = pen;
-            pen.write_all(&rt);
+            let mut writer = writer;
+            writer.write_all(&rt);
             drop(ends);
         })
         .ok()?;

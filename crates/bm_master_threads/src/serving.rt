@@ -1,33 +1,22 @@
-//! A build master, from its sockets to its last report.
+//! A build master, from its sockets to its last line.
 ghost use Rattle.bm_lane.specs.Placed.{ArePlaced};
 
-use crate::common::{Common, Guest};
-use crate::ending::{end, failed, write_report};
+use crate::ending::{end, failed, write_line};
+use crate::host::MasterHost;
 use crate::remarks::Remarks;
-use crate::start::{Given, Sockets, Start, prepare};
-use crate::threads::{Came, Lead, Service, run_threads};
+use crate::setup::{MasterStreams, prepare};
+use crate::shared_state::WorkerConnection;
+use crate::threads::run_threads;
 use bm_config::{Config, WorkerConfig};
 use bm_lane::{Blank, Yard, ends_of_all};
 use bm_lanes::{DealtLanes, deal, open_all};
 use bm_operator::{OutputLine, REFUSED};
-use bm_web_server::LogService;
-use std::alloc::{AllocGlobal, Global};
+use std::alloc::Global;
 use std::io::{Read, Write};
 use std::marker::Brand;
-use std::net::{Net, TcpListener, TcpStream};
-use std::process::{Processes, SystemProcess};
-use std::random::RandomSource;
+use std::net::TcpListener;
 use std::sync::Wait;
-use std::thread::Threads;
 use std::time::Clock;
-
-/// The streams of a master.
-#[derive(Drop)]
-struct Streams<I, O> {
-    input: I,
-    output: O,
-    remarks: Option<Remarks>,
-}
 
 // Tells of a key at fault.
 fn refuse<F: Write>(faults: &mut F, key: &str) -> u8 {
@@ -47,18 +36,7 @@ fn refuse<F: Write>(faults: &mut F, key: &str) -> u8 {
 /// NAME COMMANDS LINES` for each worker. On `faults` stand remarks for an operator.
 pub fn serve<R, I, O, F>(rt: &R, config: Config, input: I, output: O, faults: F) -> u8
 where
-    R: Wait
-        + Threads
-        + Clock
-        + RandomSource
-        + AllocGlobal
-        + Net<Listener = TcpListener, Stream = TcpStream>
-        + Processes<Started = SystemProcess>
-        + Copy
-        + Drop
-        + Send
-        + Sync
-        + 'static,
+    R: MasterHost + 'static,
     I: Read + Drop + Send,
     O: Write + Drop + Send,
     F: Write + Drop + Send + 'static,
@@ -74,25 +52,25 @@ where
     let Some(blanks) = open_all(*rt, alloc, config.capacity, config.workers.as_slice()) else {
         return failed();
     };
-    let sockets = Sockets { workers, web };
-    let remarks = Remarks::open(rt, alloc, faults);
-    let streams = Streams {
+    let streams = MasterStreams {
+        workers,
+        web,
         input,
         output,
-        remarks,
+        remarks: Remarks::open(rt, alloc, faults),
     };
-    match run::<Brand, R, I, O>(rt, alloc, blanks, config, sockets, streams) {
+    match run::<Brand, R, I, O>(rt, alloc, blanks, config, streams) {
         Some(status) => status,
         None => failed(),
     }
 }
 
-// What the ends of these lanes are made of. None where memory is wanting.
-fn parts_of<Y: Yard, R: Wait + Clock + Drop>(
+// The ends of these lanes, by who owns them. None where memory is wanting.
+fn ends_by_owner<Y: Yard, R: Wait + Clock + Drop>(
     alloc: Global,
     workers: &[WorkerConfig],
     blanks: Vec<Blank<R>>,
-) -> Option<DealtLanes<Y, R, Guest<R>>>
+) -> Option<DealtLanes<Y, R, WorkerConnection<R>>>
     requires placed { ArePlaced Y.queue Y.copy 0 blanks.items }
 {
     match ends_of_all::<Y, R>(alloc, blanks) {
@@ -101,130 +79,32 @@ fn parts_of<Y: Yard, R: Wait + Clock + Drop>(
     }
 }
 
-// Runs a master over these blanks, and answers its exit status. None where it could not begin.
+// Runs a master over these blanks, and answers its exit status. None where it could not begin, or a
+// thread could not be started. Where it can't be told where it listens nobody could connect: then
+// no thread is started.
 fn run<Y, R, I, O>(
     rt: &R,
     alloc: Global,
     blanks: Vec<Blank<R>>,
     config: Config,
-    sockets: Sockets,
-    streams: Streams<I, O>,
+    streams: MasterStreams<I, O>,
 ) -> Option<u8>
 where
     Y: Yard + Send + Sync,
-    R: Wait
-        + Threads
-        + Clock
-        + RandomSource
-        + AllocGlobal
-        + Net<Listener = TcpListener, Stream = TcpStream>
-        + Processes<Started = SystemProcess>
-        + Copy
-        + Drop
-        + Send
-        + Sync,
+    R: MasterHost,
     I: Read + Drop + Send,
     O: Write + Drop + Send,
     requires placed { ArePlaced Y.queue Y.copy 0 blanks.items }
 {
-    let at = sockets.listen();
-    let parts = parts_of::<Y, R>(alloc, config.workers.as_slice(), blanks);
-    let Streams {
-        input,
-        output,
-        remarks,
-    } = streams;
-    let given = Given {
-        config,
-        sockets,
-        output,
-        remarks,
-    };
-    match at.zip(parts) {
-        Some((at, parts)) => {
-            let (workers, web) = at;
-            let start = prepare(rt, alloc, parts, given, workers);
-            work(start, OutputLine::Listening { workers, web }, input)
-        }
-        None => {
-            drop(given);
-            drop(input);
-            None
-        }
+    let ends = ends_by_owner::<Y, R>(alloc, config.workers.as_slice(), blanks);
+    let (at, ends) = streams.listen().zip(ends)?;
+    let (workers, web) = at;
+    let (shared, owned) = prepare(rt, alloc, config, streams, ends, workers)?;
+    let mut owned = owned;
+    let listening = OutputLine::Listening { workers, web };
+    if !write_line(alloc, listening, &mut owned.coordinator.output) {
+        return None;
     }
-}
-
-// Runs the threads to their end. The answer is the exit status, or None where they could not begin.
-fn work<Y, R, I, O>(
-    start: Option<Start<Y, R, O>>,
-    listening: OutputLine<'_>,
-    input: I,
-) -> Option<u8>
-where
-    Y: Yard + Send + Sync,
-    R: Wait
-        + Threads
-        + Clock
-        + RandomSource
-        + AllocGlobal
-        + Net<Listener = TcpListener, Stream = TcpStream>
-        + Processes<Started = SystemProcess>
-        + Copy
-        + Drop
-        + Send
-        + Sync,
-    I: Read + Drop + Send,
-    O: Write + Drop + Send,
-{
-    let (start, input) = start.zip(Some(input))?;
-    let Start {
-        common,
-        service,
-        given,
-        site,
-    } = start;
-    let came = work_on(&common, service, given, input, listening);
-    let left = came.zip(LogService::into_viewers(site));
-    match left {
-        Some((came, site)) => Some(end(common, site, came)),
-        None => {
-            drop(common);
-            None
-        }
-    }
-}
-
-// Runs the threads, once it is told that they listen: where that can't be told nobody could connect.
-fn work_on<Y, R, I, O>(
-    common: &Common<Y, R>,
-    service: Service<Y, R>,
-    given: Lead<Y, O>,
-    input: I,
-    listening: OutputLine<'_>,
-) -> Option<Came<Y, O>>
-where
-    Y: Yard + Send + Sync,
-    R: Wait
-        + Threads
-        + Clock
-        + RandomSource
-        + AllocGlobal
-        + Net<Listener = TcpListener, Stream = TcpStream>
-        + Processes<Started = SystemProcess>
-        + Copy
-        + Drop
-        + Send
-        + Sync,
-    I: Read + Drop + Send,
-    O: Write + Drop + Send,
-{
-    let mut given = given;
-    if write_report(common.alloc, listening, &mut given.output) {
-        run_threads(common, service, given, input)
-    } else {
-        drop(service);
-        drop(given);
-        drop(input);
-        None
-    }
+    let left = run_threads(&shared, owned)?;
+    Some(end(shared, left))
 }

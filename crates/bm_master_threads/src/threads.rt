@@ -1,339 +1,159 @@
 //! The threads of a master, from the first to the last.
+//!
+//! | thread | owns | ends |
+//! |-|-|-|
+//! | first | the web's socket | with the coordinator, which it joins |
+//! | pool | nothing: it drains the shared writers' ends | once the gate is stopped |
+//! | actor, one a lane | the lane's state and its mailbox | once its mailbox is told `Leave` |
+//! | acceptor | the workers' socket | once `is_over` is set |
+//! | coordinator | builds, workers, output and remarks | once all builds and the input have ended |
+//! | input | standard input | with it |
+//!
+//! Below the acceptor stands a thread for each connection without a login, below the coordinator
+//! one for each build. The thread of remarks stands by itself.
 ghost use Rattle.std.specs.Thread.{IsSend, IsSync};
 
-use crate::common::{Common, Guest};
-use crate::coordinator::{Coordinator, Left, MOST_REFUSALS};
-use crate::events::{EventReceiver, MasterEvent};
-use crate::input::read_input;
-use crate::remarks::Remarks;
-use crate::staff::start_staff;
-use crate::ticker::Ticker;
-use crate::web::Web;
-use crate::worker_entry::WorkerEntry;
-use bm_build_queue::BuildQueue;
+use crate::acceptor::accept_connections;
+use crate::coordinator::{CoordinatorLeft, CoordinatorOwned, coordinate};
+use crate::host::MasterHost;
+use crate::input::start_input;
+use crate::lane_threads::{LaneThreads, drain_lanes, start_actors};
+use crate::shared_state::{SharedState, WorkerConnection};
+use crate::web::serve_web;
 use bm_lane::{ReaderEnd, Yard};
 use bm_lane_actor::{LaneState, Mailbox};
-use bm_operator::RateLimit;
-use bm_web_server::LogService;
-use std::alloc::AllocGlobal;
 use std::io::{Read, Write};
-use std::net::{Net, TcpListener, TcpStream};
-use std::process::{Processes, SystemProcess};
-use std::random::RandomSource;
-use std::sync::{Arc, Wait};
+use std::net::TcpListener;
+use std::sync::Wait;
 use std::thread;
-use std::thread::{JoinHandle, Scope, Threads};
+use std::thread::{JoinHandle, Scope};
 use std::time::Clock;
 
-/// What the threads that serve lanes and connections are given.
+/// What each thread of a master owns from its start on.
 #[derive(Drop)]
-pub struct Service<Y: Yard, R: Wait + Clock + Drop> {
-    pub desks: Vec<LaneState<Y, Guest<R>>>,
-    pub inboxes: Vec<Mailbox<Guest<R>>>,
-    /// Where workers connect. Its `accept` doesn't wait.
+pub struct ThreadOwned<Y: Yard, R: Wait + Clock + Drop, I, O> {
+    /// The actors': the state of each lane, and its mailbox, in the order of the lanes.
+    pub states: Vec<LaneState<Y, WorkerConnection<R>>>,
+    pub mailboxes: Vec<Mailbox<WorkerConnection<R>>>,
+    /// The acceptor's. Its `accept` doesn't wait.
     pub workers: TcpListener,
+    /// The first thread's.
     pub web: TcpListener,
-    /// What is served on the web.
-    pub site: Arc<LogService<Y>>,
+    pub coordinator: CoordinatorOwned<Y, O>,
+    /// The input thread's.
+    pub input: I,
 }
 
-/// What the foreman is given.
+/// What the threads leave once all have ended.
 #[derive(Drop)]
-pub struct Lead<Y: Yard, O> {
-    pub letters: EventReceiver<Y>,
-    pub roster: BuildQueue<Y>,
-    pub seats: Vec<WorkerEntry>,
-    pub output: O,
-    /// Where remarks are told, where there is a thread that writes them.
-    pub remarks: Option<Remarks>,
-}
-
-/// What the threads leave.
-#[derive(Drop)]
-pub struct Came<Y: Yard, O> {
+pub struct MasterLeft<Y: Yard, O> {
+    /// The reader's end of each lane whose actor was started.
     pub readers: Vec<ReaderEnd<Y>>,
-    pub left: Left<Y, O>,
-    /// Whether the pool and the web did their work to the end.
+    pub coordinator: CoordinatorLeft<Y, O>,
+    /// Whether the pool, the input and the web did their work to the end.
     pub is_whole: bool,
 }
 
-// Does the foreman's work, with the threads of builds below it.
-fn run_foreman<Y, R, O>(common: &Common<Y, R>, given: Lead<Y, O>) -> Left<Y, O>
+// Joins the coordinator, and then ends the threads that serve lanes. None where there is no
+// coordinator. `room` is for the lanes' reader's ends.
+fn join_all<Y, R, O>(
+    shared: &SharedState<Y, R>,
+    coordinator: Option<JoinHandle<CoordinatorLeft<Y, O>>>,
+    lane_threads: LaneThreads<Y>,
+    room: Vec<ReaderEnd<Y>>,
+    is_done: bool,
+) -> Option<MasterLeft<Y, O>>
 where
-    Y: Yard + Send + Sync,
-    R: Wait + Clock + Threads + Processes<Started = SystemProcess> + Drop + Send + Sync,
-    O: Write + Drop,
+    Y: Yard,
+    R: MasterHost,
+    O: Drop,
 {
-    let Lead {
-        letters,
-        roster,
-        seats,
-        output,
-        remarks,
-    } = given;
-    let has_failed = remarks.is_none();
-    thread::scope(
-        thread::scope_env(),
-        &common.rt,
-        |scope| -> Left<Y, O>
-            requires { IsSend Y.row × IsSync Y.row × IsSend R.row × IsSync R.row }
-        {
-            let mut foreman = Coordinator {
-                common,
-                roster,
-                seats,
-                output,
-                remarks,
-                refusals: RateLimit::new(MOST_REFUSALS),
-                clock: Ticker::new(&common.rt),
-                is_stale: true,
-                is_closed: false,
-                has_reported: false,
-                has_failed,
-            };
-            foreman.preside(scope, &letters);
-            foreman.leave()
-        },
-    )
-}
-
-// Starts the foreman, who ends the web at the end.
-fn start_foreman<'s, E, Y, R, O>(
-    scope: &Scope<'s, E>,
-    common: &'s Common<Y, R>,
-    given: Lead<Y, O>,
-) -> Option<JoinHandle<Left<Y, O>>>
-where
-    Y: Yard + Send + Sync + 's,
-    R: Wait + Clock + Threads + Processes<Started = SystemProcess> + Drop + Send + Sync + 's,
-    O: Write + Drop + Send + 's,
-{
-    scope
-        .spawn(move || {
-            let left = run_foreman(common, given);
-            common.web.end(&common.rt);
-            left
-        })
-        .ok()
-}
-
-// Starts the thread that reads the input. Where it can't be started the input has ended for the
-// foreman; the answer is then false.
-fn start_reading<'s, E, Y, R, I>(scope: &Scope<'s, E>, common: &'s Common<Y, R>, input: I) -> bool
-where
-    Y: Yard + Send + Sync + 's,
-    R: Wait + Clock + Threads + Drop + Send + Sync + 's,
-    I: Read + Drop + Send + 's,
-{
-    let reading = scope.spawn(move || {
-        read_input(&common.rt, common.alloc, input, &common.mail);
-        common.mail.tell(&common.rt, MasterEvent::InputEnded);
-    });
-    if reading.is_err() {
-        common.mail.tell(&common.rt, MasterEvent::InputEnded);
-    }
-    reading.is_ok()
-}
-
-/// What the threads do their work with.
-#[derive(Drop)]
-struct Work<Y: Yard, R: Wait + Clock + Drop, I, O> {
-    service: Service<Y, R>,
-    given: Lead<Y, O>,
-    input: I,
-    /// Room for the clerks.
-    clerks: Vec<JoinHandle<ReaderEnd<Y>>>,
-    /// Room for the reader's ends that they hand back.
-    readers: Vec<ReaderEnd<Y>>,
-}
-
-/// What is left of the work.
-#[derive(Drop)]
-struct Done<Y: Yard, O> {
-    left: Option<Left<Y, O>>,
-    readers: Vec<ReaderEnd<Y>>,
-    is_whole: bool,
-}
-
-// Serves the web while the foreman works. The answer is also whether all of it was done.
-fn work_and_serve<'s, E, Y, R, I, O>(
-    scope: &Scope<'s, E>,
-    common: &'s Common<Y, R>,
-    given: Lead<Y, O>,
-    input: I,
-    web: Web<Y>,
-) -> (Option<Left<Y, O>>, bool)
-where
-    Y: Yard + Send + Sync + 's,
-    R: Wait
-        + Threads
-        + Clock
-        + RandomSource
-        + AllocGlobal
-        + Net<Listener = TcpListener, Stream = TcpStream>
-        + Processes<Started = SystemProcess>
-        + Copy
-        + Drop
-        + Send
-        + Sync
-        + 's,
-    I: Read + Drop + Send + 's,
-    O: Write + Drop + Send + 's,
-{
-    let Some(foreman) = start_foreman(scope, common, given) else {
-        return (None, false);
+    let left = match coordinator {
+        Some(thread) => Some(thread.join(&shared.rt)),
+        None => None,
     };
-    let is_read = start_reading(scope, common, input);
-    let is_served = web.serve(common);
-    (Some(foreman.join(&common.rt)), is_read && is_served)
+    let (readers, is_drained) = lane_threads.end(shared, room);
+    let (coordinator, readers) = left.zip(Some(readers))?;
+    Some(MasterLeft {
+        readers,
+        coordinator,
+        is_whole: is_done && is_drained,
+    })
 }
 
-// Has the staff and the foreman work until the end.
-fn work_through<'s, E, Y, R, I, O>(
+// Starts each thread with what it owns, serves the web in this one, and joins them. None where one
+// of them could not be started, or memory is wanting.
+fn run_all<'s, E, Y, R, I, O>(
     scope: &Scope<'s, E>,
-    common: &'s Common<Y, R>,
-    work: Work<Y, R, I, O>,
-) -> Done<Y, O>
+    shared: &'s SharedState<Y, R>,
+    owned: ThreadOwned<Y, R, I, O>,
+) -> Option<MasterLeft<Y, O>>
 where
     Y: Yard + Send + Sync + 's,
-    R: Wait
-        + Threads
-        + Clock
-        + RandomSource
-        + AllocGlobal
-        + Net<Listener = TcpListener, Stream = TcpStream>
-        + Processes<Started = SystemProcess>
-        + Copy
-        + Drop
-        + Send
-        + Sync
-        + 's,
+    R: MasterHost + 's,
     I: Read + Drop + Send + 's,
     O: Write + Drop + Send + 's,
 {
-    let Work {
-        service,
-        given,
-        input,
-        clerks,
-        readers,
-    } = work;
-    let Service {
-        desks,
-        inboxes,
+    let lanes = shared.writers.len();
+    let actors = Vec::with_capacity(shared.alloc, lanes).ok();
+    let (actors, room) = actors.zip(Vec::with_capacity(shared.alloc, lanes).ok())?;
+    let mut actors = actors;
+    let ThreadOwned {
+        states,
+        mailboxes,
         workers,
         web,
-        site,
-    } = service;
-    let web = Web {
-        listener: web,
-        site,
+        coordinator,
+        input,
+    } = owned;
+    let pool = scope.spawn(move || drain_lanes(shared)).ok();
+    let has_actors = start_actors(scope, shared, states, mailboxes, &mut actors);
+    let acceptor = scope
+        .spawn(move || accept_connections(shared, workers))
+        .ok();
+    let lane_threads = LaneThreads {
+        pool,
+        actors,
+        acceptor,
     };
-    let staff = start_staff(scope, common, desks, inboxes, workers, clerks);
-    let (left, is_done) = if staff.is_complete() {
-        work_and_serve(scope, common, given, input, web)
+    let coordinator = if has_actors && lane_threads.are_started() {
+        scope.spawn(move || coordinate(shared, coordinator)).ok()
     } else {
-        (None, false)
+        None
     };
-    let (readers, is_drained) = staff.dismiss(common, readers);
-    Done {
-        left,
-        readers,
-        is_whole: is_done && is_drained,
+    let is_read = coordinator.is_some() && start_input(scope, shared, input);
+    if coordinator.is_none() {
+        shared.web_stop.end(&shared.rt);
     }
-}
-
-// The same, once all threads have ended.
-fn work_to_end<Y, R, I, O>(common: &Common<Y, R>, work: Work<Y, R, I, O>) -> Done<Y, O>
-where
-    Y: Yard + Send + Sync,
-    R: Wait
-        + Threads
-        + Clock
-        + RandomSource
-        + AllocGlobal
-        + Net<Listener = TcpListener, Stream = TcpStream>
-        + Processes<Started = SystemProcess>
-        + Copy
-        + Drop
-        + Send
-        + Sync,
-    I: Read + Drop + Send,
-    O: Write + Drop + Send,
-{
-    let done = thread::scope(
-        thread::scope_env(),
-        &common.rt,
-        |scope| -> Done<Y, O>
-            requires { IsSend Y.row × IsSync Y.row × IsSend R.row × IsSync R.row × IsSend I.row
-                × IsSend O.row }
-        { work_through(scope, common, work) },
-    );
-    done
+    let is_served = serve_web(shared, &web);
+    join_all(
+        shared,
+        coordinator,
+        lane_threads,
+        room,
+        is_read && is_served,
+    )
 }
 
 /// Runs all threads, and joins them. None where one of them could not be started, or memory is
 /// wanting.
 pub fn run_threads<Y, R, I, O>(
-    common: &Common<Y, R>,
-    service: Service<Y, R>,
-    given: Lead<Y, O>,
-    input: I,
-) -> Option<Came<Y, O>>
+    shared: &SharedState<Y, R>,
+    owned: ThreadOwned<Y, R, I, O>,
+) -> Option<MasterLeft<Y, O>>
 where
     Y: Yard + Send + Sync,
-    R: Wait
-        + Threads
-        + Clock
-        + RandomSource
-        + AllocGlobal
-        + Net<Listener = TcpListener, Stream = TcpStream>
-        + Processes<Started = SystemProcess>
-        + Copy
-        + Drop
-        + Send
-        + Sync,
+    R: MasterHost,
     I: Read + Drop + Send,
     O: Write + Drop + Send,
 {
-    let lanes = common.lanes.len();
-    let clerks = Vec::with_capacity(common.alloc, lanes).ok();
-    match clerks.zip(Vec::with_capacity(common.alloc, lanes).ok()) {
-        Some((clerks, readers)) => {
-            let work = Work {
-                service,
-                given,
-                input,
-                clerks,
-                readers,
-            };
-            came_of(work_to_end(common, work))
-        }
-        None => {
-            drop(service);
-            drop(given);
-            drop(input);
-            None
-        }
-    }
-}
-
-// What the threads leave, where the foreman has left.
-fn came_of<Y: Yard, O: Drop>(done: Done<Y, O>) -> Option<Came<Y, O>> {
-    let Done {
-        left,
-        readers,
-        is_whole,
-    } = done;
-    match left {
-        Some(left) => Some(Came {
-            readers,
-            left,
-            is_whole,
-        }),
-        None => {
-            drop(readers);
-            None
-        }
-    }
+    let left = thread::scope(
+        thread::scope_env(),
+        &shared.rt,
+        |scope| -> Option<MasterLeft<Y, O>>
+            requires { IsSend Y.row × IsSync Y.row × IsSend R.row × IsSync R.row × IsSend I.row
+                × IsSend O.row }
+        { run_all(scope, shared, owned) },
+    );
+    left
 }

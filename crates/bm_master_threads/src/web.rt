@@ -1,15 +1,14 @@
-//! The web, which is served until the foreman ends it.
+//! The web, which is served until the coordinator ends it.
 
-use crate::common::Common;
+use crate::host::MasterHost;
+use crate::shared_state::SharedState;
 use bm_lane::Yard;
-use bm_web_server::{LogService, WebLimits, serve};
-use std::alloc::{AllocError, AllocGlobal, Global};
-use std::net::{Net, TcpListener};
-use std::random::RandomSource;
+use bm_web_server::{WebLimits, serve};
+use std::alloc::{AllocError, Global};
+use std::net::TcpListener;
 use std::sync::{Arc, Mutex, Wait};
 use std::thread;
-use std::thread::Threads;
-use std::time::{Clock, Duration};
+use std::time::Duration;
 use tokio::sync::oneshot;
 
 /// How many threads serve the web.
@@ -18,33 +17,33 @@ const THREADS: usize = 2;
 /// How many connections the web has open at once.
 const CONNECTIONS: usize = 256;
 
-/// How long a connection of the web may be idle, in seconds.
-const IDLE: u64 = 30;
+/// How long a connection of the web may be idle.
+const IDLE_SECONDS: u64 = 30;
 
-/// How long a client of the web may take nothing of what is sent to it, in seconds.
-const STALLED: u64 = 30;
+/// How long a client of the web may take nothing of what is sent to it.
+const STALLED_SECONDS: u64 = 30;
 
-/// How long it waits before it looks whether to serve again, in milliseconds.
-const PAUSE: u64 = 20;
+/// How long it waits before it looks whether to serve again.
+const PAUSE_MS: u64 = 20;
 
 /// What the web goes by.
 #[derive(Drop)]
-struct Signal {
+struct StopSignal {
     is_over: bool,
     /// Whoever serves now ends once this is dropped.
     going_on: Option<oneshot::Sender<()>>,
 }
 
-/// How the foreman ends the web.
+/// How the coordinator ends the web.
 #[derive(Drop)]
 pub struct WebStop {
-    signal: Mutex<Signal>,
+    signal: Mutex<StopSignal>,
 }
 
 impl WebStop {
     pub fn new() -> WebStop {
         WebStop {
-            signal: Mutex::new(Signal {
+            signal: Mutex::new(StopSignal {
                 is_over: false,
                 going_on: None,
             }),
@@ -74,50 +73,46 @@ impl WebStop {
     }
 }
 
-/// What is served on the web, and where.
-#[derive(Drop)]
-pub struct Web<Y: Yard> {
-    pub listener: TcpListener,
-    pub site: Arc<LogService<Y>>,
+/// Serves the logs until the coordinator ends it. Where memory or descriptors are wanting, so that it
+/// can't begin or go on, it begins anew after a while: who connects meanwhile waits. The answer is
+/// whether it was served at the end, or ended before it began.
+pub fn serve_web<Y, R>(shared: &SharedState<Y, R>, listener: &TcpListener) -> bool
+where
+    Y: Yard + Send + Sync,
+    R: MasterHost,
+{
+    let rt = &shared.rt;
+    let mut is_served = true;
+    for _ in rt.forever() {
+        match shared.web_stop.wait_for(rt, shared.alloc) {
+            Ok(Some(stopped)) => is_served = serve_once(shared, listener, stopped),
+            Ok(None) => return is_served,
+            Err(_) => is_served = false,
+        }
+        thread::sleep(rt, Duration::from_millis(PAUSE_MS));
+    }
+    unreachable!()
 }
 
-impl<Y: Yard + Send + Sync> Web<Y> {
-    /// Serves the logs until the foreman ends it. Where memory or descriptors are wanting, so that it
-    /// can't begin or go on, it begins anew after a while: who connects meanwhile waits. The answer
-    /// is whether it was served at the end, or ended before it began.
-    pub fn serve<R>(self, common: &Common<Y, R>) -> bool
-    where
-        R: Wait + Threads + Clock + RandomSource + AllocGlobal + Net + Copy + Drop + Send + Sync,
-    {
-        let rt = &common.rt;
-        let mut is_served = true;
-        for _ in rt.forever() {
-            match common.web.wait_for(rt, common.alloc) {
-                Ok(Some(stopped)) => is_served = self.serve_once(*rt, stopped),
-                Ok(None) => return is_served,
-                Err(_) => is_served = false,
-            }
-            thread::sleep(rt, Duration::from_millis(PAUSE));
-        }
-        unreachable!()
-    }
-
-    // Serves the logs until they need not be served, or memory is wanting for it. False where that is
-    // known, or it could not begin.
-    fn serve_once<R>(&self, rt: R, stopped: oneshot::Receiver<()>) -> bool
-    where
-        R: Wait + Threads + Clock + RandomSource + AllocGlobal + Net + Copy + Send + Sync,
-    {
-        let (Ok(listener), Ok(site)) = (self.listener.try_clone(), Arc::try_clone(&self.site))
-        else {
-            return false;
-        };
-        let limits = WebLimits {
-            workers: THREADS,
-            connections: CONNECTIONS,
-            idle: Duration::from_secs(IDLE),
-            stalled: Duration::from_secs(STALLED),
-        };
-        serve(rt, limits, listener, site, stopped).is_ok()
-    }
+// Serves the logs until they need not be served, or memory is wanting for it. False where that is
+// known, or it could not begin.
+fn serve_once<Y, R>(
+    shared: &SharedState<Y, R>,
+    listener: &TcpListener,
+    stopped: oneshot::Receiver<()>,
+) -> bool
+where
+    Y: Yard + Send + Sync,
+    R: MasterHost,
+{
+    let (Ok(listener), Ok(logs)) = (listener.try_clone(), Arc::try_clone(&shared.logs)) else {
+        return false;
+    };
+    let limits = WebLimits {
+        workers: THREADS,
+        connections: CONNECTIONS,
+        idle: Duration::from_secs(IDLE_SECONDS),
+        stalled: Duration::from_secs(STALLED_SECONDS),
+    };
+    serve(shared.rt, limits, listener, logs, stopped).is_ok()
 }

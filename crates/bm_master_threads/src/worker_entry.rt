@@ -1,19 +1,20 @@
-//! A worker, as the foreman knows it.
+//! A worker, as the coordinator knows it.
 ghost use Rattle.std.specs.Prelude.{◌≤◌};
 
-use crate::process::Starter;
+use crate::worker_process::WorkerProcess;
 use bm_board::Words;
-use bm_config::WorkerConfig;
+use bm_config::{Config, WorkerConfig};
 use bm_latent::{WorkerAction, WorkerEvent, WorkerState};
 use bm_operator::{ProgramRefusal, place_master};
 use std::alloc::{AllocError, Global};
+use std::net::SocketAddr;
 use std::process::{Processes, SystemProcess};
 
-/// A worker: what is known of it, and its program, where it is started on demand.
+/// A worker: what is known of it, and its process, where it is started on demand.
 #[derive(Drop)]
 pub struct WorkerEntry {
-    post: WorkerState,
-    starter: Option<Starter>,
+    state: WorkerState,
+    process: Option<WorkerProcess>,
 }
 
 impl WorkerEntry {
@@ -25,71 +26,71 @@ impl WorkerEntry {
     ) -> Result<WorkerEntry, AllocError> {
         let Some(words) = &worker.latent else {
             return Ok(WorkerEntry {
-                post: WorkerState::plain(),
-                starter: None,
+                state: WorkerState::plain(),
+                process: None,
             });
         };
         let words = Words::from_vec(place_master(alloc, words.as_slice(), master)?);
         Ok(WorkerEntry {
-            post: WorkerState::latent(worker.idle_ticks.max(1)),
-            starter: Some(Starter::new(words)),
+            state: WorkerState::latent(worker.idle_ticks.max(1)),
+            process: Some(WorkerProcess::new(words)),
         })
     }
 
     /// Whether ticks are to be told.
     pub fn is_timed(&self) -> bool {
-        self.post.is_timed() || self.is_running()
+        self.state.is_timed() || self.is_running()
     }
 
     /// Starts its process.
     ///
     /// # Errors
     ///
-    /// Those of [`Starter::start`].
+    /// Those of [`WorkerProcess::start`].
     pub fn start<R: Processes<Started = SystemProcess>>(
         &mut self,
         rt: &R,
         alloc: Global,
     ) -> Result<(), ProgramRefusal> {
-        match &mut self.starter {
-            Some(starter) => starter.start(rt, alloc),
+        match &mut self.process {
+            Some(process) => process.start(rt, alloc),
             None => Err(ProgramRefusal::NotFound),
         }
     }
 
     /// Whether a process was started whose end was not seen.
     pub fn is_running(&self) -> bool {
-        match &self.starter {
-            Some(starter) => starter.is_running(),
+        match &self.process {
+            Some(process) => process.is_running(),
             None => false,
         }
     }
 
     /// Whether its process has ended, told once.
     pub fn has_ended(&mut self) -> bool {
-        match &mut self.starter {
-            Some(starter) => starter.has_ended(),
+        match &mut self.process {
+            Some(process) => process.has_ended(),
             None => false,
         }
     }
 
     /// Its process is to end: it has some time for that before it is asked to, and then killed.
     pub fn must_end(&mut self) {
-        if let Some(starter) = &mut self.starter {
-            starter.must_end();
+        if let Some(process) = &mut self.process {
+            process.must_end();
         }
     }
 
     /// A build waits for it, or none does: a process that hasn't logged in goes on, or is to end.
     pub fn is_wanted(&mut self, is_wanted: bool) {
-        let is_starting = self.post.is_needless(false);
-        if let Some(starter) = &mut self.starter
+        let is_starting = self.state.is_needless(false);
+        if let Some(process) = &mut self.process
             && is_starting
         {
             if is_wanted {
-                starter.may_go_on();
+                process.may_go_on();
             } else {
-                starter.must_end();
+                process.must_end();
             }
         }
     }
@@ -97,40 +98,50 @@ impl WorkerEntry {
     /// Something happened to it. Answers what is to be done. The builds that wait aren't given up
     /// where the master itself had its process ended.
     pub fn hear(&mut self, event: WorkerEvent) -> WorkerAction {
-        let mut duty = self.post.hear(event);
-        if let Some(starter) = &self.starter
+        let mut action = self.state.hear(event);
+        if let Some(process) = &self.process
             && event == WorkerEvent::Stopped
-            && starter.is_asked()
+            && process.is_asked()
         {
-            duty.gives_up = false;
+            action.gives_up = false;
         }
-        duty
+        action
     }
 
     /// A tick has passed.
     pub fn tick<R: Processes<Started = SystemProcess>>(&mut self, rt: &R, alloc: Global) {
-        if let Some(starter) = &mut self.starter {
-            starter.tick(rt, alloc);
+        if let Some(process) = &mut self.process {
+            process.tick(rt, alloc);
         }
     }
 
     /// Ends a process that is still there.
     pub fn kill(&mut self) {
-        if let Some(starter) = &mut self.starter {
-            starter.kill();
+        if let Some(process) = &mut self.process {
+            process.kill();
         }
     }
 }
 
-/// The workers, in their order.
-pub fn seats_of(
+/// The workers of a configuration, in their order. Their programs are told the configuration's
+/// address, or else `at`.
+///
+/// # Errors
+///
+/// Memory is wanting.
+pub fn entries_of(
     alloc: Global,
-    workers: &[WorkerConfig],
-    master: &str,
+    config: &Config,
+    at: SocketAddr,
 ) -> Result<Vec<WorkerEntry>, AllocError> {
-    let mut seats = Vec::new(alloc);
-    for worker in workers {
-        seats.push(WorkerEntry::new(alloc, worker, master)?)?;
+    let bound = format!(in alloc; "{at}")?;
+    let master = match &config.address {
+        Some(address) => address.as_str(),
+        None => bound.as_str(),
+    };
+    let mut entries = Vec::new(alloc);
+    for worker in config.workers.as_slice() {
+        entries.push(WorkerEntry::new(alloc, worker, master)?)?;
     }
-    Ok(seats)
+    Ok(entries)
 }

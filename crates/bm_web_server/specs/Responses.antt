@@ -1,11 +1,11 @@
 -- The replies that responses are.
-use Rattle.std.specs.Prelude.{ℕ, List, [], Option, Some, None}
+use Rattle.std.specs.Prelude.{◌≡◌, ◌⊎◌, ℕ, List, [], Option, Some, None}
 use Rattle.http.specs.declared.response.Response.{Response}
 use Rattle.http.specs.Response.{head_of, body_of}
 use Rattle.http_uri.specs.declared.uri.Uri.{Uri}
 use Rattle.http_uri.specs.Uri.{uri_path_and_query}
 use Rattle.http_uri.specs.Grammar.{or_slash}
-use Rattle.bm_http.specs.Replies.{Reply}
+use Rattle.bm_http.specs.Replies.{Reply, unavailable}
 use Rattle.bm_http.specs.LongAnswers.{held}
 use Rattle.bm_web_server.specs.declared.page_body.PageBody.{PageBody}
 use Rattle.bm_web_server.specs.declared.page_body.PageBody.TheVariants.{Whole, Long}
@@ -29,6 +29,14 @@ module _ {R S T E : Type 0} where
 
   abbrev pub seen_in : Response (PageBody R S T E) → Option E
   seen_in response = seen_of (body_of response)
+
+module _ {R S T E : Type 0} (text : T → List ℕ) (gives : Option E → Reply → Type 0) where
+  -- the response is a reply that was given, and keeps what that was made of; or it is 503
+  abbrev pub Responds : Response (PageBody R S T E) → Type 0
+  Responds response =
+      (seen : Option E) × (reply : Reply) × gives seen reply
+      × (((replied text response ≡ reply) × (seen_in response ≡ seen))
+      ⊎ (replied text response ≡ unavailable))
 
 -- the path and the query of a URI; nothing where it has none
 abbrev pub path_text : Option (List ℕ) → List ℕ

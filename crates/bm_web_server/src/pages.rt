@@ -6,7 +6,7 @@ ghost use Rattle.bm_http.specs.Replies.{page};
 ghost use Rattle.bm_http.specs.Replies.{unavailable as unavailable_reply};
 ghost use Rattle.bm_http.specs.Shown.{reply_of};
 ghost use Rattle.bm_http.specs.LongAnswers.{held};
-ghost use Rattle.bm_web_server.specs.Responses.{body_text, replied, seen_in, seen_of, target_of};
+ghost use Rattle.bm_web_server.specs.Responses.{Responds, body_text, replied, seen_in, seen_of, target_of};
 
 use crate::handler::{Handler, Served};
 use crate::page_body::{PageBody, Unsent};
@@ -33,9 +33,7 @@ pub struct Pages<R, S> {
 impl<R: Wait + Copy, S: Handler> Pages<R, S> {
     // The response to a request.
     fn page(&self, method: &str, target: &str) -> Response<PageBody<R, S>>
-        ensures { (replied S.text result ≡ unavailable_reply)
-            ⊎ S.gives (arc_value self.now.service) method.now target.now (seen_in result)
-            (replied S.text result) }
+        ensures { Responds S.text (S.gives (arc_value self.now.service) method.now target.now) result }
     {
         let Served { reply, seen } = self.service.answer(&self.rt, self.alloc, method, target);
         match reply {
@@ -55,9 +53,8 @@ impl<R: Wait + Copy, S: Handler, I: Drop> Service<Request<Incoming<I>>> for Page
     // The response is a reply that the service gives to a request with this method and target, made
     // of what the response keeps.
     ghost calls = { λ p req future. IsSomeAnd future.0 (λ given. IsOkAnd given (λ response.
-        (replied S.text response ≡ unavailable_reply)
-        ⊎ S.gives (arc_value p.service) (request.head_of req).method
-        (target_of (request.head_of req).uri) (seen_in response) (replied S.text response))) };
+        Responds S.text (S.gives (arc_value p.service) (request.head_of req).method
+        (target_of (request.head_of req).uri)) response)) };
 
     fn call(&self, req: Request<Incoming<I>>) -> Self::Future {
         let method = req.method().as_str();

@@ -1,7 +1,12 @@
-//! Tests of `bm_session`: what no clause says.
+//! Tests of a lane, from its session to its ends, each library in a module of its own: what no clause
+//! says.
 #![tactic(auto)]
 
 #[cfg(test)]
-mod table;
+mod lane;
 #[cfg(test)]
-mod tests;
+mod session;
+#[cfg(test)]
+mod store;
+#[cfg(test)]
+mod world;

@@ -1,22 +1,22 @@
 //! A worker and its master, each over what the other wrote.
 
 use super::calls::{Answer, Call, HEARD, NOTED, PLAIN};
-use super::desk::{Row, plays};
-use super::worker::ViewerPool;
+use super::linked_lane::{Row, plays};
+use super::worker::LinkedWorker;
 use super::{ANSWER, ORDER, Script, TRUE};
 use std::alloc::Global;
 
 /// What a worker writes whose master orders a command: it logs in, answers, and says a line.
 fn worker_says(alloc: Global) -> Option<Vec<u8>> {
-    match ViewerPool::new(alloc, &[TRUE, ORDER]) {
-        Ok(mut bench) => said(&mut bench),
+    match LinkedWorker::new(alloc, &[TRUE, ORDER]) {
+        Ok(mut linked) => said(&mut linked),
         Err(_) => None,
     }
 }
 
-fn said(bench: &mut ViewerPool) -> Option<Vec<u8>> {
-    if bench.runs() && bench.says() {
-        bench.output().ok()
+fn said(linked: &mut LinkedWorker) -> Option<Vec<u8>> {
+    if linked.runs() && linked.says() {
+        linked.output().ok()
     } else {
         None
     }

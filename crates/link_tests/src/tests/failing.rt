@@ -2,7 +2,7 @@
 //! refused request for memory.
 
 use super::calls::{Answer, CLOSED, Call, DROPPED, HEARD, PLAIN};
-use super::desk::{LaneState, Outcome, Trial, is_down, tried};
+use super::linked_lane::{LinkedLane, Outcome, Trial, is_down, tried};
 use super::links::Links;
 use super::watch::{End, Step, Watch};
 use super::{ANSWER, AUTH, HEAD, ORDER, TEXT, TRUE, UPDATE};
@@ -82,7 +82,7 @@ impl Links {
     }
 }
 
-impl<Y: Yard, W: Wait + Drop> LaneState<Y, W> {
+impl<Y: Yard, W: Wait + Drop> LinkedLane<Y, W> {
     /// What is seen where the stream comes to this end. However it ends, no bytes are written but a
     /// beginning of those that its calls write over a good stream.
     pub fn ends<R: Wait>(&mut self, rt: &R, end: End) -> Option<Watch> {

@@ -2,7 +2,7 @@
 
 use super::AUTH;
 use super::calls::{Answer, BAD, Call, PLAIN};
-use super::desk::{Row, plays};
+use super::linked_lane::{Row, plays};
 use bm_link::*;
 
 /// A handshake that comes in pieces is heard; one that trickles in is taken for an attack.

@@ -6,8 +6,8 @@
 //! message is a bad one, after which the lane is down and its log is as it was.
 
 use super::calls::{Answer, BAD, Call, HEARD, NOTED};
-use super::desk::{LaneState, Outcome, Trial, tried};
 use super::lengths::binary;
+use super::linked_lane::{LinkedLane, Outcome, Trial, tried};
 use super::links::Links;
 use super::{AUTH, COMPLETE_THREE, DONE, ORDER, TRUE, UPDATE};
 use bm_lane::{ReaderEnd, Yard};
@@ -147,7 +147,7 @@ impl Links {
     }
 }
 
-impl<Y: Yard, W: Wait + Drop> LaneState<Y, W> {
+impl<Y: Yard, W: Wait + Drop> LinkedLane<Y, W> {
     /// What comes of the message with these bytes.
     pub fn comes<R: Wait>(&mut self, rt: &R, alloc: Global, bytes: &[u8]) -> Came {
         let Some(answer) = self.links.heard(rt, alloc, &mut self.ends.reader, bytes) else {

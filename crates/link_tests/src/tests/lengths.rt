@@ -1,7 +1,7 @@
 //! Messages of each form of length, and of the most bytes that one may have.
 
 use super::calls::{Answer, BAD, DROPPED, HEARD};
-use super::desk::{Row, plays};
+use super::linked_lane::{Row, plays};
 use std::alloc::{AllocError, Global};
 
 /// A long message of a worker.

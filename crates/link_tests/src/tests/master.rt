@@ -1,7 +1,7 @@
 //! A master's link over memory.
 
 use super::calls::{Answer, BAD, CLOSED, Call, DROPPED, HEARD, PLAIN, WAITS};
-use super::desk::{Row, plays};
+use super::linked_lane::{Row, plays};
 use super::{
     ANSWER, AUTH, BAD_LOGIN, FULL, KEEPALIVE_ONE, KEEPALIVE_ZERO, ORDER, PING, STOP, TEXT, TRUE,
     UPDATE,

@@ -1,7 +1,7 @@
 //! Sessions that are cut and resumed, over memory.
 
 use super::calls::{Answer, BAD, CLOSED, Call, PLAIN};
-use super::desk::{Row, plays};
+use super::linked_lane::{Row, plays};
 use super::{
     ALREADY_UP, AUTH, AUTH_S, AUTH_T, BUSY, KEEPALIVE_ONE, KEEPALIVE_ZERO, NEW, ORDER, RESUMED,
     TRUE,

@@ -31,7 +31,7 @@ type Link = WorkerLink<Script, RandomKeys<Zeros>>;
 
 /// A worker, its link, and the arena of its messages.
 #[derive(Drop)]
-pub(crate) struct ViewerPool {
+pub(crate) struct LinkedWorker {
     alloc: Global,
     link: Link,
     attached: Attached,
@@ -39,24 +39,32 @@ pub(crate) struct ViewerPool {
     core: Worker,
 }
 
-impl ViewerPool {
+impl LinkedWorker {
     /// A worker that names no session, whose link reads these messages after the handshake.
-    pub fn new(alloc: Global, messages: &[&[u8]]) -> Result<ViewerPool, LinkFault> {
-        ViewerPool::named(alloc, None, messages)
+    pub fn new(alloc: Global, messages: &[&[u8]]) -> Result<LinkedWorker, LinkFault> {
+        LinkedWorker::named(alloc, None, messages)
     }
 
     /// A worker that names this session, whose link reads these messages after the handshake.
-    fn named(alloc: Global, session: Option<&str>, messages: &[&[u8]]) -> Result<ViewerPool, LinkFault> {
+    fn named(
+        alloc: Global,
+        session: Option<&str>,
+        messages: &[&[u8]],
+    ) -> Result<LinkedWorker, LinkFault> {
         match script_of(alloc, AGREED, messages) {
-            Ok(stream) => ViewerPool::over(alloc, session, stream),
+            Ok(stream) => LinkedWorker::over(alloc, session, stream),
             Err(_) => Err(LinkFault::Mem),
         }
     }
 
     /// A worker that names this session, whose link is one over this stream.
-    fn over(alloc: Global, session: Option<&str>, stream: Script) -> Result<ViewerPool, LinkFault> {
+    fn over(
+        alloc: Global,
+        session: Option<&str>,
+        stream: Script,
+    ) -> Result<LinkedWorker, LinkFault> {
         match WorkerLink::connect(alloc, Zeros {}, stream, "w0", "p", session) {
-            Ok((link, attached)) => Ok(ViewerPool {
+            Ok((link, attached)) => Ok(LinkedWorker {
                 alloc,
                 link,
                 attached,
@@ -111,7 +119,7 @@ impl ViewerPool {
 
 /// How a worker is refused that is answered so.
 fn refusal(alloc: Global, messages: &[&[u8]]) -> Option<LinkFault> {
-    match ViewerPool::new(alloc, messages) {
+    match LinkedWorker::new(alloc, messages) {
         Ok(_) => None,
         Err(fault) => Some(fault),
     }
@@ -134,13 +142,13 @@ fn answers_to_a_login(rt: HostRuntime) {
 /// Whether a worker that runs an order ends where these messages come last, and was told a close
 /// frame or not.
 fn is_closed_by(alloc: Global, last: &[u8], closed: bool) -> bool {
-    match ViewerPool::new(alloc, &[TRUE, ORDER, last]) {
-        Ok(mut bench) => bench.ends_as(closed),
+    match LinkedWorker::new(alloc, &[TRUE, ORDER, last]) {
+        Ok(mut linked) => linked.ends_as(closed),
         Err(_) => false,
     }
 }
 
-impl ViewerPool {
+impl LinkedWorker {
     fn ends_as(&mut self, closed: bool) -> bool {
         self.is_plain()
             && self.runs()
@@ -164,8 +172,8 @@ fn a_close_frame_is_told(rt: HostRuntime) {
 
 /// Whether this is what the turn gives that reads these frames.
 fn is_given(alloc: Global, frames: &[u8], gives: Answer) -> bool {
-    match ViewerPool::new(alloc, &[TRUE, frames]) {
-        Ok(mut bench) => bench.turns() == gives,
+    match LinkedWorker::new(alloc, &[TRUE, frames]) {
+        Ok(mut linked) => linked.turns() == gives,
         Err(_) => false,
     }
 }
@@ -200,8 +208,8 @@ fn frames_give_a_worker_their_turns(rt: HostRuntime) {
 
 /// Whether a worker that names the session `s`, and is answered so, logs in as that tells.
 fn is_attached_by(alloc: Global, answer: &[u8], attached: Attached) -> bool {
-    match ViewerPool::named(alloc, Some("s"), &[answer]) {
-        Ok(bench) => bench.wrote(AUTH_S) && bench.attached == attached,
+    match LinkedWorker::named(alloc, Some("s"), &[answer]) {
+        Ok(linked) => linked.wrote(AUTH_S) && linked.attached == attached,
         Err(_) => false,
     }
 }

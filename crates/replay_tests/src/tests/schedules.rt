@@ -6,12 +6,20 @@ ghost use Rattle.std.specs.Prelude.{◌≤◌};
 
 mod choices;
 mod command;
+mod comparing;
+mod connecting;
 mod counts;
 mod lane;
 mod ledger;
+mod ledger_comparing;
+mod ledger_obeying;
+mod master_hearing;
 mod moods;
+mod ordering;
+mod saying;
 mod schedule;
 mod wire;
+mod worker_hearing;
 mod wrong;
 
 use counts::{Counts, Kind};

@@ -11,7 +11,7 @@ use super::super::{
     COMPLETE_THREE, DONE, NEW, ORDER, REQUESTS, RESUMED, Script, TRUE, UPDATE, UPDATE_ONE, joined,
     pieces_from, push_all, script_of,
 };
-use super::{ViewerPool, Zeros};
+use super::{LinkedWorker, Zeros};
 use bm_lines::Letter;
 use bm_link::*;
 use bm_value::Bytes;
@@ -115,7 +115,7 @@ static LOGINS: [Login; 2] = [
     },
 ];
 
-impl ViewerPool {
+impl LinkedWorker {
     fn sends(&mut self, sent: &Sent) -> Answer {
         match self.link.send(self.alloc, sent) {
             Ok(()) => Answer::Done,
@@ -332,8 +332,8 @@ fn said_from(alloc: Global, first: usize) -> Result<Vec<u8>, AllocError> {
 }
 
 fn seen_over(alloc: Global, login: &Login, end: End, stream: Script) -> Watch {
-    match ViewerPool::over(alloc, login.session, stream) {
-        Ok(mut bench) => bench.watched(login, end),
+    match LinkedWorker::over(alloc, login.session, stream) {
+        Ok(mut linked) => linked.watched(login, end),
         Err(fault) => {
             let mut watch = Watch::of(end);
             watch.see(login.step(), Answer::Fault(fault), true);

@@ -4,16 +4,15 @@ use super::command::{Command, End, Words};
 use super::counts::Kind;
 use super::wrong::{Wrong, holds};
 use bm_lines::Letter;
-use bm_session::{Refusal, Reply, Session, Verdict};
-use bm_store::Chunk;
-use bm_work::{Sent, WorkAct, WorkRefusal};
+use bm_session::{Refusal, Reply, Verdict};
+use bm_work::{Sent, WorkRefusal};
 use std::alloc::{AllocError, Global};
 
 /// The most requests of a worker without an answer.
 const WINDOW: usize = 64;
 
 /// The most commands that are open, or run.
-const COMMANDS: usize = 4;
+pub const COMMANDS: usize = 4;
 
 /// What a request of the worker tells.
 #[derive(Clone, Copy)]
@@ -28,27 +27,28 @@ pub enum Report {
 #[derive(Drop)]
 pub struct Said {
     pub bytes: Vec<u8>,
-    command: usize,
-    report: Report,
+    pub command: usize,
+    pub report: Report,
     /// Whether the worker heard its answer.
-    answered: bool,
+    pub answered: bool,
 }
 
 /// An order that the master gave.
 #[derive(Drop)]
 pub struct Order {
     pub bytes: Vec<u8>,
-    command: usize,
-    starts: bool,
+    pub command: usize,
+    pub starts: bool,
     /// What the worker answered first.
-    response: Option<Vec<u8>>,
+    pub response: Option<Vec<u8>>,
     /// Whether the master heard an answer.
     pub answered: bool,
 }
 
+/// What was said, ordered and heard.
 #[derive(Drop)]
 pub struct Ledger {
-    alloc: Global,
+    pub alloc: Global,
     pub commands: Vec<Command>,
     /// The first command of the session.
     pub first: usize,
@@ -234,70 +234,6 @@ impl Ledger {
 
     // The worker's end.
 
-    /// An order was heard, with this act and this response. One that comes once more leads to
-    /// nothing and has the first one's response.
-    pub fn obey(
-        &mut self,
-        number: u64,
-        act: &WorkAct,
-        bytes: &[u8],
-    ) -> Result<Option<Kind>, Wrong> {
-        let Some(order) = self.orders.get_mut(number as usize) else {
-            return Err(Wrong::Differs("an order is heard that wasn't given"));
-        };
-        if let Some(first) = &order.response {
-            return is_repeated(first.as_slice(), act, bytes);
-        }
-        let (place, starts) = (order.command, order.starts);
-        order.response = match Vec::from_slice(self.alloc, bytes) {
-            Ok(response) => Some(response),
-            Err(_) => return Err(Wrong::OutOfMemory),
-        };
-        if starts {
-            self.run(place, act)
-        } else {
-            self.interrupt(place, act)
-        }
-    }
-
-    /// A command is to run, or the worker refuses to start it.
-    fn run(&mut self, place: usize, act: &WorkAct) -> Result<Option<Kind>, Wrong> {
-        let running = self.running();
-        let Some(command) = self.commands.get_mut(place) else {
-            return Err(Wrong::Differs("a command is started that isn't there"));
-        };
-        let place = place as u64;
-        if command.words.can_run() && running < COMMANDS && !command.runs {
-            command.run(self.alloc, place, act)
-        } else {
-            command.refuse(act)
-        }
-    }
-
-    fn interrupt(&self, place: usize, act: &WorkAct) -> Result<Option<Kind>, Wrong> {
-        match act {
-            WorkAct::Interrupt(command) if self.runs(place) && *command == place as u64 => {
-                Ok(Some(Kind::Interrupt))
-            }
-            WorkAct::Nothing if !self.runs(place) => Ok(None),
-            _ => Err(Wrong::Differs("an interrupt is obeyed otherwise")),
-        }
-    }
-
-    /// The first answer to a request frees its place.
-    pub fn note_answer(&mut self, number: u64, act: &WorkAct) -> Result<(), Wrong> {
-        let Some(said) = self.requests.get_mut(number as usize) else {
-            return Err(Wrong::Differs("a request is answered that wasn't said"));
-        };
-        let as_it_was = match act {
-            WorkAct::Answered(seq) => *seq == number && !said.answered,
-            WorkAct::Nothing => said.answered,
-            _ => false,
-        };
-        said.answered = true;
-        holds(as_it_was, "an answer is noted otherwise")
-    }
-
     pub fn runs(&self, place: usize) -> bool {
         match self.commands.get(place) {
             Some(command) => command.runs,
@@ -424,89 +360,9 @@ impl Ledger {
             _ => Ok(None),
         }
     }
-
-    // What is compared.
-
-    /// The log is what was said for the command as far as it was taken, there is none of another
-    /// name, and the command ended as the master heard.
-    pub fn compare(&self, session: &Session, place: usize) -> Result<(), Wrong> {
-        let Some(command) = self.commands.get(place) else {
-            return Ok(());
-        };
-        self.compare_log(session, place, command)?;
-        if !self.is_no_log(session, place, "stderr")? {
-            return Err(Wrong::Differs("there is a log of another name"));
-        }
-        let outcome = session.outcome(place as u64);
-        holds(outcome == command.outcome(), "a command ended otherwise")
-    }
-
-    fn compare_log(&self, session: &Session, place: usize, command: &Command) -> Result<(), Wrong> {
-        match session.log(self.alloc, place as u64, "stdio") {
-            Ok(Some(log)) => command.has_log(log.len(), log.content()),
-            Ok(None) => Err(Wrong::Differs("a log isn't there")),
-            Err(_) => Err(Wrong::OutOfMemory),
-        }
-    }
-
-    fn is_no_log(&self, session: &Session, place: usize, name: &str) -> Result<bool, Wrong> {
-        match session.log(self.alloc, place as u64, name) {
-            Ok(log) => Ok(log.is_none()),
-            Err(_) => Err(Wrong::OutOfMemory),
-        }
-    }
-
-    /// The log is all that was said for the command. Answers whether that has lines.
-    pub fn compare_whole(&self, session: &Session, place: usize) -> Result<bool, Wrong> {
-        let Some(command) = self.commands.get(place) else {
-            return Err(Wrong::Differs("a log is of no command"));
-        };
-        match session.log(self.alloc, place as u64, "stdio") {
-            Ok(Some(log)) => command.has_whole_log(log.len(), log.content()),
-            Ok(None) => Err(Wrong::Differs("a log isn't there")),
-            Err(_) => Err(Wrong::OutOfMemory),
-        }
-    }
-
-    /// What viewers see of the command's log, if there is one, is a front of it.
-    pub fn compare_seen(&mut self, place: usize, seen: Option<&Chunk>) -> Result<(), Wrong> {
-        match (seen, self.commands.get_mut(place)) {
-            (Some(chunk), Some(command)) => command.shows(chunk),
-            (None, Some(command)) => holds(command.seen.is_none(), "a log that was seen is gone"),
-            _ => Err(Wrong::Differs("a log is seen of no command")),
-        }
-    }
-
-    /// A part of the command's log is seen, of which so many lines are visible, or neither is.
-    pub fn compare_part(
-        &self,
-        place: usize,
-        part: Option<&Chunk>,
-        (offset, limit): (u64, u64),
-        visible: Option<u64>,
-    ) -> Result<(), Wrong> {
-        match (part, visible, self.commands.get(place)) {
-            (None, None, _) => Ok(()),
-            (Some(part), Some(visible), Some(command)) => {
-                command.shows_part(part, offset, limit, visible)
-            }
-            _ => Err(Wrong::Differs("a log is seen that isn't there")),
-        }
-    }
 }
 
 /// Whether the request that is sent has this number and these bytes.
 fn is_sent(sent: &Sent, number: u64, bytes: &[u8]) -> bool {
     sent.seq == number && sent.bytes.as_slice() == bytes
-}
-
-/// An order that comes once more leads to nothing and has the first one's response.
-fn is_repeated(first: &[u8], act: &WorkAct, bytes: &[u8]) -> Result<Option<Kind>, Wrong> {
-    if !matches!(act, WorkAct::Nothing) {
-        Err(Wrong::Differs("an order is obeyed twice"))
-    } else if first != bytes {
-        Err(Wrong::Differs("an order is answered otherwise"))
-    } else {
-        Ok(Some(Kind::RepeatedOrder))
-    }
 }

@@ -1,6 +1,6 @@
 use Rattle.std.proofs.Common.{rules, ◌∙◌, ap, length, arith}
-use Rattle.bm_build_queue.specs.BuildQueue.{Rostered}
-use Rattle.bm_build_queue.proofs.Benching.{over}
+use Rattle.bm_build_queue.specs.BuildQueue.{QueueState}
+use Rattle.bm_build_queue.proofs.Pools.{over}
 use Rattle.bm_build_queue.proofs.Below.{below_more}
 use Rattle.bm_build_queue.proofs.build_queue.BuildQueue.is_over.Goals as goal
 
@@ -9,5 +9,5 @@ loop-number-preserved g c = below_more _ c.loop-number.number c.loop-number.inva
 
 pub returns-clause-over : goal.returns-clause-over
 returns-clause-over g c =
-    let all = c.builds-number-end.ensures ∙ ap (λ (r : Rostered). length r.board.jobs) c.self.view_is in
+    let all = c.builds-number-end.ensures ∙ ap (λ (q : QueueState). length q.board.jobs) c.self.view_is in
     λ _. over c.args.self.now.board c.loop-number.number (omega (arith, all, c.loop-number-test.false)) c.loop-number.invariant

@@ -4,6 +4,6 @@ use Rattle.bm_build_queue.proofs.build_queue.BuildQueue.next.Given as goal
 
 abbrev pub invariant-loop-number : goal.invariant-loop-number
 invariant-loop-number g l =
-    (l.self.board ≡ l.fn.self.board) × (l.self.benches ≡ l.fn.self.benches)
+    (l.self.board ≡ l.fn.self.board) × (l.self.pools ≡ l.fn.self.pools)
     × (l.self.is_short ≡ true → CanStart l.fn.self.board)
     × ((k : ℕ) → k < l.number → can_start l.fn.self k ≡ true → l.self.is_short ≡ true)

@@ -1,7 +1,0 @@
-use Rattle.std.proofs.Common.{◌∙◌, ap}
-use Rattle.std.proofs.lemmas.List.{take_all}
-use Rattle.bm_lanes.specs.ConfigLists.{viewer_counts}
-use Rattle.bm_lanes.proofs.opening.open_all.Goals as goal
-
-pub returns-clause-viewers : goal.returns-clause-viewers
-returns-clause-viewers g c = c.loop-worker.invariant.viewers ∙ ap viewer_counts (take_all c.loop-worker.worker-index c.args.workers.now c.loop-worker-test.false)

@@ -1,9 +1,0 @@
-use Rattle.std.proofs.Common.{◌≡◌, All, map, take}
-use Rattle.bm_lanes.specs.ConfigLists.{viewer_counts}
-use Rattle.bm_lanes.proofs.opening.open_all.Given as goal
-
-abbrev pub invariant-loop-worker : goal.invariant-loop-worker
-invariant-loop-worker g l = record {
-  capacity : All (λ b. b.capacity ≡ l.capacity) l.blanks.items;
-  viewers : map (λ b. b.viewers) l.blanks.items ≡ viewer_counts (take l.worker-index l.workers);
-}

@@ -1,0 +1,203 @@
+//! The thread of a build.
+ghost use Rattle.std.specs.Prelude.{◌≡◌};
+
+use crate::events::{EventSender, FinishedBuild, MasterEvent, ReportedStep};
+use crate::shared_state::{SharedState, WorkerConnection};
+use bm_board::{Build, StepPlan};
+use bm_build_queue::Assignment;
+use bm_lane::{Viewer, Yard};
+use bm_lane_actor::{LaneHandle, LanePort, Watch, handle_of};
+use bm_lines::Text;
+use bm_operator::{StartRefusal, StepEvent, StepLimit};
+use bm_runner::run_build;
+use bm_session::Results;
+use crossbeam_channel::bounded;
+use std::alloc::Global;
+use std::sync::Wait;
+use std::sync::atomic::{AtomicBool, Ordering};
+use std::thread::{Scope, Threads};
+use std::time::Clock;
+
+/// How often a command is asked for its end before it is interrupted.
+const TURNS: u64 = 1 << 32;
+
+/// What the thread of a build owns: the build's number, and by what its worker's lane is seen and
+/// reached.
+#[derive(Drop)]
+struct BuildTask<Y: Yard, R: Wait + Clock + Drop> {
+    number: u64,
+    viewer: Viewer<Y>,
+    lane: LaneHandle<WorkerConnection<R>>,
+    ghost fits: { viewer.lane ≡ lane },
+}
+
+/// Tells the coordinator of a build's steps.
+#[derive(Drop)]
+struct StepReporter<'s, Y: Yard, R: Wait + Clock> {
+    rt: &'s R,
+    events: EventSender<Y>,
+    build: u64,
+    name: Option<Text>,
+    /// Whether its command has reached a limit.
+    is_stopped: bool,
+    cancelled: &'s AtomicBool,
+}
+
+impl<'s, Y: Yard, R: Wait + Clock> StepReporter<'s, Y, R> {
+    // Tells what happened to the step.
+    fn tell(&self, event: StepEvent, said: Option<Text>) {
+        let name = match &self.name {
+            Some(name) => name.copy().ok(),
+            None => None,
+        };
+        self.events.tell(
+            self.rt,
+            MasterEvent::Step(ReportedStep {
+                build: self.build,
+                name,
+                said,
+                event,
+            }),
+        );
+    }
+}
+
+impl<'s, Y: Yard, R: Wait + Clock> Watch for StepReporter<'s, Y, R> {
+    fn started(&mut self, step: &StepPlan, command: u64) {
+        self.name = step.name.copy().ok();
+        self.is_stopped = false;
+        self.tell(StepEvent::Started(command), None);
+    }
+
+    fn stopped(&mut self, command: u64, limit: StepLimit) {
+        self.is_stopped = true;
+        self.tell(StepEvent::Stopped(command, limit), None);
+    }
+
+    fn refused(&mut self, step: &StepPlan, why: StartRefusal) {
+        if why == StartRefusal::Cancelled {
+            self.cancelled.store(false, Ordering::SeqCst);
+        }
+        self.name = step.name.copy().ok();
+        self.tell(StepEvent::Refused(why), None);
+    }
+
+    // A cancel ends one step: those that always run are run after it.
+    fn ended(&mut self, command: u64, outcome: Results, said: Option<Text>) {
+        if outcome == Results::Cancelled {
+            self.cancelled.store(false, Ordering::SeqCst);
+        }
+        if outcome == Results::Exception && !self.is_stopped {
+            self.tell(StepEvent::Failed(command), said);
+        }
+        self.tell(StepEvent::Ended(command, outcome), None);
+    }
+}
+
+// Runs a build to its end, and hands back what came of it.
+fn run<Y, R>(
+    rt: &R,
+    alloc: Global,
+    build: &Build,
+    task: BuildTask<Y, R>,
+    cancelled: &AtomicBool,
+    events: EventSender<Y>,
+    steps: EventSender<Y>,
+)
+where
+    Y: Yard,
+    R: Wait + Clock + Drop,
+{
+    let BuildTask {
+        number,
+        viewer,
+        lane,
+    } = task;
+    let reporter = StepReporter {
+        rt,
+        events: steps,
+        build: number,
+        name: None,
+        is_stopped: false,
+        cancelled,
+    };
+    let mut port = LanePort::over(rt, alloc, viewer, lane, cancelled, reporter);
+    let result = match run_build(alloc, build, &mut port, TURNS) {
+        Ok(report) => Some(report.result),
+        Err(_) => None,
+    };
+    let (viewer, _) = port.into_parts();
+    events.tell(
+        rt,
+        MasterEvent::Ended(FinishedBuild {
+            number,
+            result,
+            viewer,
+        }),
+    );
+}
+
+// The task of an assignment. The assignment comes back where memory is wanting.
+fn task_of<Y: Yard, R: Wait + Clock + Drop>(
+    lanes: &[LaneHandle<WorkerConnection<R>>],
+    assignment: Assignment<Y>,
+) -> Result<BuildTask<Y, R>, Assignment<Y>> {
+    let Some(lane) = handle_of(lanes, assignment.worker) else {
+        return Err(assignment);
+    };
+    let Ok(lane) = lane.copy() else {
+        return Err(assignment);
+    };
+    let Assignment {
+        number,
+        worker: _,
+        viewer,
+    } = assignment;
+    Ok(BuildTask {
+        number,
+        viewer,
+        lane,
+    })
+}
+
+/// Runs an assigned build in a thread of its own, which tells its end. Where no thread can be
+/// started, or memory is wanting, its viewer comes back.
+pub fn start_build<'s, E, Y, R>(
+    scope: &Scope<'s, E>,
+    shared: &'s SharedState<Y, R>,
+    assignment: Assignment<Y>,
+) -> Result<(), Viewer<Y>>
+where
+    Y: Yard + Send + Sync + 's,
+    R: Wait + Clock + Threads + Drop + Send + Sync + 's,
+{
+    let (rt, alloc) = (&shared.rt, shared.alloc);
+    let number = assignment.number as usize;
+    let build = shared.config.builds.as_slice().get(number);
+    let (Some(build), Some(cancelled)) = (build, shared.cancels.get(number)) else {
+        return Err(assignment.viewer);
+    };
+    let (Ok(events), Ok(steps)) = (shared.events.copy(), shared.events.copy()) else {
+        return Err(assignment.viewer);
+    };
+    let Ok((give, take)) = bounded::<BuildTask<Y, R>, Global>(alloc, 1) else {
+        return Err(assignment.viewer);
+    };
+    let task = match task_of(shared.lanes.as_slice(), assignment) {
+        Ok(task) => task,
+        Err(assignment) => return Err(assignment.viewer),
+    };
+    // The task follows the thread, so that it isn't lost where there is none.
+    let thread = scope.spawn(move || {
+        if let Ok(task) = take.recv(rt) {
+            run(rt, alloc, build, task, cancelled, events, steps);
+        }
+    });
+    if thread.is_err() {
+        return Err(task.viewer);
+    }
+    match give.send(rt, task) {
+        Ok(()) => Ok(()),
+        Err(error) => Err(error.into_inner().viewer),
+    }
+}

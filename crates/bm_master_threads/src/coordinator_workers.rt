@@ -1,0 +1,175 @@
+//! What the coordinator does about workers: those that are started on demand, and their processes.
+
+use crate::coordinator::Coordinator;
+use crate::host::MasterHost;
+use bm_lane::Yard;
+use bm_lane_actor::{LaneEvent, LaneSignal, event_of, fills, remark_of};
+use bm_latent::{ProcessAction, TICK_MS, WorkerAction, WorkerEvent};
+use bm_operator::Remark;
+use bm_session::Results;
+use std::io::Write;
+use std::thread;
+use std::time::Duration;
+
+/// How many ticks the processes of workers have to end, once the master ends.
+const LAST_TICKS: u64 = 1_001;
+
+impl<'s, Y, R, O> Coordinator<'s, Y, R, O>
+where
+    Y: Yard + Send + Sync + 's,
+    R: MasterHost + 's,
+    O: Write + Drop,
+{
+    // Something happened to a worker: what follows is done.
+    fn happens(&mut self, at: usize, event: WorkerEvent) {
+        let Some(worker) = self.workers.get_mut(at) else {
+            return;
+        };
+        let action = worker.hear(event);
+        self.act(at, action);
+    }
+
+    // Does what is to be done for a worker.
+    fn act(&mut self, at: usize, action: WorkerAction) {
+        let mut action = action;
+        for _ in 0..2 {
+            self.queue.set_ready(at, action.ready);
+            if action.gives_up {
+                self.is_stale = true;
+                self.give_up(at);
+            }
+            match action.process {
+                ProcessAction::None => return,
+                ProcessAction::Shutdown => return self.dismiss(at),
+                ProcessAction::Start => match self.start_process(at) {
+                    Some(next) => action = next,
+                    None => return,
+                },
+            }
+        }
+    }
+
+    // Each build that waits for the worker is given up.
+    fn give_up(&mut self, at: usize) {
+        for _ in 0..self.queue.builds() {
+            let Some(build) = self.queue.give_up_one(at) else {
+                return;
+            };
+            self.remark(&Remark::BuildEnded {
+                build,
+                result: Results::Retry,
+            });
+        }
+    }
+
+    // Has the worker told to shut down.
+    fn dismiss(&mut self, at: usize) {
+        if let Some(lane) = self.shared.lanes.get(at) {
+            lane.signal(&self.shared.rt, LaneSignal::ShutDown);
+            let name = self.name(at);
+            self.remark(&Remark::Dismissed { worker: name });
+        }
+        if let Some(worker) = self.workers.get_mut(at) {
+            worker.must_end();
+        }
+    }
+
+    // Starts the worker's process, and answers what then is to be done.
+    fn start_process(&mut self, at: usize) -> Option<WorkerAction> {
+        let name = self.name(at);
+        let worker = self.workers.get_mut(at)?;
+        match worker.start(&self.shared.rt, self.shared.alloc) {
+            Ok(()) => {
+                let action = worker.hear(WorkerEvent::Started);
+                self.remark(&Remark::ProgramStarted { worker: name });
+                Some(action)
+            }
+            Err(why) => {
+                let action = worker.hear(WorkerEvent::Failed);
+                self.remark(&Remark::ProgramFailed { worker: name, why });
+                Some(action)
+            }
+        }
+    }
+
+    // The worker's process has ended.
+    fn stopped(&mut self, at: usize) {
+        let name = self.name(at);
+        self.remark(&Remark::ProgramEnded { worker: name });
+        if let Some(lane) = self.shared.lanes.get(at) {
+            lane.signal(&self.shared.rt, LaneSignal::Ended);
+        }
+        self.happens(at, WorkerEvent::Stopped);
+    }
+
+    // A tick has passed for the process of a worker. The answer is whether it has ended.
+    fn tick_process(&mut self, at: usize) -> bool {
+        let is_wanted = self.queue.is_wanted(at);
+        let Some(worker) = self.workers.get_mut(at) else {
+            return false;
+        };
+        worker.is_wanted(is_wanted);
+        worker.tick(&self.shared.rt, self.shared.alloc);
+        worker.has_ended()
+    }
+
+    /// A tick has passed.
+    pub fn tick(&mut self) {
+        for at in 0..self.workers.len() {
+            if self.tick_process(at) {
+                self.stopped(at);
+            }
+            let has_build = self.queue.has_build(at);
+            self.happens(at, WorkerEvent::Tick { has_build });
+        }
+        self.want();
+    }
+
+    /// Tells of each worker for which a build waits.
+    pub fn want(&mut self) {
+        for at in 0..self.workers.len() {
+            if self.queue.is_wanted(at) {
+                self.happens(at, WorkerEvent::Wanted);
+            }
+        }
+    }
+
+    /// The actor of a worker's lane tells what happened to it.
+    pub fn hear_lane(&mut self, at: usize, event: LaneEvent) {
+        let worker = self.name(at);
+        self.remark(&remark_of(event, worker));
+        if let Some(event) = event_of(event) {
+            self.happens(at, event);
+        }
+        if fills(event) {
+            self.happens(at, WorkerEvent::Filled);
+        }
+    }
+
+    /// Has the processes of workers ended, and ends those that don't in time.
+    pub fn end_processes(&mut self) {
+        let shared = self.shared;
+        for at in 0..self.workers.len() {
+            let is_running = match self.workers.get(at) {
+                Some(worker) => worker.is_running(),
+                None => false,
+            };
+            if is_running {
+                self.dismiss(at);
+            }
+        }
+        for _ in 0..LAST_TICKS {
+            if !self.workers.iter().any(|worker| worker.is_running()) {
+                return;
+            }
+            thread::sleep(&shared.rt, Duration::from_millis(TICK_MS));
+            for worker in self.workers.iter_mut() {
+                worker.tick(&shared.rt, shared.alloc);
+                worker.has_ended();
+            }
+        }
+        for worker in self.workers.iter_mut() {
+            worker.kill();
+        }
+    }
+}

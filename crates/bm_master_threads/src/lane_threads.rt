@@ -1,0 +1,151 @@
+//! The threads that serve lanes: their actors, the pool that drains them, and the acceptor of
+//! workers' connections.
+
+use crate::events::{EventSender, MasterEvent};
+use crate::shared_state::{SharedState, WorkerConnection};
+use bm_lane::{Gate, Pass, ReaderEnd, Yard, writers};
+use bm_lane_actor::{EventSink, LaneEvent, LaneSignal, LaneState, Mailbox, serve_lane};
+use std::sync::Wait;
+use std::sync::atomic::Ordering;
+use std::thread::{JoinHandle, Scope, Threads};
+use std::time::Clock;
+
+/// Tells the coordinator what happens to a lane.
+#[derive(Drop)]
+struct LaneReporter<'s, Y: Yard, R: Wait + Clock> {
+    rt: &'s R,
+    events: &'s EventSender<Y>,
+    lane: usize,
+}
+
+impl<'s, Y: Yard, R: Wait + Clock> EventSink for LaneReporter<'s, Y, R> {
+    fn tell(&mut self, event: LaneEvent) {
+        self.events
+            .tell(self.rt, MasterEvent::Lane(self.lane, event));
+    }
+}
+
+// Starts the actor of a lane. None where the mailbox is another lane's, or no thread can be started.
+fn start_actor<'s, E, Y, R>(
+    scope: &Scope<'s, E>,
+    shared: &'s SharedState<Y, R>,
+    lane: usize,
+    state: LaneState<Y, WorkerConnection<R>>,
+    mailbox: Mailbox<WorkerConnection<R>>,
+) -> Option<JoinHandle<ReaderEnd<Y>>>
+where
+    Y: Yard + Send + Sync + 's,
+    R: Wait + Clock + Threads + Drop + Send + Sync + 's,
+{
+    if state.lane() != mailbox.lane() {
+        return None;
+    }
+    let (rt, alloc, gate) = (&shared.rt, shared.alloc, &shared.drain_gate);
+    let events = &shared.events;
+    let reporter = LaneReporter { rt, events, lane };
+    scope
+        .spawn(move || serve_lane(rt, alloc, state, &mailbox, gate, reporter))
+        .ok()
+}
+
+/// Starts the lanes' actors. `actors` has room for so many. The answer is whether all were started.
+pub fn start_actors<'s, E, Y, R>(
+    scope: &Scope<'s, E>,
+    shared: &'s SharedState<Y, R>,
+    states: Vec<LaneState<Y, WorkerConnection<R>>>,
+    mailboxes: Vec<Mailbox<WorkerConnection<R>>>,
+    actors: &mut Vec<JoinHandle<ReaderEnd<Y>>>,
+) -> bool
+where
+    Y: Yard + Send + Sync + 's,
+    R: Wait + Clock + Threads + Drop + Send + Sync + 's,
+{
+    let mut mailboxes = mailboxes.into_iter();
+    for (lane, state) in states.into_iter().enumerate() {
+        let Some(mailbox) = mailboxes.next() else {
+            return false;
+        };
+        let Some(actor) = start_actor(scope, shared, lane, state, mailbox) else {
+            return false;
+        };
+        if actors.push(actor).is_err() {
+            return false;
+        }
+    }
+    true
+}
+
+/// Drains the lanes until the gate says stop. Where the pool's writers can't be started this thread
+/// drains alone, so that no build waits for ever; the answer is then false.
+pub fn drain_lanes<Y, R>(shared: &SharedState<Y, R>) -> bool
+where
+    Y: Yard + Send + Sync,
+    R: Wait + Clock + Threads + Drop + Send + Sync,
+{
+    let (rt, gate, lanes) = (&shared.rt, &shared.drain_gate, shared.writers.as_slice());
+    let threads = shared.config.writers as usize;
+    if writers(rt, shared.alloc, lanes, gate, threads, u64::MAX).is_ok() {
+        return true;
+    }
+    for _ in rt.forever() {
+        for (lane, end) in lanes.iter().enumerate() {
+            match gate.pass(0, lane) {
+                Pass::Go => {
+                    let answer = end.lock(rt).drain();
+                    gate.done(0, lane, answer);
+                }
+                Pass::Skip => {}
+                Pass::Stop => return false,
+            }
+        }
+    }
+    unreachable!()
+}
+
+/// The threads that serve lanes. None stands for one that could not be started.
+#[derive(Drop)]
+pub struct LaneThreads<Y: Yard> {
+    pub pool: Option<JoinHandle<bool>>,
+    pub actors: Vec<JoinHandle<ReaderEnd<Y>>>,
+    pub acceptor: Option<JoinHandle<()>>,
+}
+
+impl<Y: Yard> LaneThreads<Y> {
+    /// Whether the pool and the acceptor were started.
+    pub fn are_started(&self) -> bool {
+        self.pool.is_some() && self.acceptor.is_some()
+    }
+
+    /// Ends all of them: no connection is waited for any more, and the actors end while the pool
+    /// still drains. The lanes' reader's ends come back in `room`, where there is room for them. The
+    /// answer is also whether the pool did its work.
+    pub fn end<R: Wait + Clock + Threads + Drop>(
+        self,
+        shared: &SharedState<Y, R>,
+        room: Vec<ReaderEnd<Y>>,
+    ) -> (Vec<ReaderEnd<Y>>, bool) {
+        let LaneThreads {
+            pool,
+            actors,
+            acceptor,
+        } = self;
+        let rt = &shared.rt;
+        let mut readers = room;
+        shared.is_over.store(true, Ordering::SeqCst);
+        for lane in shared.lanes.iter() {
+            lane.signal(rt, LaneSignal::Leave);
+        }
+        for actor in actors {
+            let _ = readers.push(actor.join(rt));
+        }
+        if let Some(acceptor) = acceptor {
+            acceptor.join(rt);
+        }
+        shared.drain_gate.stop();
+        let is_drained = match pool {
+            Some(pool) => pool.join(rt),
+            None => false,
+        };
+        (readers, is_drained)
+    }
+}

@@ -1,0 +1,125 @@
+//! What a master's threads begin with, made from its configuration.
+
+use crate::coordinator::CoordinatorOwned;
+use crate::events::{EventReceiver, open_events};
+use crate::remarks::Remarks;
+use crate::shared_state::{SharedState, WorkerConnection};
+use crate::threads::ThreadOwned;
+use crate::worker_entry::entries_of;
+use bm_build_queue::{BuildQueue, ViewerPool};
+use bm_config::Config;
+use bm_lane::Yard;
+use bm_lane_actor::{Mailboxes, open_mailboxes};
+use bm_lanes::{DealtLanes, maxima_of, slots_of};
+use std::alloc::Global;
+use std::net::{SocketAddr, TcpListener};
+use std::sync::Wait;
+use std::time::Clock;
+
+/// What a master is given beside its configuration: its sockets, bound, and its streams.
+#[derive(Drop)]
+pub struct MasterStreams<I, O> {
+    /// Where workers connect.
+    pub workers: TcpListener,
+    /// Where logs are served.
+    pub web: TcpListener,
+    pub input: I,
+    pub output: O,
+    /// Where remarks are told, where there is a thread that writes them.
+    pub remarks: Option<Remarks>,
+}
+
+impl<I, O> MasterStreams<I, O> {
+    /// Where it listens, for workers and for the web. From now on nobody waits in an `accept` of
+    /// workers.
+    pub fn listen(&self) -> Option<(SocketAddr, SocketAddr)> {
+        self.workers.set_nonblocking(true).ok()?;
+        let workers = self.workers.local_addr().ok()?;
+        let web = self.web.local_addr().ok()?;
+        Some((workers, web))
+    }
+}
+
+// The queue of a configuration's builds. None where memory is wanting, or the queue refuses a
+// build, which never comes.
+fn queue_of<Y: Yard>(
+    alloc: Global,
+    config: &Config,
+    pools: Vec<ViewerPool<Y>>,
+) -> Option<BuildQueue<Y>> {
+    let slots = slots_of(alloc, config.workers.as_slice())?;
+    let maxima = maxima_of(alloc, config.locks.as_slice())?;
+    let mut queue = BuildQueue::new(alloc, slots.as_slice(), maxima.as_slice(), pools).ok()?;
+    for build in config.builds.as_slice() {
+        queue.add(alloc, build).ok()?;
+    }
+    Some(queue)
+}
+
+// What the coordinator owns at first. `at` is where workers connect. None where memory is wanting.
+fn coordinator_of<Y: Yard, O: Drop>(
+    alloc: Global,
+    config: &Config,
+    at: SocketAddr,
+    pools: Vec<ViewerPool<Y>>,
+    events: EventReceiver<Y>,
+    output: O,
+    remarks: Option<Remarks>,
+) -> Option<CoordinatorOwned<Y, O>> {
+    let entries = entries_of(alloc, config, at).ok();
+    let (queue, workers) = queue_of(alloc, config, pools).zip(entries)?;
+    Some(CoordinatorOwned {
+        events,
+        queue,
+        workers,
+        output,
+        remarks,
+    })
+}
+
+/// What all threads share, and what each of them owns, before the first of them starts. `at` is
+/// where workers connect. None where memory is wanting.
+pub fn prepare<Y, R, I, O>(
+    rt: &R,
+    alloc: Global,
+    config: Config,
+    streams: MasterStreams<I, O>,
+    ends: DealtLanes<Y, R, WorkerConnection<R>>,
+    at: SocketAddr,
+) -> Option<(SharedState<Y, R>, ThreadOwned<Y, R, I, O>)>
+where
+    Y: Yard,
+    R: Wait + Clock + Copy + Drop,
+    I: Drop,
+    O: Drop,
+{
+    let all = open_mailboxes(alloc, ends.states.len()).ok();
+    let (events, all) = open_events(alloc).ok().zip(all)?;
+    let (sender, events) = events;
+    let Mailboxes { handles, mailboxes } = all;
+    let DealtLanes {
+        states,
+        writers,
+        pools,
+        web_viewers,
+    } = ends;
+    let MasterStreams {
+        workers,
+        web,
+        input,
+        output,
+        remarks,
+    } = streams;
+    let coordinator = coordinator_of(alloc, &config, at, pools, events, output, remarks);
+    let shared = SharedState::new(rt, alloc, config, handles, sender, writers, web_viewers);
+    let (shared, coordinator) = shared.zip(coordinator)?;
+    let owned = ThreadOwned {
+        states,
+        mailboxes,
+        workers,
+        web,
+        coordinator,
+        input,
+    };
+    Some((shared, owned))
+}

@@ -1,0 +1,101 @@
+//! What all threads of a master share.
+
+use crate::events::EventSender;
+use crate::web::WebStop;
+use bm_config::Config;
+use bm_lane::{Viewer, WriterEnd, Yard};
+use bm_lane_actor::{DrainGate, LaneHandle, LoginLimit, WorkerStream};
+use bm_lanes::users_of;
+use bm_link::User;
+use bm_web_server::LogService;
+use std::alloc::{AllocError, Global};
+use std::net::TcpStream;
+use std::sync::atomic::AtomicBool;
+use std::sync::{Arc, Mutex, Wait};
+use std::time::Clock;
+
+/// A worker's connection.
+pub type WorkerConnection<R> = WorkerStream<TcpStream, R>;
+
+/// What all threads of a master share. Each list is in the order of the lanes, but for `cancels`.
+#[derive(Drop)]
+pub struct SharedState<Y: Yard, R: Wait + Clock + Drop> {
+    pub rt: R,
+    pub alloc: Global,
+    pub config: Config,
+    /// For each build, whether its step is to be cancelled.
+    pub cancels: Vec<AtomicBool>,
+    /// Who may log in.
+    pub users: Vec<User>,
+    /// By what the lanes' actors are reached.
+    pub lanes: Vec<LaneHandle<WorkerConnection<R>>>,
+    /// By what the coordinator is reached.
+    pub events: EventSender<Y>,
+    /// How many connections without a login there may be.
+    pub logins: LoginLimit,
+    /// The writers' ends, which the pool drains.
+    pub writers: Vec<Mutex<WriterEnd<Y, R>>>,
+    /// Where the pool sleeps while nothing is to be drained.
+    pub drain_gate: DrainGate<R>,
+    /// Set once the coordinator has left.
+    pub is_over: Arc<AtomicBool, Global>,
+    /// The logs that are served on the web.
+    pub logs: Arc<LogService<Y>>,
+    /// By what the coordinator ends the web.
+    pub web_stop: WebStop,
+}
+
+impl<Y: Yard, R: Wait + Clock + Copy + Drop> SharedState<Y, R> {
+    /// What is shared before the first thread starts. None where memory is wanting.
+    pub fn new(
+        rt: &R,
+        alloc: Global,
+        config: Config,
+        lanes: Vec<LaneHandle<WorkerConnection<R>>>,
+        events: EventSender<Y>,
+        writers: Vec<Mutex<WriterEnd<Y, R>>>,
+        viewers: Vec<Viewer<Y>>,
+    ) -> Option<SharedState<Y, R>> {
+        let drain_gate = DrainGate::new(*rt, alloc, writers.len(), config.writers as usize).ok();
+        let cancels = flags_of(alloc, config.builds.as_slice().len()).ok();
+        let users = users_of(alloc, config.workers.as_slice()).ok();
+        let is_over = Arc::new(alloc, AtomicBool::new(false)).ok();
+        let made = drain_gate.zip(is_over).zip(cancels.zip(users));
+        let (made, logs) = made.zip(logs_of(alloc, viewers))?;
+        let (alone, lists) = made;
+        let (drain_gate, is_over) = alone;
+        let (cancels, users) = lists;
+        Some(SharedState {
+            rt: *rt,
+            alloc,
+            config,
+            cancels,
+            users,
+            lanes,
+            events,
+            logins: LoginLimit::new(),
+            writers,
+            drain_gate,
+            is_over,
+            logs,
+            web_stop: WebStop::new(),
+        })
+    }
+}
+
+// A flag for each build, which isn't set.
+fn flags_of(alloc: Global, builds: usize) -> Result<Vec<AtomicBool>, AllocError> {
+    let mut flags = Vec::with_capacity(alloc, builds)?;
+    for _ in 0..builds {
+        flags.push(AtomicBool::new(false))?;
+    }
+    Ok(flags)
+}
+
+// The logs that these see. None where memory is wanting, or there is no lane, which never comes.
+fn logs_of<Y: Yard>(alloc: Global, viewers: Vec<Viewer<Y>>) -> Option<Arc<LogService<Y>>> {
+    if viewers.is_empty() {
+        return None;
+    }
+    Arc::new(alloc, LogService::new(alloc, viewers).ok()?).ok()
+}

@@ -1,0 +1,161 @@
+//! The process of a worker that is started on demand.
+
+use bm_board::Words;
+use bm_latent::{Deadline, EndAct};
+use bm_operator::ProgramRefusal;
+use std::alloc::Global;
+use std::io::ErrorKind;
+use std::process::{Child, Command, Processes, Stdio, SystemProcess};
+
+// Asks a process to end, by SIGTERM. The shell sends it: the process can't be mistaken, since nobody
+// has waited for it. Where no shell can be started it isn't asked.
+fn ask<R: Processes<Started = SystemProcess>>(rt: &R, alloc: Global, id: u32) {
+    let (Ok(mut command), Ok(words)) = (
+        Command::new(alloc, "/bin/sh"),
+        format!(in alloc; "kill {id}"),
+    ) else {
+        return;
+    };
+    if command.arg("-c").is_err() || command.arg(words.as_str()).is_err() {
+        return;
+    }
+    command.stdin(Stdio::null());
+    command.stdout(Stdio::null());
+    command.stderr(Stdio::null());
+    if let Ok(mut child) = command.spawn(rt) {
+        let _ = child.wait();
+    }
+}
+
+// Why a program isn't started where the system says this.
+fn refusal_of(kind: ErrorKind) -> ProgramRefusal {
+    match kind {
+        ErrorKind::NotFound => ProgramRefusal::NotFound,
+        ErrorKind::PermissionDenied => ProgramRefusal::Denied,
+        ErrorKind::OutOfMemory => ProgramRefusal::Memory,
+        _ => ProgramRefusal::System,
+    }
+}
+
+/// The program that starts a worker, and its process where one was started and hasn't ended.
+#[derive(Drop)]
+pub struct WorkerProcess {
+    words: Words,
+    child: Option<Child>,
+    /// How long the process has that is to end.
+    deadline: Deadline,
+    /// Whether the process was asked to end, or killed.
+    is_asked: bool,
+}
+
+impl WorkerProcess {
+    /// No process was started.
+    pub fn new(words: Words) -> WorkerProcess {
+        WorkerProcess {
+            words,
+            child: None,
+            deadline: Deadline::new(),
+            is_asked: false,
+        }
+    }
+
+    /// Starts the process. It has an empty input, and what it prints is dropped; its errors go
+    /// where those of the master go.
+    ///
+    /// # Errors
+    ///
+    /// Why it isn't started: nothing runs then that did not run before.
+    pub fn start<R: Processes<Started = SystemProcess>>(
+        &mut self,
+        rt: &R,
+        alloc: Global,
+    ) -> Result<(), ProgramRefusal> {
+        let Some((program, rest)) = self.words.as_slice().split_first() else {
+            return Err(ProgramRefusal::NotFound);
+        };
+        let Ok(mut command) = Command::new(alloc, program.as_str()) else {
+            return Err(ProgramRefusal::Memory);
+        };
+        for word in rest {
+            if command.arg(word.as_str()).is_err() {
+                return Err(ProgramRefusal::Memory);
+            }
+        }
+        command.stdin(Stdio::null());
+        command.stdout(Stdio::null());
+        command.stderr(Stdio::inherit());
+        match command.spawn(rt) {
+            Ok(child) => {
+                self.child = Some(child);
+                self.deadline.stop();
+                self.is_asked = false;
+                Ok(())
+            }
+            Err(error) => Err(refusal_of(error.kind())),
+        }
+    }
+
+    /// Whether a process was started whose end was not seen.
+    pub fn is_running(&self) -> bool {
+        self.child.is_some()
+    }
+
+    /// Whether the process has ended, told once.
+    pub fn has_ended(&mut self) -> bool {
+        let Some(child) = &mut self.child else {
+            return false;
+        };
+        if let Ok(None) = child.try_wait() {
+            return false;
+        }
+        self.child = None;
+        self.deadline.stop();
+        true
+    }
+
+    /// The process is to end: it has some time for that before it is asked to, and then killed.
+    pub fn must_end(&mut self) {
+        if self.child.is_some() {
+            self.deadline.begin();
+        }
+    }
+
+    /// A tick has passed for a process that is to end.
+    pub fn tick<R: Processes<Started = SystemProcess>>(&mut self, rt: &R, alloc: Global) {
+        let Some(child) = &mut self.child else {
+            return;
+        };
+        match self.deadline.tick() {
+            EndAct::None => {}
+            EndAct::Ask => {
+                self.is_asked = true;
+                ask(rt, alloc, child.id());
+            }
+            EndAct::Kill => {
+                self.is_asked = true;
+                let _ = child.kill();
+            }
+        }
+    }
+
+    /// The process may go on, unless it was asked to end already.
+    pub fn may_go_on(&mut self) {
+        if !self.is_asked {
+            self.deadline.stop();
+        }
+    }
+
+    /// Whether the last process was asked to end, or killed.
+    pub fn is_asked(&self) -> bool {
+        self.is_asked
+    }
+
+    /// Ends a process that is still there, and waits for its end.
+    pub fn kill(&mut self) {
+        if let Some(mut child) = self.child.take()
+            && child.kill().is_ok()
+        {
+            let _ = child.wait();
+        }
+    }
+}

@@ -1,5 +1,0 @@
-//! Tests of `bm_msg`: what no clause says.
-#![tactic(auto)]
-
-#[cfg(test)]
-mod tests;

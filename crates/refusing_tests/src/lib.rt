@@ -1,5 +1,0 @@
-//! Tests of `refusing`: what no clause says.
-#![tactic(auto)]
-
-#[cfg(test)]
-mod tests;

@@ -1,0 +1,220 @@
+//! Tests of `bm_world`.
+//!
+//! Worked scripts, and random ones beside a plain world.
+
+ghost use Rattle.std.specs.Prelude.{◌≤◌};
+
+mod plain;
+mod random;
+mod rows;
+mod says;
+mod script;
+
+use bm_session::{Results, Session};
+use bm_world::*;
+use says::Says;
+use script::{Script, step};
+use std::alloc::{AllocError, Global};
+use std::process::Abort;
+
+/// A step, and what the lane says to it.
+type Row = (Script, Says);
+
+/// A new world. Where one request for memory is refused, the second try succeeds; so it is below.
+fn new_world(alloc: Global, capacity: usize) -> Result<World, AllocError>
+    requires some { 1 ≤ capacity }
+    requires few { capacity ≤ 65536 }
+{
+    match World::new(alloc, capacity) {
+        Err(_) => World::new(alloc, capacity),
+        world => world,
+    }
+}
+
+fn new_step(alloc: Global, script: Script) -> Result<Step, AllocError> {
+    match step(alloc, script) {
+        Err(_) => step(alloc, script),
+        step => step,
+    }
+}
+
+/// The answer to the step. After want of memory no event was taken, and the step that came back is
+/// tried again.
+fn answer(world: &mut World, step: Step) -> Option<Answer> {
+    let before = world.session().trace().len();
+    match world.step(step) {
+        Ok(answer) => Some(answer),
+        Err((back, _)) => answer_again(world, back, before),
+    }
+}
+
+/// The answer to the step that came back, where there are as many events as before.
+fn answer_again(world: &mut World, step: Step, before: usize) -> Option<Answer> {
+    if world.session().trace().len() == before {
+        world.step(step).ok()
+    } else {
+        None
+    }
+}
+
+/// The answer to the step of a script.
+fn answer_to(alloc: Global, world: &mut World, script: Script) -> Option<Answer> {
+    match new_step(alloc, script) {
+        Ok(step) => answer(world, step),
+        Err(_) => None,
+    }
+}
+
+/// Whether the lane says so to the step of the row.
+fn has_its_answer(alloc: Global, world: &mut World, (script, says): &Row) -> bool {
+    match answer_to(alloc, world, *script) {
+        Some(answer) => says.is(&answer),
+        None => false,
+    }
+}
+
+/// Whether the commands, from the first on, ended so.
+fn have_ended(session: &Session, outcomes: &[Option<Results>]) -> bool {
+    for (k, outcome) in outcomes.iter().enumerate() {
+        if session.outcome(k as u64) != *outcome {
+            return false;
+        }
+    }
+    true
+}
+
+/// The world plays the rows, each of which has its answer; they count from 0. Then its commands,
+/// from the first on, ended so.
+fn play(
+    rt: &(impl AllocGlobal + Abort),
+    world: &mut World,
+    rows: &[Row],
+    outcomes: &[Option<Results>],
+) {
+    for (n, row) in rows.iter().enumerate() {
+        assert!(rt; has_its_answer(rt.alloc(), world, row), "row {n}");
+    }
+    assert!(rt; have_ended(world.session(), outcomes));
+}
+
+/// The same of a new world.
+fn plays(
+    rt: &(impl AllocGlobal + Abort),
+    capacity: usize,
+    rows: &[Row],
+    outcomes: &[Option<Results>],
+)
+    requires some { 1 ≤ capacity }
+    requires few { capacity ≤ 65536 }
+{
+    let mut world = new_world(rt.alloc(), capacity).expect(rt, "memory for a world");
+    play(rt, &mut world, rows, outcomes);
+}
+
+fn copy_of(step: &Step) -> Result<Step, AllocError> {
+    match step.copy() {
+        Err(_) => step.copy(),
+        copy => copy,
+    }
+}
+
+/// A copy of the script's step.
+fn copied_step(alloc: Global, script: Script) -> Result<Step, AllocError> {
+    match new_step(alloc, script) {
+        Ok(step) => copy_of(&step),
+        Err(error) => Err(error),
+    }
+}
+
+/// Whether a copy of the answer is what is said.
+fn is_copied(answer: &Answer, says: &Says) -> bool {
+    let copy = match answer.copy() {
+        Err(_) => answer.copy(),
+        copy => copy,
+    };
+    match copy {
+        Ok(copy) => says.is(&copy),
+        Err(_) => false,
+    }
+}
+
+/// Whether the lane's answer to the step has a copy that is what is said.
+fn has_a_copied_answer(world: &mut World, step: Step, says: &Says) -> bool {
+    match answer(world, step) {
+        Some(answer) => is_copied(&answer, says),
+        None => false,
+    }
+}
+
+/// Whether the lane says so to a copy of the row's step, by a copy of its answer.
+fn has_its_copies(alloc: Global, world: &mut World, (script, says): &Row) -> bool {
+    match copied_step(alloc, *script) {
+        Ok(step) => has_a_copied_answer(world, step, says),
+        Err(_) => false,
+    }
+}
+
+/// Whether the lane says so to copies of the rows' steps, by copies of its answers.
+fn have_their_copies(alloc: Global, world: &mut World, rows: &[Row]) -> bool {
+    for row in rows {
+        if !has_its_copies(alloc, world, row) {
+            return false;
+        }
+    }
+    true
+}
+
+/// The same of a new lane, whose queue takes one item.
+fn plays_copies(alloc: Global, rows: &[Row]) -> bool {
+    match new_world(alloc, 1) {
+        Ok(mut world) => have_their_copies(alloc, &mut world, rows),
+        Err(_) => false,
+    }
+}
+
+/// Whether the step of the script is put behind the others.
+fn puts_step(alloc: Global, steps: &mut Vec<Step>, script: Script) -> bool {
+    if steps.reserve(1).is_err() {
+        return false;
+    }
+    match new_step(alloc, script) {
+        Ok(step) => {
+            steps.push_reserved(step);
+            true
+        }
+        Err(_) => false,
+    }
+}
+
+/// The answers of a run, over a queue of one item, of the steps of the rows.
+fn try_run(alloc: Global, rows: &[Row]) -> Option<Vec<Answer>> {
+    let mut steps = Vec::new(alloc);
+    for (script, _) in rows {
+        if !puts_step(alloc, &mut steps, *script) {
+            return None;
+        }
+    }
+    World::run(alloc, steps, 1).ok()
+}
+
+/// Whether the answers are those of the rows.
+fn are_said(rows: &[Row], answers: &[Answer]) -> bool {
+    for (row, answer) in rows.iter().zip(answers) {
+        if !row.1.is(answer) {
+            return false;
+        }
+    }
+    rows.len() == answers.len()
+}
+
+/// Whether a run of the rows' steps has their answers.
+fn runs(alloc: Global, rows: &[Row]) -> bool {
+    let answers = match try_run(alloc, rows) {
+        None => try_run(alloc, rows),
+        answers => answers,
+    };
+    match answers {
+        Some(answers) => are_said(rows, answers.as_slice()),
+        None => false,
+    }
+}

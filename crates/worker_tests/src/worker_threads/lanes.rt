@@ -1,0 +1,390 @@
+//! The worker against a master's link and its lane, through cuts of its connections.
+
+ghost use Rattle.std.specs.Prelude.{◌≡◌};
+
+mod logs;
+
+use super::cut::{Cut, Unit};
+use super::{dial, waiting};
+use bm_lane::{Blank, Drained, Ends, Yard, open};
+use bm_lines::{STDIO, Text};
+use bm_link::{Ask, MasterLink, ResumeState, User, are_short};
+use bm_session::Results;
+use bm_worker_threads::{ReadyStream, work_run};
+use bumpalo::Bump;
+use std::alloc::{AllocError, AllocGlobal, Global};
+use std::marker::Brand;
+use std::net::{Net, SocketAddr, TcpListener, TcpStream};
+use std::process::{Processes, SystemProcess};
+use std::random::RandomSource;
+use std::sync::Wait;
+use std::thread;
+use std::thread::{JoinHandle, Threads};
+use std::time::{Clock, Duration};
+
+/// The most items that wait in a lane's queue.
+const CAPACITY: usize = 64;
+
+/// The most connections of a worker.
+const MOST_CONNECTIONS: u32 = 12;
+
+/// The most turns of a connection.
+const MOST_TURNS: u32 = 100_000;
+
+/// What a command does.
+#[derive(Clone, Copy)]
+enum Task {
+    /// It says a line over each of its pipes, and fails.
+    Fail,
+    /// It counts to 9.
+    Count,
+}
+
+impl Task {
+    /// Its line for a shell.
+    fn line(self) -> &'static str {
+        match self {
+            Task::Fail => "echo a; echo b >&2; exit 3",
+            Task::Count => "seq 1 9",
+        }
+    }
+}
+
+/// After how much a connection is cut that isn't cut.
+const UNCUT: usize = usize::MAX;
+
+/// How many connections are cut near their beginnings, and how many after them further on.
+const IN_A_ROW: usize = 4;
+
+/// After how many bytes or calls the first connections of a worker are cut: one after the other one
+/// later, from each of two places.
+#[derive(Clone, Copy)]
+struct Cuts {
+    unit: Unit,
+    early: usize,
+    late: usize,
+}
+
+/// No connection is cut.
+const NO_CUTS: Cuts = Cuts {
+    unit: Unit::Byte,
+    early: UNCUT,
+    late: UNCUT,
+};
+
+impl Cuts {
+    /// After how much a connection is cut, behind so many others.
+    fn left(self, made: usize) -> usize {
+        if made < IN_A_ROW {
+            self.early.saturating_add(made)
+        } else if made < 2 * IN_A_ROW {
+            self.late.saturating_add(made - IN_A_ROW)
+        } else {
+            UNCUT
+        }
+    }
+
+    /// Whether a worker may end with this status: one that is cut after it was told to leave finds no
+    /// master any more, and gives up.
+    fn may_end(self, status: u8) -> bool {
+        status == 0 || status == 1 && self.early != UNCUT
+    }
+}
+
+/// What is left of a command: its lines, and how it ended.
+#[derive(Drop)]
+struct Log {
+    content: Text,
+    ended: Option<Results>,
+}
+
+/// A master's end of a worker's connection.
+type Link = MasterLink<ReadyStream<TcpStream>>;
+
+fn link_over(alloc: Global, stream: TcpStream) -> Option<Link> {
+    match waiting(alloc, stream) {
+        Some(stream) => MasterLink::accept(alloc, stream).ok(),
+        None => None,
+    }
+}
+
+/// A lane whose worker is given one command.
+#[derive(Drop)]
+struct CommandLane<Y: Yard, W: Wait + Drop> {
+    alloc: Global,
+    ends: Ends<Y, W>,
+    carry: ResumeState,
+    users: Vec<User>,
+    argv: Vec<Text>,
+}
+
+fn user_of(alloc: Global) -> Result<User, AllocError> {
+    Ok(User {
+        name: Text::from_str(alloc, "w0")?,
+        password: Text::from_str(alloc, "p")?,
+    })
+}
+
+impl<Y: Yard, W: Wait + Drop> CommandLane<Y, W> {
+    /// A lane without a link. No user is known, and there is no command to start.
+    fn new(alloc: Global, ends: Ends<Y, W>) -> CommandLane<Y, W> {
+        CommandLane {
+            alloc,
+            ends,
+            carry: ResumeState::new(alloc, true),
+            users: Vec::new(alloc),
+            argv: Vec::new(alloc),
+        }
+    }
+
+    /// From now on it knows the worker, and starts this line of a shell.
+    fn is_ready(&mut self, line: &str) -> bool {
+        self.knows() && self.orders("sh") && self.orders("-c") && self.orders(line)
+    }
+
+    fn knows(&mut self) -> bool {
+        match user_of(self.alloc) {
+            Ok(user) => self.users.push(user).is_ok(),
+            Err(_) => false,
+        }
+    }
+
+    fn orders(&mut self, word: &str) -> bool {
+        match Text::from_str(self.alloc, word) {
+            Ok(word) => self.argv.push(word).is_ok(),
+            Err(_) => false,
+        }
+    }
+}
+
+impl<Y: Yard, W: Wait + Drop> CommandLane<Y, W> {
+    /// Whether the command has ended over one of the next connections, which are served in turn.
+    fn serves_all<R: Wait + Net<Listener = TcpListener, Stream = TcpStream>>(
+        &mut self,
+        rt: &R,
+        listener: &TcpListener,
+    ) -> bool {
+        for _ in 0..MOST_CONNECTIONS {
+            let Ok((stream, _)) = listener.accept() else {
+                return false;
+            };
+            if self.serves(rt, stream) {
+                return true;
+            }
+        }
+        false
+    }
+
+    /// Whether the command has ended, and its worker left, by the end of a connection.
+    fn serves<R: Wait>(&mut self, rt: &R, stream: TcpStream) -> bool {
+        match link_over(self.alloc, stream) {
+            Some(mut link) => {
+                let is_served = self.serves_over(rt, &mut link);
+                drop(link);
+                is_served
+            }
+            None => false,
+        }
+    }
+
+    fn serves_over<R: Wait>(&mut self, rt: &R, link: &mut Link) -> bool {
+        let mut arena = Bump::new(self.alloc);
+        self.is_joined(rt, &mut arena, link) && self.is_left(rt, &mut arena, link)
+    }
+
+    /// Whether the worker has logged in, and the command was started over this connection or an
+    /// earlier one.
+    fn is_joined<R: Wait>(&mut self, rt: &R, arena: &mut Bump, link: &mut Link) -> bool {
+        let (alloc, users) = (self.alloc, self.users.as_slice());
+        let (reader, carry) = (&mut self.ends.reader, &mut self.carry);
+        let argv = self.argv.as_slice();
+        link.login(alloc, arena, users).is_ok()
+            && link.attach(rt, alloc, reader, carry).is_ok()
+            && (reader.next_command() != 0
+                || are_short(argv) && link.start(rt, alloc, reader, carry, argv).is_ok())
+    }
+
+    /// Whether the worker was told to leave once the command had ended, by the end of the
+    /// connection.
+    fn is_left<R: Wait>(&mut self, rt: &R, arena: &mut Bump, link: &mut Link) -> bool {
+        let mut is_told = false;
+        for _ in 0..MOST_TURNS {
+            if !self.turns(rt, arena, link) {
+                break;
+            }
+            is_told = is_told || self.is_ended() && self.asks(link);
+        }
+        is_told
+    }
+
+    fn turns<R: Wait>(&mut self, rt: &R, arena: &mut Bump, link: &mut Link) -> bool {
+        let (reader, carry) = (&mut self.ends.reader, &mut self.carry);
+        link.turn(rt, self.alloc, arena, reader, carry).is_ok()
+    }
+
+    /// Whether the worker was asked to leave.
+    fn asks(&mut self, link: &mut Link) -> bool {
+        link.ask(self.alloc, &mut self.carry, Ask::Shutdown).is_ok()
+    }
+
+    /// Whether the command has ended, once all that was heard is shown.
+    fn is_ended(&mut self) -> bool {
+        for _ in 0..CAPACITY {
+            if self.ends.writer.drain() != Ok(Drained::Took) {
+                break;
+            }
+        }
+        self.ended().is_some()
+    }
+
+    /// How the command has ended, by what is shown.
+    fn ended(&mut self) -> Option<Results> {
+        match self.ends.viewers.first_mut()?.state(0, STDIO) {
+            Ok(state) => state.ended,
+            Err(_) => None,
+        }
+    }
+
+    fn log(&mut self) -> Option<Log> {
+        let ended = self.ended();
+        match self.ends.viewers.first_mut()?.chunk(0, STDIO, 0, u64::MAX) {
+            Ok(chunk) => Some(Log {
+                content: chunk.content,
+                ended,
+            }),
+            Err(_) => None,
+        }
+    }
+}
+
+/// Starts a worker whose first connections are cut so.
+fn cut_worker<R>(rt: R, address: SocketAddr, cuts: Cuts) -> Option<JoinHandle<u8>>
+where
+    R: Wait
+        + Threads
+        + Clock
+        + RandomSource
+        + AllocGlobal
+        + Net<Listener = TcpListener, Stream = TcpStream>
+        + Processes<Started = SystemProcess>
+        + Copy
+        + Drop
+        + Send
+        + Sync
+        + 'static,
+{
+    let worker = thread::spawn(&rt, move || {
+        let mut made = 0usize;
+        let dial = |_: Duration| {
+            let left = cuts.left(made);
+            made = made.saturating_add(1);
+            match dial(&rt, address) {
+                Some(stream) => Some(Cut::new(stream, cuts.unit, left)),
+                None => None,
+            }
+        };
+        work_run(&rt, dial, "w0", "p", Some("s"))
+    });
+    worker.ok()
+}
+
+/// Whether a desk served a worker whose first connections are cut so, and the worker then left.
+fn has_served<Y: Yard, W: Wait + Drop, R>(
+    rt: R,
+    desk: &mut CommandLane<Y, W>,
+    cuts: Cuts,
+) -> Option<bool>
+where
+    R: Wait
+        + Threads
+        + Clock
+        + RandomSource
+        + AllocGlobal
+        + Net<Listener = TcpListener, Stream = TcpStream>
+        + Processes<Started = SystemProcess>
+        + Copy
+        + Drop
+        + Send
+        + Sync
+        + 'static,
+{
+    let listener = TcpListener::bind(&rt, "127.0.0.1:0").ok()?;
+    let address = listener.local_addr().ok()?;
+    let worker = cut_worker(rt, address, cuts)?;
+    let is_served = desk.serves_all(&rt, &listener);
+    drop(listener);
+    Some(cuts.may_end(worker.join(&rt)) && is_served)
+}
+
+/// What the lane of a new desk has of a command of a worker whose first connections are cut so.
+fn log_at<Y: Yard, W: Wait + Drop, R>(
+    rt: R,
+    mut desk: CommandLane<Y, W>,
+    task: Task,
+    cuts: Cuts,
+) -> Option<Log>
+where
+    R: Wait
+        + Threads
+        + Clock
+        + RandomSource
+        + AllocGlobal
+        + Net<Listener = TcpListener, Stream = TcpStream>
+        + Processes<Started = SystemProcess>
+        + Copy
+        + Drop
+        + Send
+        + Sync
+        + 'static,
+{
+    let is_served = desk.is_ready(task.line()) && has_served(rt, &mut desk, cuts) == Some(true);
+    let log = if is_served { desk.log() } else { None };
+    drop(desk);
+    log
+}
+
+/// What a lane has of a command of a worker whose first connections are cut so.
+fn log_over<Y: Yard, W: Wait + Drop, R>(
+    rt: R,
+    blank: Blank<W>,
+    task: Task,
+    cuts: Cuts,
+) -> Option<Log>
+where
+    R: Wait
+        + Threads
+        + Clock
+        + RandomSource
+        + AllocGlobal
+        + Net<Listener = TcpListener, Stream = TcpStream>
+        + Processes<Started = SystemProcess>
+        + Copy
+        + Drop
+        + Send
+        + Sync
+        + 'static,
+    requires { (blank.queue ≡ Y.queue 0) × (blank.copy ≡ Y.copy 0) }
+{
+    let ends = blank.ends::<Y>(rt.alloc(), 0).ok()?;
+    log_at(rt, CommandLane::new(rt.alloc(), ends), task, cuts)
+}
+
+/// What a new lane has of a command of a worker whose first connections are cut so.
+fn log_of<R>(rt: R, task: Task, cuts: Cuts) -> Option<Log>
+where
+    R: Wait
+        + Threads
+        + Clock
+        + RandomSource
+        + AllocGlobal
+        + Net<Listener = TcpListener, Stream = TcpStream>
+        + Processes<Started = SystemProcess>
+        + Copy
+        + Drop
+        + Send
+        + Sync
+        + 'static,
+{
+    let blank = open(rt, rt.alloc(), CAPACITY, 1).ok()?;
+    log_over::<Brand, R, R>(rt, blank, task, cuts)
+}
