@@ -25,7 +25,7 @@ pub trait Handler: Drop {
     type Seen: Drop;
 
     // Which replies a request with this method and target may get, made of what was seen.
-    ghost gives: { Self → List ℕ → List ℕ → Option Seen → Reply → Type 0 };
+    ghost gives: { Self → List ℕ → List ℕ → Option Self.Seen → Reply → Type 0 };
 
     // The text that is left to tell.
     ghost text: { Self.Rest → List ℕ };

@@ -94,6 +94,25 @@ impl<Y: Yard> LogService<Y> {
         })
     }
 
+    // The answer to a request, which needs no viewer where it is refused as it stands.
+    fn serve<R: Wait>(
+        &self,
+        rt: &R,
+        alloc: Global,
+        request: LogRequest<'_>,
+    ) -> Result<Served<LongAnswer<Y>, Mark<Y>>, AllocError>
+        ensures { IfOk result (λ served. TellsOf (asked_by request.entry) self.now.lanes served.seen
+            (reply_told (λ text. text) served.reply)) }
+    {
+        match request {
+            LogRequest::Refused(refusal) => Ok(Served {
+                reply: WholeOrLong::Whole(Lookup::Refused(refusal).answer(alloc)?),
+                seen: None,
+            }),
+            request => self.look(rt, alloc, request),
+        }
+    }
+
     fn reply<R: Wait>(
         &self,
         rt: &R,
@@ -104,13 +123,8 @@ impl<Y: Yard> LogService<Y> {
         ensures { IfOk result (λ served. Serves self.now.lanes method.now target.now served.seen
             (reply_told (λ text. text) served.reply)) }
     {
-        match self.routes.request(alloc, method, target)? {
-            LogRequest::Refused(refusal) => Ok(Served {
-                reply: WholeOrLong::Whole(Lookup::Refused(refusal).answer(alloc)?),
-                seen: None,
-            }),
-            request => self.look(rt, alloc, request),
-        }
+        let request = self.routes.request(alloc, method, target)?;
+        self.serve(rt, alloc, request)
     }
 
     /// The viewers, given back, where nobody else holds the service any more.
