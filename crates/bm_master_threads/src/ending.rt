@@ -49,9 +49,13 @@ pub fn write_line<O: Write>(alloc: Global, line: OutputLine<'_>, output: &mut O)
     line.write(alloc, output).is_ok() && output.flush().is_ok()
 }
 
-/// Settles the lanes once all threads have ended. The answer is the exit status: 0 only where all that
+/// Settles the lanes once all threads have ended, and `logs` are served no more. The answer is the exit status: 0 only where all that
 /// was to be done was done, and each build ended well.
-pub fn end<Y, R, O>(shared: SharedState<Y, R>, left: MasterLeft<Y, O>) -> u8
+pub fn end<Y, R, O>(
+    shared: SharedState<Y, R>,
+    left: MasterLeft<Y, O>,
+    logs: Arc<LogService<Y>>,
+) -> u8
 where
     Y: Yard,
     R: Wait + Clock + Drop,
@@ -77,7 +81,6 @@ where
         alloc,
         config,
         writers,
-        logs,
         ..
     } = shared;
     let ends = all_ends(readers, writers, pools, logs);

@@ -99,12 +99,12 @@ where
     let ends = ends_by_owner::<Y, R>(alloc, config.workers.as_slice(), blanks);
     let (at, ends) = streams.listen().zip(ends)?;
     let (workers, web) = at;
-    let (shared, owned) = prepare(rt, alloc, config, streams, ends, workers)?;
+    let (shared, owned, logs) = prepare(rt, alloc, config, streams, ends, workers)?;
     let mut owned = owned;
     let listening = OutputLine::Listening { workers, web };
     if !write_line(alloc, listening, &mut owned.coordinator.output) {
         return None;
     }
     let left = run_threads(&shared, owned)?;
-    Some(end(shared, left))
+    Some(end(shared, left, logs))
 }

@@ -8,12 +8,13 @@ use crate::threads::ThreadOwned;
 use crate::worker_entry::entries_of;
 use bm_build_queue::{BuildQueue, ViewerPool};
 use bm_config::Config;
-use bm_lane::Yard;
+use bm_lane::{Viewer, Yard};
 use bm_lane_actor::{Mailboxes, open_mailboxes};
 use bm_lanes::{DealtLanes, maxima_of, slots_of};
+use bm_web_server::LogService;
 use std::alloc::Global;
 use std::net::{SocketAddr, TcpListener};
-use std::sync::Wait;
+use std::sync::{Arc, Wait};
 use std::time::Clock;
 
 /// What a master is given beside its configuration: its sockets, bound, and its streams.
@@ -77,8 +78,16 @@ fn coordinator_of<Y: Yard, O: Drop>(
     })
 }
 
-/// What all threads share, and what each of them owns, before the first of them starts. `at` is
-/// where workers connect. None where memory is wanting.
+// The logs that these see. None where memory is wanting, or there is no lane, which never comes.
+fn logs_of<Y: Yard>(alloc: Global, viewers: Vec<Viewer<Y>>) -> Option<Arc<LogService<Y>>> {
+    if viewers.is_empty() {
+        return None;
+    }
+    Arc::new(alloc, LogService::new(alloc, viewers).ok()?).ok()
+}
+
+/// What all threads share, and what each of them owns, before the first of them starts; and the logs
+/// that the web serves, for the end. `at` is where workers connect. None where memory is wanting.
 pub fn prepare<Y, R, I, O>(
     rt: &R,
     alloc: Global,
@@ -86,7 +95,13 @@ pub fn prepare<Y, R, I, O>(
     streams: MasterStreams<I, O>,
     ends: DealtLanes<Y, R, WorkerConnection<R>>,
     at: SocketAddr,
-) -> Option<(SharedState<Y, R>, ThreadOwned<Y, R, I, O>)>
+) -> Option<
+    (
+        SharedState<Y, R>,
+        ThreadOwned<Y, R, I, O>,
+        Arc<LogService<Y>>,
+    ),
+>
 where
     Y: Yard,
     R: Wait + Clock + Copy + Drop,
@@ -111,15 +126,18 @@ where
         remarks,
     } = streams;
     let coordinator = coordinator_of(alloc, &config, at, pools, events, output, remarks);
-    let shared = SharedState::new(rt, alloc, config, handles, sender, writers, web_viewers);
-    let (shared, coordinator) = shared.zip(coordinator)?;
+    let shared = SharedState::new(rt, alloc, config, handles, sender, writers);
+    let (made, logs) = shared.zip(coordinator).zip(logs_of(alloc, web_viewers))?;
+    let (shared, coordinator) = made;
+    let served = Arc::try_clone(&logs).ok()?;
     let owned = ThreadOwned {
         states,
         mailboxes,
         workers,
         web,
+        logs: served,
         coordinator,
         input,
     };
-    Some((shared, owned))
+    Some((shared, owned, logs))
 }

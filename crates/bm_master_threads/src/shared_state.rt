@@ -3,11 +3,10 @@
 use crate::events::EventSender;
 use crate::web::WebStop;
 use bm_config::Config;
-use bm_lane::{Viewer, WriterEnd, Yard};
+use bm_lane::{WriterEnd, Yard};
 use bm_lane_actor::{DrainGate, LaneHandle, LoginLimit, WorkerStream};
 use bm_lanes::users_of;
 use bm_link::User;
-use bm_web_server::LogService;
 use std::alloc::{AllocError, Global};
 use std::net::TcpStream;
 use std::sync::atomic::AtomicBool;
@@ -39,8 +38,6 @@ pub struct SharedState<Y: Yard, R: Wait + Clock + Drop> {
     pub drain_gate: DrainGate<R>,
     /// Set once the coordinator has left.
     pub is_over: Arc<AtomicBool, Global>,
-    /// The logs that are served on the web.
-    pub logs: Arc<LogService<Y>>,
     /// By what the coordinator ends the web.
     pub web_stop: WebStop,
 }
@@ -54,15 +51,13 @@ impl<Y: Yard, R: Wait + Clock + Copy + Drop> SharedState<Y, R> {
         lanes: Vec<LaneHandle<WorkerConnection<R>>>,
         events: EventSender<Y>,
         writers: Vec<Mutex<WriterEnd<Y, R>>>,
-        viewers: Vec<Viewer<Y>>,
     ) -> Option<SharedState<Y, R>> {
         let drain_gate = DrainGate::new(*rt, alloc, writers.len(), config.writers as usize).ok();
         let cancels = flags_of(alloc, config.builds.as_slice().len()).ok();
         let users = users_of(alloc, config.workers.as_slice()).ok();
         let is_over = Arc::new(alloc, AtomicBool::new(false)).ok();
         let made = drain_gate.zip(is_over).zip(cancels.zip(users));
-        let (made, logs) = made.zip(logs_of(alloc, viewers))?;
-        let (alone, lists) = made;
+        let (alone, lists) = made?;
         let (drain_gate, is_over) = alone;
         let (cancels, users) = lists;
         Some(SharedState {
@@ -77,7 +72,6 @@ impl<Y: Yard, R: Wait + Clock + Copy + Drop> SharedState<Y, R> {
             writers,
             drain_gate,
             is_over,
-            logs,
             web_stop: WebStop::new(),
         })
     }
@@ -90,12 +84,4 @@ fn flags_of(alloc: Global, builds: usize) -> Result<Vec<AtomicBool>, AllocError>
         flags.push(AtomicBool::new(false))?;
     }
     Ok(flags)
-}
-
-// The logs that these see. None where memory is wanting, or there is no lane, which never comes.
-fn logs_of<Y: Yard>(alloc: Global, viewers: Vec<Viewer<Y>>) -> Option<Arc<LogService<Y>>> {
-    if viewers.is_empty() {
-        return None;
-    }
-    Arc::new(alloc, LogService::new(alloc, viewers).ok()?).ok()
 }

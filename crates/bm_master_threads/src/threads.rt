@@ -22,9 +22,10 @@ use crate::shared_state::{SharedState, WorkerConnection};
 use crate::web::serve_web;
 use bm_lane::{ReaderEnd, Yard};
 use bm_lane_actor::{LaneState, Mailbox};
+use bm_web_server::LogService;
 use std::io::{Read, Write};
 use std::net::TcpListener;
-use std::sync::Wait;
+use std::sync::{Arc, Wait};
 use std::thread;
 use std::thread::{JoinHandle, Scope};
 use std::time::Clock;
@@ -37,8 +38,9 @@ pub struct ThreadOwned<Y: Yard, R: Wait + Clock + Drop, I, O> {
     pub mailboxes: Vec<Mailbox<WorkerConnection<R>>>,
     /// The acceptor's. Its `accept` doesn't wait.
     pub workers: TcpListener,
-    /// The first thread's.
+    /// The first thread's: where it serves, and what.
     pub web: TcpListener,
+    pub logs: Arc<LogService<Y>>,
     pub coordinator: CoordinatorOwned<Y, O>,
     /// The input thread's.
     pub input: I,
@@ -103,6 +105,7 @@ where
         mailboxes,
         workers,
         web,
+        logs,
         coordinator,
         input,
     } = owned;
@@ -125,7 +128,7 @@ where
     if coordinator.is_none() {
         shared.web_stop.end(&shared.rt);
     }
-    let is_served = serve_web(shared, &web);
+    let is_served = serve_web(shared, &web, &logs);
     join_all(
         shared,
         coordinator,

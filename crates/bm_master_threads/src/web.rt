@@ -1,14 +1,15 @@
 //! The web, which is served until the coordinator ends it.
 
-use crate::host::MasterHost;
 use crate::shared_state::SharedState;
 use bm_lane::Yard;
-use bm_web_server::{WebLimits, serve};
-use std::alloc::{AllocError, Global};
-use std::net::TcpListener;
+use bm_web_server::{LogService, WebLimits, serve};
+use std::alloc::{AllocError, AllocGlobal, Global};
+use std::net::{Net, TcpListener};
+use std::random::RandomSource;
 use std::sync::{Arc, Mutex, Wait};
 use std::thread;
-use std::time::Duration;
+use std::thread::Threads;
+use std::time::{Clock, Duration};
 use tokio::sync::oneshot;
 
 /// How many threads serve the web.
@@ -76,16 +77,20 @@ impl WebStop {
 /// Serves the logs until the coordinator ends it. Where memory or descriptors are wanting, so that it
 /// can't begin or go on, it begins anew after a while: who connects meanwhile waits. The answer is
 /// whether it was served at the end, or ended before it began.
-pub fn serve_web<Y, R>(shared: &SharedState<Y, R>, listener: &TcpListener) -> bool
+pub fn serve_web<Y, R>(
+    shared: &SharedState<Y, R>,
+    listener: &TcpListener,
+    logs: &Arc<LogService<Y>>,
+) -> bool
 where
     Y: Yard + Send + Sync,
-    R: MasterHost,
+    R: Wait + Threads + Clock + RandomSource + AllocGlobal + Net + Copy + Drop + Send + Sync,
 {
     let rt = &shared.rt;
     let mut is_served = true;
     for _ in rt.forever() {
         match shared.web_stop.wait_for(rt, shared.alloc) {
-            Ok(Some(stopped)) => is_served = serve_once(shared, listener, stopped),
+            Ok(Some(stopped)) => is_served = serve_once(*rt, listener, logs, stopped),
             Ok(None) => return is_served,
             Err(_) => is_served = false,
         }
@@ -97,15 +102,16 @@ where
 // Serves the logs until they need not be served, or memory is wanting for it. False where that is
 // known, or it could not begin.
 fn serve_once<Y, R>(
-    shared: &SharedState<Y, R>,
+    rt: R,
     listener: &TcpListener,
+    logs: &Arc<LogService<Y>>,
     stopped: oneshot::Receiver<()>,
 ) -> bool
 where
     Y: Yard + Send + Sync,
-    R: MasterHost,
+    R: Wait + Threads + Clock + RandomSource + AllocGlobal + Net + Copy + Send + Sync,
 {
-    let (Ok(listener), Ok(logs)) = (listener.try_clone(), Arc::try_clone(&shared.logs)) else {
+    let (Ok(listener), Ok(logs)) = (listener.try_clone(), Arc::try_clone(logs)) else {
         return false;
     };
     let limits = WebLimits {
@@ -114,5 +120,5 @@ where
         idle: Duration::from_secs(IDLE_SECONDS),
         stalled: Duration::from_secs(STALLED_SECONDS),
     };
-    serve(shared.rt, limits, listener, logs, stopped).is_ok()
+    serve(rt, limits, listener, logs, stopped).is_ok()
 }
