@@ -1,12 +1,18 @@
 //! The master of a configuration file.
 
 use bm_config::{Config, ConfigFault, read_config};
-use bm_master_threads::{MasterHost, serve};
+use bm_master_threads::serve;
 use bm_operator::{REFUSED, status};
 use bm_replay::{MOST_BYTES, read_up_to};
 use std::alloc::AllocGlobal;
 use std::fs::Files;
 use std::io::{ErrorKind, Read, Write};
+use std::net::{Net, TcpListener, TcpStream};
+use std::process::{Processes, SystemProcess};
+use std::random::RandomSource;
+use std::sync::Wait;
+use std::thread::Threads;
+use std::time::Clock;
 use std::{fs, str};
 
 /// Why there is no configuration.
@@ -59,7 +65,19 @@ fn refuse<F: Write + Drop>(refusal: ConfigRefusal, faults: F) -> u8 {
 /// a text that is no TOML and `file` for a file that can't be read.
 pub fn serve_file<R, I, O, F>(rt: &R, path: &str, input: I, output: O, faults: F) -> u8
 where
-    R: MasterHost + Files + 'static,
+    R: Wait
+        + Threads
+        + Clock
+        + RandomSource
+        + AllocGlobal
+        + Files
+        + Net<Listener = TcpListener, Stream = TcpStream>
+        + Processes<Started = SystemProcess>
+        + Copy
+        + Drop
+        + Send
+        + Sync
+        + 'static,
     I: Read + Drop + Send,
     O: Write + Drop + Send,
     F: Write + Drop + Send + 'static,
