@@ -5,8 +5,14 @@ use crate::master_threads::play::{Act, Play};
 use crate::master_threads::stage::Scene;
 use crate::master_threads::starting::{open, start};
 use bm_lines::Letter;
-use bm_master_threads::MasterHost;
+use std::alloc::AllocGlobal;
+use std::net::{Net, TcpListener, TcpStream};
+use std::process::{Processes, SystemProcess};
+use std::random::RandomSource;
+use std::sync::Wait;
 use std::test::Fail;
+use std::thread::Threads;
+use std::time::Clock;
 
 /// One worker, and a build of one step.
 const ONE: &str = "worker = [{name=\"w0\",password=\"p\"}]
@@ -132,7 +138,17 @@ fn a_running_and_a_waiting_build_are_cancelled(rt: HostRuntime) {
 // Whether a second build waits for the lock of the first, which runs.
 fn is_locked<R>(scene: &mut Scene<R>, second: &mut Hand<R>) -> bool
 where
-    R: MasterHost,
+    R: Wait
+        + Threads
+        + Clock
+        + RandomSource
+        + AllocGlobal
+        + Net<Listener = TcpListener, Stream = TcpStream>
+        + Processes<Started = SystemProcess>
+        + Copy
+        + Drop
+        + Send
+        + Sync,
 {
     let Scene { stage, hand } = scene;
     second.is_idle()
@@ -145,7 +161,17 @@ where
 // Whether a second worker that logs in has its build run after that of the first.
 fn is_second<R>(scene: Scene<R>) -> bool
 where
-    R: MasterHost,
+    R: Wait
+        + Threads
+        + Clock
+        + RandomSource
+        + AllocGlobal
+        + Net<Listener = TcpListener, Stream = TcpStream>
+        + Processes<Started = SystemProcess>
+        + Copy
+        + Drop
+        + Send
+        + Sync,
 {
     let mut scene = scene;
     let is_run = scene.hand.runs(0, "a");

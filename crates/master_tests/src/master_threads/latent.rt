@@ -4,8 +4,14 @@ use crate::master_threads::play::Act;
 use crate::master_threads::stage::Stage;
 use crate::master_threads::starting::start;
 use bm_lines::Letter;
-use bm_master_threads::MasterHost;
+use std::alloc::AllocGlobal;
+use std::net::{Net, TcpListener, TcpStream};
+use std::process::{Processes, SystemProcess};
+use std::random::RandomSource;
+use std::sync::Wait;
 use std::test::Fail;
+use std::thread::Threads;
+use std::time::Clock;
 
 /// A worker whose program ends at once.
 const ENDING: &str = "worker = [{name=\"w0\",password=\"p\",latent=[\"sh\",\"-c\",\"exit 0\"]}]
@@ -29,7 +35,17 @@ build = [{worker=\"w0\", step=[
 // Whether the one build ends RETRY, and nothing was logged.
 fn is_retried<R>(stage: Stage<R>) -> bool
 where
-    R: MasterHost,
+    R: Wait
+        + Threads
+        + Clock
+        + RandomSource
+        + AllocGlobal
+        + Net<Listener = TcpListener, Stream = TcpStream>
+        + Processes<Started = SystemProcess>
+        + Copy
+        + Drop
+        + Send
+        + Sync,
 {
     let is_right = stage.reports("build 0 RETRY");
     stage.ends(is_right, &["lane w0 0 0"], 1)

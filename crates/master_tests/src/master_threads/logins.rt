@@ -4,9 +4,14 @@ use crate::master_threads::play::Act;
 use crate::master_threads::stage::Stage;
 use crate::master_threads::starting::{refused, start};
 use bm_lines::Letter;
-use bm_master_threads::MasterHost;
-use std::net::{TcpListener, TcpStream};
+use std::alloc::AllocGlobal;
+use std::net::{Net, TcpListener, TcpStream};
+use std::process::{Processes, SystemProcess};
+use std::random::RandomSource;
+use std::sync::Wait;
 use std::test::Fail;
+use std::thread::Threads;
+use std::time::Clock;
 
 /// One worker, and a build of one step.
 const ONE: &str = "worker = [{name=\"w0\",password=\"p\"}]
@@ -16,7 +21,17 @@ build = [{worker=\"w0\", step=[{name=\"s\",command=[\"a\"]}]}]
 // Whether logins under a wrong name or password are refused.
 fn are_refused<R>(stage: &Stage<R>) -> bool
 where
-    R: MasterHost,
+    R: Wait
+        + Threads
+        + Clock
+        + RandomSource
+        + AllocGlobal
+        + Net<Listener = TcpListener, Stream = TcpStream>
+        + Processes<Started = SystemProcess>
+        + Copy
+        + Drop
+        + Send
+        + Sync,
 {
     for (name, password) in &[("w0", "q"), ("w1", "p"), ("", "")] {
         if !stage.refuses(name, password) {

@@ -4,7 +4,13 @@ use crate::master_threads::second::is_declined;
 use crate::master_threads::stage::Scene;
 use crate::master_threads::starting::open;
 use bm_lines::Letter;
-use bm_master_threads::MasterHost;
+use std::alloc::AllocGlobal;
+use std::net::{Net, TcpListener, TcpStream};
+use std::process::{Processes, SystemProcess};
+use std::random::RandomSource;
+use std::sync::Wait;
+use std::thread::Threads;
+use std::time::Clock;
 
 /// A step of a test: what its worker, its operator or its reader does or sees.
 #[derive(Clone, Copy)]
@@ -59,7 +65,18 @@ impl Play {
     /// Whether a master goes through it as it stands here, from its start to its end.
     pub fn goes<R>(&self, rt: R) -> bool
     where
-        R: MasterHost + 'static,
+        R: Wait
+            + Threads
+            + Clock
+            + RandomSource
+            + AllocGlobal
+            + Net<Listener = TcpListener, Stream = TcpStream>
+            + Processes<Started = SystemProcess>
+            + Copy
+            + Drop
+            + Send
+            + Sync
+            + 'static,
     {
         match open(rt, self.config, self.session) {
             Some(scene) => scene.goes_through(self.acts, self.last, self.status),
@@ -70,7 +87,17 @@ impl Play {
 
 impl<R> Scene<R>
 where
-    R: MasterHost,
+    R: Wait
+        + Threads
+        + Clock
+        + RandomSource
+        + AllocGlobal
+        + Net<Listener = TcpListener, Stream = TcpStream>
+        + Processes<Started = SystemProcess>
+        + Copy
+        + Drop
+        + Send
+        + Sync,
 {
     /// Whether all comes so, these are the reports once the input has ended, and the master ends with
     /// this status.

@@ -3,12 +3,14 @@
 use crate::master_threads::channels::{Ends, are_next, is_next, next_line};
 use crate::master_threads::hand::Hand;
 use bm_link::LinkFault;
-use bm_master_threads::MasterHost;
-use std::alloc::Global;
+use std::alloc::{AllocGlobal, Global};
 use std::io::Write;
-use std::net::{Net, SocketAddr, TcpStream};
-use std::thread::JoinHandle;
-use std::time::Duration;
+use std::net::{Net, SocketAddr, TcpListener, TcpStream};
+use std::process::{Processes, SystemProcess};
+use std::random::RandomSource;
+use std::sync::Wait;
+use std::thread::{JoinHandle, Threads};
+use std::time::{Clock, Duration};
 use std::{io, thread};
 
 /// A master that was started, and the other ends of its streams.
@@ -54,7 +56,17 @@ fn is_body(answer: &str, body: &str) -> Option<bool> {
 
 impl<R> Stage<R>
 where
-    R: MasterHost,
+    R: Wait
+        + Threads
+        + Clock
+        + RandomSource
+        + AllocGlobal
+        + Net<Listener = TcpListener, Stream = TcpStream>
+        + Processes<Started = SystemProcess>
+        + Copy
+        + Drop
+        + Send
+        + Sync,
 {
     /// Whether the next line of the output is this.
     pub fn reports(&self, line: &str) -> bool {
@@ -196,7 +208,17 @@ pub struct Scene<R> {
 
 impl<R> Scene<R>
 where
-    R: MasterHost,
+    R: Wait
+        + Threads
+        + Clock
+        + RandomSource
+        + AllocGlobal
+        + Net<Listener = TcpListener, Stream = TcpStream>
+        + Processes<Started = SystemProcess>
+        + Copy
+        + Drop
+        + Send
+        + Sync,
 {
     /// Ends the input while the worker is there, if all was right before. Whether these lines come
     /// then, and nothing more, and the master ends with this status.

@@ -3,12 +3,15 @@
 use crate::master_threads::channels::{Ends, Streams, is_told, next_line, open_streams};
 use crate::master_threads::stage::{Scene, Stage};
 use bm_config::{Config, read_config};
-use bm_master_threads::{MasterHost, serve};
+use bm_master_threads::serve;
 use crossbeam_channel::Receiver;
-use std::alloc::Global;
-use std::net::SocketAddr;
+use std::alloc::{AllocGlobal, Global};
+use std::net::{Net, SocketAddr, TcpListener, TcpStream};
+use std::process::{Processes, SystemProcess};
+use std::random::RandomSource;
 use std::sync::Wait;
 use std::thread;
+use std::thread::Threads;
 use std::time::Clock;
 
 /// The addresses of a line `listening ADDR ADDR`.
@@ -37,7 +40,18 @@ fn on_loopback(alloc: Global, rest: &str) -> Option<Config> {
 // Starts the master of the configuration over these streams.
 fn launch<R>(rt: R, config: Config, streams: Streams<R>, ends: Ends) -> Option<Stage<R>>
 where
-    R: MasterHost + 'static,
+    R: Wait
+        + Threads
+        + Clock
+        + RandomSource
+        + AllocGlobal
+        + Net<Listener = TcpListener, Stream = TcpStream>
+        + Processes<Started = SystemProcess>
+        + Copy
+        + Drop
+        + Send
+        + Sync
+        + 'static,
 {
     let Streams {
         feed,
@@ -60,7 +74,18 @@ where
 /// Starts the master of a configuration, to which addresses of the loopback are added.
 pub fn start<R>(rt: R, rest: &str) -> Option<Stage<R>>
 where
-    R: MasterHost + 'static,
+    R: Wait
+        + Threads
+        + Clock
+        + RandomSource
+        + AllocGlobal
+        + Net<Listener = TcpListener, Stream = TcpStream>
+        + Processes<Started = SystemProcess>
+        + Copy
+        + Drop
+        + Send
+        + Sync
+        + 'static,
 {
     let config = on_loopback(rt.alloc(), rest)?;
     match open_streams(rt) {
@@ -72,7 +97,18 @@ where
 /// Starts the master of a configuration, and its worker `w0`, which logs in.
 pub fn open<R>(rt: R, rest: &str, session: Option<&str>) -> Option<Scene<R>>
 where
-    R: MasterHost + 'static,
+    R: Wait
+        + Threads
+        + Clock
+        + RandomSource
+        + AllocGlobal
+        + Net<Listener = TcpListener, Stream = TcpStream>
+        + Processes<Started = SystemProcess>
+        + Copy
+        + Drop
+        + Send
+        + Sync
+        + 'static,
 {
     match start(rt, rest) {
         Some(stage) => stage.joined(session),
@@ -83,7 +119,18 @@ where
 // Whether the master of the configuration refuses it, with this line on its faults.
 fn refuses<R>(rt: R, config: Config, streams: Streams<R>, ends: Ends, line: &str) -> bool
 where
-    R: MasterHost + 'static,
+    R: Wait
+        + Threads
+        + Clock
+        + RandomSource
+        + AllocGlobal
+        + Net<Listener = TcpListener, Stream = TcpStream>
+        + Processes<Started = SystemProcess>
+        + Copy
+        + Drop
+        + Send
+        + Sync
+        + 'static,
 {
     let Streams {
         feed,
@@ -103,7 +150,18 @@ where
 /// Whether a master of this configuration refuses it, with this line on its faults.
 pub fn refused<R>(rt: R, text: &str, line: &str) -> bool
 where
-    R: MasterHost + 'static,
+    R: Wait
+        + Threads
+        + Clock
+        + RandomSource
+        + AllocGlobal
+        + Net<Listener = TcpListener, Stream = TcpStream>
+        + Processes<Started = SystemProcess>
+        + Copy
+        + Drop
+        + Send
+        + Sync
+        + 'static,
 {
     let Ok(config) = read_config(rt.alloc(), text) else {
         return false;
