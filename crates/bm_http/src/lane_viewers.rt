@@ -97,7 +97,9 @@ impl<Y: Yard> LaneViewers<Y> {
     }
 
     /// The viewers, given back. None where a look has one.
-    pub fn into_vec(self) -> Option<Vec<Viewer<Y>>> {
+    pub fn into_vec(self) -> Option<Vec<Viewer<Y>>>
+        ensures { IfSome result (λ viewers. self ≡ map Some viewers.items) }
+    {
         let LaneViewers { places, mut room } = self;
         for place in places {
             room.push(place?).ok()?;

@@ -68,8 +68,9 @@ fn name_of(users: &[User], place: usize) -> Option<Text>
     users.get(place)?.name.copy().ok()
 }
 
-/// Hands a worker's link to the actor of its own lane. Where the mailbox has no room the worker is
-/// told `busy`.
+/// Hands the link of a worker that has logged in as one of these users to the actor of its own lane.
+/// The result is the number of the lane. Where the mailbox has no room the worker is told `busy`, and
+/// `refused` becomes its name.
 ///
 /// # Errors
 ///
@@ -78,18 +79,25 @@ fn hand_over<S: Read + Write + Drop, R: Wait + Clock>(
     rt: &R,
     alloc: Global,
     handle: &LaneHandle<S>,
+    users: &[User],
     worker: LoggedIn<S>,
-) -> Result<(), LinkFault>
-    requires { handle.now ≡ worker.place }
+    refused: &mut Option<Text>,
+) -> Result<usize, LinkFault>
+    requires own { handle.now ≡ worker.place }
+    requires login { IsLoggedIn S.remaining S.contents users.now worker.place worker.link }
+    ensures { IfOk result (λ lane. lane ≡ worker.place) }
 {
-    match handle.attach(rt, worker.link) {
-        HandOver::Taken => Ok(()),
+    let LoggedIn { place, link } = worker;
+    let fault = match handle.attach(rt, link) {
+        HandOver::Taken => return Ok(place),
         HandOver::Back(link) => {
             let mut link = link;
-            Err(link.put_off(alloc))
+            link.put_off(alloc)
         }
-        HandOver::Left => Err(LinkFault::Closed),
-    }
+        HandOver::Left => LinkFault::Closed,
+    };
+    *refused = name_of(users, place);
+    Err(fault)
 }
 
 /// Logs a worker in on a new connection, within some 10 seconds, and hands its link to the actor of
@@ -123,15 +131,8 @@ where
         Err(fault) => return Err(fault),
     };
     worker.link.get_ref().set_logged_in();
-    let place = worker.place;
-    let Some(handle) = handle_of(handles, place) else {
+    let Some(handle) = handle_of(handles, worker.place) else {
         return Err(LinkFault::Closed);
     };
-    match hand_over(rt, alloc, handle, worker) {
-        Ok(()) => Ok(place),
-        Err(fault) => {
-            *refused = name_of(users, place);
-            Err(fault)
-        }
-    }
+    hand_over(rt, alloc, handle, users, worker, refused)
 }

@@ -1,5 +1,5 @@
 -- What lanes, builds and logins are given, by the configuration.
-use Rattle.std.specs.Prelude.{ℕ, List, map}
+use Rattle.std.specs.Prelude.{ℕ, List, map, ◌+◌}
 use Rattle.bm_config.specs.declared.config.LockConfig.{LockConfig}
 use Rattle.bm_config.specs.declared.config.WorkerConfig.{WorkerConfig}
 use Rattle.bm_link.specs.declared.user.User.{User}
@@ -7,6 +7,10 @@ use Rattle.bm_link.specs.declared.user.User.{User}
 -- how many builds each worker runs at a time
 abbrev pub slots : List WorkerConfig → List ℕ
 slots workers = map (λ w. w.slots) workers
+
+-- how many viewers each worker's lane has: one for each of its slots, and one for the web
+abbrev pub viewer_counts : List WorkerConfig → List ℕ
+viewer_counts workers = map (λ w. w.slots + 1) workers
 
 -- how many builds may hold each lock
 abbrev pub maxima : List LockConfig → List ℕ

@@ -3,21 +3,25 @@ ghost use Rattle.std.specs.Prelude.{◌≡◌, IfOk};
 ghost use Rattle.bm_session.specs.Trace.{was_taken};
 ghost use Rattle.bm_store.specs.Book.{logs};
 ghost use Rattle.bm_store.specs.Kept.{logs_in};
+ghost use Rattle.bm_lanes.specs.Totals.{totals, AreTotals};
 
 use bm_build_queue::ViewerPool;
 use bm_lane::{Ends, ReaderEnd, Settled, Viewer, WriterEnd, Yard, same_lane, settle};
 use std::alloc::{AllocError, Global};
 use std::sync::{Mutex, Wait};
+use thiserror::Error;
 
 /// How often a lane is settled where memory is wanting.
 const TRIES: usize = 3;
 
 /// Why a lane could not be settled.
-#[derive(Clone, Copy, PartialEq, Eq)]
+#[derive(Clone, Copy, Debug, PartialEq, Eq, Error)]
 pub enum SettleError {
     /// The ends are not those of one lane, or one of them is missing.
+    #[error("not the ends of one lane")]
     Mixed,
     /// Memory is wanting.
+    #[error("out of memory")]
     Mem,
 }
 
@@ -78,11 +82,14 @@ pub struct LaneTotals {
 }
 
 /// Settles the lanes in order. For each there is what it had, or why it could not be settled.
+#[tactic(auto, using(crate::proofs::Totalling::totals_pushed))]
 pub fn settle_all<Y: Yard, W: Wait + Drop, R: Wait>(
     rt: &R,
     alloc: Global,
     ends: AllEnds<Y, W>,
-) -> Result<Vec<Result<LaneTotals, SettleError>>, AllocError> {
+) -> Result<Vec<Result<LaneTotals, SettleError>>, AllocError>
+    ensures { IfOk result (λ all. AreTotals ends.readers.items all.items) }
+{
     let AllEnds {
         readers,
         writers,
@@ -108,7 +115,9 @@ fn totals_of<Y: Yard, W: Wait + Drop, R: Wait>(
     reader: ReaderEnd<Y>,
     writer: Option<Mutex<WriterEnd<Y, W>>>,
     viewers: Result<Vec<Viewer<Y>>, SettleError>,
-) -> Result<LaneTotals, SettleError> {
+) -> Result<LaneTotals, SettleError>
+    ensures { IfOk result (λ had. had ≡ totals reader.trace) }
+{
     let Some(writer) = writer else {
         return Err(SettleError::Mixed);
     };

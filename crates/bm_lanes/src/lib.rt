@@ -1,10 +1,10 @@
 //! The lanes of a build master as a whole: opened, dealt to those who own their ends, and settled.
 //!
 //! [`open_all`] opens a lane for each worker, [`deal`] gives each end to its owner, and [`settle_all`]
-//! closes the lanes once every end is back. Nothing here knows threads or processes. Proved: that
-//! the web's viewers stand in the lanes' order, and that a settled lane's logs are those of all that
-//! was heard. How many viewers `open_all` gives a lane, and what `settle_all` counts, has no clause:
-//! a body could open fewer, and tell other totals.
+//! closes the lanes once every end is back. Nothing here knows threads or processes. Proved: how
+//! many viewers a lane is opened with, that the web's viewers stand in the lanes' order, and that a
+//! settled lane's logs, and what is told of it, are those of all that was heard. How many of a lane's
+//! viewers `deal` gives to the builds has no clause: a body could give them fewer.
 #![tactic(auto)]
 
 mod all_ends;

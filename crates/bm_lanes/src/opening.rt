@@ -1,5 +1,8 @@
 //! The opening of all lanes.
 
+ghost use Rattle.std.specs.Prelude.{◌≡◌, ◌+◌, ◌<◌, ◌≤◌, IfSome, map};
+ghost use Rattle.bm_lanes.specs.ConfigLists.{viewer_counts};
+
 use crate::config_lists::MOST_SLOTS;
 use bm_config::WorkerConfig;
 use bm_lane::{Blank, open};
@@ -9,6 +12,17 @@ use std::sync::Wait;
 /// The most items that wait in a lane's queue.
 const MOST_ITEMS: u32 = 65_536;
 
+/// A blank for the lane of a worker with so many slots.
+fn open_for<W: Wait + Drop>(rt: W, alloc: Global, capacity: usize, slots: u8) -> Option<Blank<W>>
+    requires { (0 < capacity) × (capacity ≤ 65536) }
+    ensures { IfSome result (λ blank. blank.viewers ≡ slots + 1) }
+{
+    if slots > MOST_SLOTS {
+        return None;
+    }
+    open(rt, alloc, capacity, slots as usize + 1).ok()
+}
+
 /// A blank for each worker: its queue takes so many items, and it has a viewer for each of the
 /// worker's slots and one for the web. None where memory is wanting, or a number is out of its
 /// limits.
@@ -17,17 +31,16 @@ pub fn open_all<W: Wait + Copy + Drop>(
     alloc: Global,
     capacity: u32,
     workers: &[WorkerConfig],
-) -> Option<Vec<Blank<W>>> {
+) -> Option<Vec<Blank<W>>>
+    ensures { IfSome result
+        (λ blanks. map (λ b. b.viewers) blanks.items ≡ viewer_counts workers.now) }
+{
     if capacity == 0 || capacity > MOST_ITEMS {
         return None;
     }
     let mut blanks = Vec::new(alloc);
     for worker in workers {
-        if worker.slots > MOST_SLOTS {
-            return None;
-        }
-        let viewers = worker.slots as usize + 1;
-        let blank = open(rt, alloc, capacity as usize, viewers).ok()?;
+        let blank = open_for(rt, alloc, capacity as usize, worker.slots)?;
         if blanks.push(blank).is_err() {
             return None;
         }

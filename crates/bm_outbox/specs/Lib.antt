@@ -1,5 +1,5 @@
--- A reader has to believe these. Items and Telling: what waits to be told, in which order, and what
--- telling it does to the worker's core. Turns: of which command is told next.
+-- A reader has to believe these. OutboxEntries and Telling: what waits to be told, in which order,
+-- and what telling it does to the worker's core. Turns: of which command is told next.
 pub mod OutboxEntries
 pub mod Telling
 pub mod Turns

@@ -6,7 +6,7 @@
 //! exit code is told of the command whose pipes have both ended.
 //!
 //! A body could still leave mail lying, read no pipe, or never come back: a thread, a pipe and a
-//! process have no contract, and the tests of `crew_tests` and of the programs stand in for that.
+//! process have no contract, and the tests of `worker_tests` and of the programs stand in for that.
 #![tactic(auto)]
 
 mod arguments;
