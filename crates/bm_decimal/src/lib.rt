@@ -1,4 +1,10 @@
 //! Decimal numbers below 2^64, as command lines, requests and standard input write them.
+//!
+//! A number is one or more of the digits 0 to 9. Leading zeros are allowed; a sign, a space or any
+//! other character is not. No call takes memory.
+//!
+//! Promised: each call answers the number that its text writes, and `None` exactly where the text
+//! writes none below 2^64. A body could give no other answer.
 #![tactic(auto)]
 
 ghost use Rattle.std.specs.Prelude.{◌≡◌};

@@ -23,8 +23,8 @@ pub record Heard : Type 0 where
   pub trace : List Event
   pub put : List Item
 
--- a writer's end: how many viewers its lane has, the items that were taken from the queue, those
--- that viewers are shown, those held until there is memory, and what the published book keeps
+-- a writer's end: how many viewers its lane has, and what the published book keeps; the items that
+-- were taken from the queue. Of these some are shown to viewers, others held until there is memory.
 pub record Written : Type 0 where
   pub lane : ℕ
   pub viewers : ℕ

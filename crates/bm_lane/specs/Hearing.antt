@@ -8,8 +8,8 @@ use Rattle.bm_lane.specs.declared.refusals.HearRefusal.{HearRefusal}
 use Rattle.bm_lane.specs.declared.refusals.HearRefusal.TheVariants.{Session, Busy}
 use Rattle.bm_lane.specs.Ends.{Heard}
 
--- why the event is not taken: the trace refuses it, or memory is wanting; or it would give an item,
--- and the queue has been given all that it takes at once
+-- Why the event is not taken. Session: the trace refuses it, or memory is wanting. Busy: it would
+-- give an item, and the queue has been given all that it takes at once.
 abbrev pub Refuses : Heard → Event → HearRefusal → Type 0
 Refuses h e (Session why) =
     (refusal h.trace e ≡ Some why) ⊎ ((refusal h.trace e ≡ None) × (why ≡ Mem))

@@ -8,8 +8,8 @@ use Rattle.bm_store.specs.Book.{chunk_of}
 use Rattle.bm_store.specs.Laws.{look_at}
 use Rattle.bm_lane.specs.Answers.{lines_of_book}
 
--- who has seen a beginning of the trace's items was answered from the prefix of the trace with so
--- many items: the asked slice of the log as it stood there
+-- Who has seen a beginning of the trace's items was answered from the prefix of the trace with so
+-- many items. The answer is the asked slice of the log as it stood there.
 abbrev pub ChunksAreOfTheTrace : Type 0
 ChunksAreOfTheTrace =
     (t : Trace) (seen : List Item) (k : ℕ) (name : Name) (off lim : ℕ) → was_taken t ≡ true

@@ -1,6 +1,6 @@
--- A reader has to believe Ends, what contracts see of a lane; Hearing, what comes of an event;
--- Drains; Answers and Looks, what a viewer is answered; Placed, many lanes at once; Tallies, what a
--- pool counts; and Laws.
+-- A reader has to believe Ends, what contracts see of a lane, and Hearing, what comes of an event.
+-- The same goes for Drains, and for Answers and Looks, what a viewer is answered. It goes for
+-- Placed, many lanes at once, for Tallies, what a pool counts, and for Laws.
 pub mod Ends
 pub mod Hearing
 pub mod Drains
@@ -9,8 +9,8 @@ pub mod Looks
 pub mod Placed
 pub mod Tallies
 pub mod Laws
--- The others only help proofs: the rules of the queue, of the history and of the published copy,
--- and what the parts of an end are to a contract.
+-- The others only help proofs: the rules of the queue, of the history and of the published copy.
+-- They also say what the parts of an end are to a contract.
 pub mod Additions
 pub mod Copies
 pub mod Fronts

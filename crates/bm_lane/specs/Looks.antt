@@ -13,8 +13,8 @@ use Rattle.bm_store.specs.Portions.{LooksAtPortion}
 use Rattle.bm_lane.specs.Answers.{Answered, told, lines_of_book, state_of_book}
 use Rattle.bm_lane.specs.Ends.{Watched}
 
--- a viewer went from one sight to the next, which is no less, and answered what is said of that; or
--- else Closed, and nothing changed
+-- A viewer now has seen no less than before, and answered what is said of that. Or else it answered
+-- Closed, and nothing changed.
 pub record Looks {A : Type 0} (old new : Watched) (r : Result A ViewRefusal) (said : List Item
     → Type 0) : Type 0 where
   pub lane : new.lane ≡ old.lane

@@ -2,10 +2,11 @@
 
 ghost use Rattle.bm_lane.specs.Laws.{ChunksAreOfTheTrace};
 
-/// What a viewer was answered from items that begin the items of a trace is the asked slice of a
-/// log of a prefix of that trace. After [`settle`](crate::settle) this holds of each viewer and
-/// each of its chunks: what it had seen then was no more than what it has seen at the end, which
-/// begins the trace's items.
+/// A viewer that had seen a beginning of a trace's items was answered the asked slice of a log.
+/// That log is one of a prefix of the trace.
+///
+/// After [`settle`](crate::settle) this holds of each viewer and each of its chunks. What it had
+/// seen then begins what it has seen at the end, and that begins the trace's items.
 pub fn chunks_are_of_the_trace()
     ensures { ChunksAreOfTheTrace }
 {}

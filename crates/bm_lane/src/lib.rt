@@ -1,11 +1,11 @@
-//! A lane for running threads: a reader's end that takes the events of a worker's connection, a
-//! writer's end that shows their items to viewers, and viewers that never wait.
+//! A lane for running threads. Its reader's end takes the events of a worker's connection, its
+//! writer's end shows their items to viewers, and viewers never wait.
 //!
-//! An event's item goes through a bounded queue from the reader's end to the writer's, which
-//! publishes the book of all that it showed; viewers read the published book without a lock.
+//! An event's item goes through a bounded queue from the reader's end to the writer's. That end
+//! publishes the book of all that it showed, and viewers read the published book without a lock.
 //!
 //! Promised: what viewers see is a beginning of the items of the lane's trace, never less than
-//! before, and [`settle`] ties all ends to one trace. A body could still be busy though its queue has
+//! before. [`settle`] ties all ends to one trace. A body could still be busy though its queue has
 //! room by now, want memory, and drain nothing: tests find these.
 #![tactic(auto)]
 

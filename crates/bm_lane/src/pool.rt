@@ -176,7 +176,7 @@ fn report<R: Threads>(rt: &R, workers: Vec<PromisedHandle<Tally, Within>>, turns
 }
 
 /// So many threads drain these lanes. Worker w begins at lane w, modulo the number of lanes, and
-/// goes round; it ends where its gate says so, or after so many turns. Each drain that took an item
+/// goes round. It ends where its gate says so, or after so many turns. Each drain that took an item
 /// or met want of memory is counted once.
 ///
 /// After `Spawn` the workers that were started have ended, and what they drained stays drained;

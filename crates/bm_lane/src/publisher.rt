@@ -16,6 +16,7 @@ use std::alloc::AllocError;
 use std::marker::Model;
 use std::sync::Wait;
 
+/// The writing side of the published copy: it applies additions, which readers then see.
 pub type CopyWriter = Writer<Published, Addition, Sight, Grows>;
 
 /// The end of the history, the copy that viewers see, and the addition that the copy had no memory

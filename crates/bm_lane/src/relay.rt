@@ -85,6 +85,8 @@ impl Lesson<Item, Hand> for Whole {
     ghost fact = { λ v items. v.put ≡ v.taken ++ items };
 }
 
+/// The bounded queue of a lane's items, by the rule [`InOrder`].
 pub type ItemQueue = RuledArrayQueue<Item, Hand, InOrder>;
 
+/// An end's leave to put into such a queue or to take out of it, as its [`Hand`] says.
 pub type ItemPass = Pass<Item, Hand>;

@@ -65,8 +65,8 @@ pub fn same_lane<Y: Yard, R: Wait + Drop>(
         && viewers.iter().all(|viewer| viewer.lane() == lane)
 }
 
-/// Drains what is left, and ends the lane: its trace, the book of the whole trace, and how many of
-/// the trace's items each viewer had seen.
+/// Drains what is left, and ends the lane. It answers the trace, the book of the whole trace, and
+/// how many of the trace's items each viewer had seen.
 ///
 /// At want of memory the ends come back, and what was drained stays drained.
 #[tactic(auto, using(crate::proofs::Prefixes::prefix_self))]

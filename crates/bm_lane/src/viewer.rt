@@ -47,9 +47,9 @@ impl<Y: Yard> Viewer<Y> {
         }
     }
 
-    /// The lines at the places from `offset` up to `offset` + `limit` of the log of a command under
-    /// a name, as far as it goes: of the book of what the viewer has then seen, which is no less
-    /// than before.
+    /// The lines of the log of a command under a name from the place `offset` on, `limit` at most,
+    /// as far as the log goes. The log is that of the book of what the viewer has then seen, which
+    /// is no less than before.
     ///
     /// `NoLog` where that log isn't there. After `Mem` the viewer may have seen more; after
     /// `Closed`, where the copy couldn't be entered, nothing changed.
@@ -103,8 +103,8 @@ impl<Y: Yard> Viewer<Y> {
         }
     }
 
-    /// How many lines the log of a command under a name has, and how the command ended: in the book
-    /// of what the viewer has then seen, which is no less than before.
+    /// How many lines the log of a command under a name has, and how the command ended. Both are of
+    /// the book of what the viewer has then seen, which is no less than before.
     ///
     /// `NoLog` where that log isn't there. After `Closed`, where the copy couldn't be entered,
     /// nothing changed.
@@ -138,8 +138,8 @@ impl<Y: Yard> Viewer<Y> {
         Mark::over(self.lane, self.window.front().again(), self.window.count())
     }
 
-    /// Whether it is of a mark's lane and has seen no less than the mark. Of the viewer that made the
-    /// mark that is always so.
+    /// Whether it is of a mark's lane and has seen no less than the mark. Of the viewer that made
+    /// the mark that is always so.
     pub fn has_seen(&self, mark: &Mark<Y>) -> bool
         ensures { IsTrue result
             → (self.now.lane ≡ mark.now.lane) × IsPrefix mark.now.seen self.now.seen }

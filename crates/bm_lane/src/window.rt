@@ -11,6 +11,7 @@ use core::mem::replace_with;
 use left_right::reader::Reader;
 use std::marker::{Model, PhantomData};
 
+/// The reading side of the published copy, of which each viewer has one.
 pub type CopyReader = Reader<Published, Sight, Grows>;
 
 /// What was seen, and the answer.

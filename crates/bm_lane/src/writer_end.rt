@@ -26,8 +26,8 @@ pub enum Drained {
 /// The writer's end of a lane: it takes items out of the queue and shows them to the viewers, one
 /// by one.
 ///
-/// At all times what it took is what was shown, and then the held item, if any; and the published
-/// book is the book of what was shown. Its drop waits for the viewers that are at a look.
+/// At all times what it took is what was shown, and then the held item, if any. The published book
+/// is the book of what was shown. Its drop waits for the viewers that are at a look.
 #[derive(Drop)]
 pub struct WriterEnd<Y: Yard, R: Wait + Drop> {
     pub(crate) lane: u64,

@@ -1,7 +1,7 @@
 //! Names for the queues and the copies of lanes.
 use std::marker::Brand;
 
-/// Names the queue and the copy of each lane, by the lane's number. It has no functions: it is
+/// Names the queue and the copy of each lane, by the lane's number. It has no functions. It is
 /// picked once for all lanes, when their blanks are made, and each end's type keeps that its own
 /// are those.
 pub trait Yard {

@@ -24,7 +24,8 @@ items_join_in_order : with_item stdio (lines_of E []) (with_item stdio (lines_of
     ≡ record { name = stdio; block = record { letter = O; text = codes "a" } ∷ record { letter = O; text = codes "b" } ∷ record { letter = H; text = codes "h" } ∷ [] } ∷ []
 items_join_in_order = refl
 
--- standard output "a\n", an item of the log stdio "s\n", standard error "b\n", and an item of the log l without a line
+-- standard output "a\n", an item of the log stdio "s\n", standard error "b\n", and an item of the
+-- log l without a line
 abbrev four_items : List LogLines
 four_items = with_item (codes "l") [] (with_item stdio (lines_of E (98 ∷ 10 ∷ [])) (with_item stdio (lines_of O (115 ∷ 10 ∷ [])) (with_item stdio (lines_of O (97 ∷ 10 ∷ [])) [])))
 

@@ -62,7 +62,8 @@ impl Block {
         self.lines.extend(self.alloc, &more)
     }
 
-    /// Appends the lines of another block. Where other blocks share the old lines, they keep theirs.
+    /// Appends the lines of another block. Where other blocks share the old lines, they keep
+    /// theirs.
     pub fn extend(&mut self, other: &Block) -> Result<(), AllocError>
         ensures ok { OnOk result (self.new ≡ self.old ++ other.now) }
         ensures err { OnErr result (self.new ≡ self.old) }

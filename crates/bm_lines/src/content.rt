@@ -62,7 +62,8 @@ impl Content {
         self.begins.len() + 1
     }
 
-    /// Where the line with this number begins in the text, and where the text ends if there is none.
+    /// Where the line with this number begins in the text, and where the text ends if there is
+    /// none.
     fn begin(&self, number: usize) -> usize
         ensures place { result ≡ length (content_of (take number self.now)) }
     {

@@ -3,9 +3,9 @@
 //! A log of type `s` in the Buildbot manual is a list of lines, each behind a letter for the stream
 //! that it came from.
 //!
-//! Promised: a text is cut at its line ends alone, and a block has just the lines that were added, in
-//! order. A batch has each name once, with all of its lines. A body could still want memory, and copy
-//! lines where it should share them.
+//! Promised: a text is cut at its line ends alone, and a block has just the lines that were added,
+//! in order. A batch has each name once, with all of its lines. A body could still want memory, and
+//! copy lines where it should share them.
 #![tactic(auto)]
 
 mod block;

@@ -12,8 +12,8 @@ use memchr::memchr;
 use std::alloc::{AllocError, Global};
 use std::sync::Arc;
 
-/// Lines that are shared. A line by itself, as most updates carry, has no room for a list of places,
-/// and is counted without a look at it.
+/// Lines that are shared. A line by itself, as most updates carry, has no room for a list of
+/// places, and is counted without a look at it.
 #[derive(Drop)]
 pub enum Shared {
     /// No line.

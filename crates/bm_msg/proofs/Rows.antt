@@ -52,7 +52,8 @@ nameless_log_is_refused = refl
 log_without_text_is_refused : item_fields (named_item (array (item (str (codes "l")) none))) ≡ None
 log_without_text_is_refused = refl
 
--- standard output "a\n", an item of the log stdio "s\n", standard error "b\n", and an item of the log l without a line
+-- standard output "a\n", an item of the log stdio "s\n", standard error "b\n", and an item of the
+-- log l without a line
 fields_join_by_name : carried (Text O (97 ∷ 10 ∷ []) ∷ Named stdio (115 ∷ 10 ∷ []) ∷ Text E (98 ∷ 10 ∷ []) ∷ Named (codes "l") [] ∷ Rc (pos 3) ∷ [])
     ≡ record { name = stdio; block = record { letter = O; text = codes "a" } ∷ record { letter = O; text = codes "s" } ∷ record { letter = E; text = codes "b" } ∷ [] }
     ∷ record { name = codes "l"; block = [] } ∷ []

@@ -56,6 +56,7 @@ impl Fields {
         }
     }
 
+    /// The items of a vector, in order.
     pub fn from_vec(vec: Vec<Field>) -> Fields
         ensures { result ≡ vec.items }
     {
@@ -70,6 +71,7 @@ impl Fields {
         vec
     }
 
+    /// The items, in order.
     pub fn as_slice(&self) -> &[Field]
         ensures { result.now ≡ self.now }
     {

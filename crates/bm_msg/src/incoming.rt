@@ -28,7 +28,7 @@ impl Incoming {
     /// # Errors
     ///
     /// The first reason why the value says nothing, whatever memory there is: `NotMap`, `NoSeq` or
-    /// `NoOp`; `Mem` where it is a message and memory ran out.
+    /// `NoOp`. `Mem` where it is a message and memory ran out.
     pub fn read<A: Allocator>(alloc: Global, value: &Value<A>) -> Result<Incoming, MsgError>
         // What is answered is what the value says.
         ensures found { IfOk result (λ i. Says (tree value.now) (said i)) }

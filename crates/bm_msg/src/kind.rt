@@ -18,6 +18,8 @@ pub enum Kind {
     Other,
 }
 
+/// The operation that the Buildbot manual's protocol has under this name; `Other` where it has
+/// none. The name `response` is no request's, and `Other` too.
 pub fn kind_of(op: &str) -> Kind
     ensures { result ≡ kind_of op.now }
 {

@@ -7,9 +7,9 @@ pub fn told_once()
     ensures { ToldOnce }
 {}
 
-/// The tree that a message is written as is that message, where a command's number is below 2^63,
-/// an unknown operation is none of the protocol, an exception's result is a str, and a session has
-/// 1 to 64 bytes.
+/// The tree that a message is written as is that message, under these conditions. Its number and
+/// its command's are below 2^63, an unknown operation is none of the protocol, and a session has 1
+/// to 64 bytes. An exception's result is a str, and a log's name has 1 to 255 bytes.
 pub fn written_is_message()
     ensures { WrittenIsMessage }
 {}

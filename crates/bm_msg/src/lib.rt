@@ -5,8 +5,8 @@
 //! WebSocket. The items of an update, the item `log` and the key `session` of `auth` are this
 //! project's profile.
 //!
-//! Promised: `read` gives just the message that a tree is, or the first fault. What is written is read
-//! back as the same message. A body could still want memory.
+//! Promised: `read` gives just the message that a tree is, or the first fault. What is written is
+//! read back as the same message. A body could still want memory.
 #![tactic(auto)]
 
 mod fault;

@@ -259,7 +259,7 @@ fn by_keys<A: Allocator>(alloc: Global, message: &Value<A>) -> Result<Message, M
 /// # Errors
 ///
 /// The first reason why the value is no message, in the order of [`MsgError`], whatever memory
-/// there is; `Mem` where it is one and memory ran out.
+/// there is. `Mem` where it is one and memory ran out.
 pub fn read<A: Allocator>(alloc: Global, message: &Value<A>) -> Result<Message, MsgError>
     // What is answered is the message that the value is.
     ensures found { IfOk result (λ m. IsMessage (tree message.now) (meaning m)) }

@@ -268,7 +268,7 @@ fn write_message(alloc: Global, message: Outgoing) -> Result<Vec<u8>, EncodeErro
 }
 
 /// The written form of a request: the number, the operation and its keys in the order of the
-/// Buildbot manual's protocol, each value in the format with the fewest bytes. What is written is
+/// Buildbot manual's protocol. Each value has the format with the fewest bytes. What is written is
 /// read back, whatever follows it.
 ///
 /// # Errors

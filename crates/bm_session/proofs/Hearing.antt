@@ -34,7 +34,6 @@ use Rattle.bm_session.specs.Trace.{Trace, below, commands, is_up, is_new, is_fre
 use Rattle.bm_session.specs.Table.{IsTable, start_order, open_entry, outcome_from, with_told, ends_as, asks}
 
 -- An exit code
-
 entry-Update : (t : Trace) (n j : ℕ) (batch : List LogLines) (z : ℤ) (k : ℕ) → is_new t n ≡ true → is_open t k ≡ true
     → with_told j (result_of_rc (Some z)) (open_entry t k) ≡ open_entry (t ++ In n (Update j batch (Some z)) ∷ []) k
 entry-Update t n j batch z k new o =
@@ -62,8 +61,6 @@ heard-code tb tb' t n j batch z is new e-open e-outcomes = record {
       ap (λ os. outcome_from (get_or os k None) (is_open (t ++ In n (Update j batch (Some z)) ∷ []) k)) e-outcomes
       ∙ ended-keep tb t (In n (Update j batch (Some z))) is refl (λ k o. ends-nothing t n (Update j batch (Some z)) k refl) k l;
 }
-
--- An end
 
 -- the event ends command k0 and no other open one
 pub record IsEnded (t : Trace) (e : Event) (k0 : ℕ) : Type 0 where
@@ -165,7 +162,6 @@ pub result-ends_as : (t : Trace) (n : ℕ) (body : Body) (k : ℕ) (fault : Bool
 result-ends_as t n body k fault e = ap (ends_as (open_entry t k)) (sym e)
 
 -- Numbers
-
 request-asks : (m n : ℕ) (body : Body) → is_request m (In n body) ≡ (asks body && (n == m))
 request-asks m n (Answered f) = refl
 request-asks m n body = refl
@@ -216,7 +212,6 @@ had-fresh tb rs t n body is up r new holds m =
         ∙ sym (ap (λ b. option_or (seen t m) (cond b (Some (verdict t (In n body))) None)) e ∙ kept-none (seen t m))
 
 -- What a message ends, as the code finds it
-
 pub ended-Complete : (tb : Table) (t : Trace) (n j : ℕ) (f : Bool) (r : Option Open) → IsTable tb t → is_new t n ≡ true → r ≡ find (λ (o : Open). j == o.command) tb.opened.items → r ≡ option_map (open_entry t) (ended_by t (In n (Complete j f)))
 ended-Complete tb t n j f r is new e = e ∙ sym (ap (λ b. cond b (find (λ (o : Open). j == o.command) tb.opened.items) None) new) ∙ ended-complete tb t n j f is
 
@@ -242,9 +237,7 @@ item-end t n body x fault r e f is =
     ∙ ap (λ y. Some (End found.0 y)) (is ∙ ap (λ o. ends_as o fault) (sym found.2) ∙ result-ends_as t n body found.0 fault (sym f))
     ∙ sym (item-ended t n body found.0 found.1)
 
--- What is taken, as the code takes it
-
--- an entry that was found is that of an open command
+-- What is taken, as the code takes it: an entry that was found is that of an open command
 pub listed-inside : (tb : Table) (t : Trace) (p : Open → Bool) (x : Open) → IsTable tb t → find p tb.opened.items ≡ Some x → x.command < length tb.outcomes.items
 listed-inside tb t p x is e =
     let found = found-entry t (find (λ k. p (open_entry t k)) (open_commands t)) x (sym (find-map (open_entry t) p (open_commands t)) ∙ ap (find p) (sym is.listed) ∙ e) in
@@ -328,7 +321,6 @@ untaken-refusal tb tb' t n is up e same =
     none-ends k o = unfound t (In n (Answered true)) (empty (ended_by t (In n (Answered true))) (sym (ended-refusal tb t n is) ∙ e)) k o
 
 -- Fresh requests
-
 had-insert : (tb : Table) (rs : List Seen) (t : Trace) (n : ℕ) (body : Body) (v : Verdict) → IsTable tb t → is_up t ≡ true → asks body ≡ true → verdict_in tb.seen.ranges n ≡ None → v ≡ verdict t (In n body) → HoldsAlso tb.seen.ranges rs n v → (m : ℕ) → verdict_in rs m ≡ seen (t ++ In n body ∷ []) m
 had-insert tb rs t n body v is up a new e holds = had-fresh tb rs t n body is up a new (subst (HoldsAlso tb.seen.ranges rs n) e holds)
 
@@ -378,7 +370,6 @@ pub complete-none : (tb : Table) (t : Trace) (n j : ℕ) (f : Bool) → IsTable 
 complete-none tb t n j f is up new none = empty-entry t (ended_by t (In n (Complete j f))) (sym (ended-Complete tb t n j f (find (λ (o : Open). j == o.command) tb.opened.items) is (fresh-new tb t n is up new) refl) ∙ none)
 
 -- Messages that change nothing
-
 pub taken-response : (tb : Table) (t : Trace) (n : ℕ) → IsTable tb t → is_up t ≡ true → IsTable tb (t ++ In n (Answered false) ∷ [])
 taken-response tb t n is up =
     table-In tb tb t n (Answered false) is refl refl

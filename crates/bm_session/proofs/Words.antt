@@ -1,4 +1,5 @@
--- The numbers that were had and the orders without an answer, where one event comes after the trace.
+-- The numbers that were had and the orders without an answer, where one event comes after the
+-- trace.
 use Rattle.std.proofs.Common.{◌≡◌, refl, ◌∙◌, ap, ℕ, Bool, true, false, cond, not, ◌||◌, ◌&&◌, List, [], ◌∷◌, ◌++◌, Some, None}
 use Rattle.std.specs.Prelude.{option_map, filter}
 use Rattle.std.specs.List.{list_any}

@@ -26,8 +26,8 @@ EventsAreNumbered = (t : Tree) (e : Event) → IsEvent t e → IsNumbered e
 abbrev pub next_place : Trace → Event → Moment
 next_place t e = record { past = t; event = e }
 
--- the orders without an answer where the event comes next: none where a session begins; else those
--- that it doesn't answer, and the event itself where it is an order
+-- The orders without an answer where the event comes next. There are none where a session begins.
+-- Else they are those that it doesn't answer, and the event itself where it is an order.
 abbrev pub pending_after : Trace → Event → List Moment
 pending_after t e =
     if begins_session (next_place t e) then []

@@ -14,8 +14,8 @@ pub record Lane : Type 0 where
   pub trace : List Event
   pub room : ℕ
 
--- each event was taken; while the lane is up there is room for a Cut and the Down after it, and
--- while it is cut for its Down
+-- Each event was taken. While the lane is up there is room for a Cut and the Down after it. While
+-- it is cut there is room for its Down.
 pub record IsLane (s : Lane) : Type 0 where
   pub taken : was_taken s.trace ≡ true
   pub while_up : is_up s.trace ≡ true → 2 ≤ s.room

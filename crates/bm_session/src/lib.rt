@@ -3,9 +3,9 @@
 //! An event is taken in two steps. [`Session::ready`] decides, takes all memory that is needed, and
 //! gives a [`Plan`]; [`Session::commit`] then can't fail, and [`Session::withdraw`] does nothing.
 //!
-//! Promised: an event is taken or refused just as the trace before it says. Replies, items, logs and
-//! outcomes are those of the trace, and a cut or a giving up takes no memory. A body could still want
-//! memory for all else.
+//! Promised: an event is taken or refused just as the trace before it says. Replies, items, logs
+//! and outcomes are those of the trace, and a cut or a giving up takes no memory. A body could
+//! still want memory for all else.
 #![tactic(auto)]
 
 mod carried;

@@ -41,6 +41,7 @@ impl Ranges {
         }
     }
 
+    /// The ranges, sorted. No two overlap or could be one.
     pub fn as_slice(&self) -> &[Seen]
         ensures ranges { result.now ≡ self.now.ranges }
         ensures merged { IsMerged self.now.ranges }

@@ -21,8 +21,8 @@ use std::marker::Model;
 
 /// A lane's session: the events that it took, and the table of what they mean.
 ///
-/// While it is up it has room for two events more, and while it is cut for one, so that it can be
-/// cut and given up without memory.
+/// While it is up it has room for two events more, and while it is cut for one. So it can be cut
+/// and given up without memory.
 #[derive(Drop)]
 pub struct Session {
     events: Vec<Event>,

@@ -73,9 +73,9 @@ pub asked-next : (ps : List Placed) (i : ℕ) (p : Placed) (skip left : ℕ) →
     → asked ps i skip left ≡ slice p.block skip left ++ asked ps (i + 1) (skip - length p.block) (left - length (slice p.block skip left))
 asked-next ps i p skip left h = ap (λ qs. slice (joined (map block_at qs)) skip left) (drop-next ps i p h) ∙ slice-both p.block (joined (map block_at (drop (i + 1) ps))) skip left
 
--- what was gathered is the first part of what was asked of the blocks from a place on, and the rest is
--- still asked; the text of all, behind its first bytes, is what was appended and the text of the rest,
--- behind its own first bytes
+-- What was gathered is the first part of what was asked of the blocks from a place on, and the
+-- rest is still asked. The text of all, behind its first bytes, is what was appended and then the
+-- text of the rest, behind its own first bytes.
 pub record IsGathering (ps : List Placed) (from i before left skip before' limit skip' : ℕ) (out old : List ℕ) : Type 0 where
   pub gathered : List Line
   pub parts : asked ps from before' limit ≡ gathered ++ asked ps i before left

@@ -14,8 +14,8 @@ abbrev pub LooksAt : Result Chunk ViewRefusal → ℕ → Option (List Line) →
 LooksAt r off asked =
     MatchOption asked (r ≡ Err NoLog) (λ lines. (r ≡ Ok (chunk_of off lines)) ⊎ (r ≡ Err Mem))
 
--- of the text of the asked lines, behind its first `skip` bytes: its first bytes, `most` at most, and
--- where the rest begins, or that it is all
+-- A portion of the text of the asked lines, behind its first `skip` bytes. It has the first bytes
+-- of that, `most` at most, and tells where the rest begins, or that it is all.
 pub record IsPortion (lines : List Line) (off lim skip most : ℕ) (p : Portion) : Type 0 where
   pub few : p.lines ≤ lim
   pub short : length p.content ≤ most

@@ -85,8 +85,8 @@ impl Book {
         }
     }
 
-    /// Takes an item. One that doesn't count changes nothing: an `Open` whose number isn't that of
-    /// the next command, `Lines` and an `End` of a command that isn't open.
+    /// Takes an item. One that doesn't count changes nothing. Such are an `Open` whose number isn't
+    /// that of the next command, and `Lines` and an `End` of a command that isn't open.
     ///
     /// Out of memory, nothing has changed.
     pub fn apply(&mut self, item: &Item) -> Result<(), AllocError>
@@ -134,8 +134,8 @@ impl Book {
         self.commands.as_slice().get(k as usize)
     }
 
-    /// The blocks of a log with their places, or None where the log isn't there: `stdio` is there
-    /// from the start of its command, another one from its first block.
+    /// The blocks of a log with their places, or None where the log isn't there. The log `stdio` is
+    /// there from the start of its command, another one from its first block.
     pub fn blocks(&self, k: u64, name: &str) -> Option<&[Placed]>
         ensures { option_copied result ≡ placed_in (logs_in self.now) k name.now }
     {
@@ -155,8 +155,9 @@ impl Book {
         }
     }
 
-    /// The lines of a log from the place `offset` on, `limit` at most, as far as the log goes: a
-    /// place at or behind its end gives none. `NoLog` where the log isn't there.
+    /// The lines of a log from the place `offset` on, `limit` at most, as far as the log goes. A
+    /// place at or behind its end gives none. `NoLog` where the log isn't there, and `Mem` where
+    /// memory is wanting.
     pub fn slice(&self, k: u64, name: &str, offset: u64, limit: u64) -> Result<Chunk, ViewRefusal>
         ensures { LooksAt result offset (chunk_in (logs_in self.now) k name.now offset limit) }
     {

@@ -12,8 +12,8 @@ use crate::placed::Placed;
 use bm_lines::{Block, Text};
 use std::alloc::{AllocError, Global};
 
-/// The place of the last block that begins at or before the line `offset` (0 where there is none),
-/// and how many of its lines stand before that line.
+/// The place of the last block that begins at or before the line `offset`, or 0 without blocks.
+/// Also how many lines stand before that line, counted from the block's first.
 pub fn seek(blocks: &[Placed], offset: u64) -> (usize, u64)
     requires { blocks.now ≡ placed (map block_at blocks.now) }
     ensures inside { result.0 ≤ length blocks.now }
@@ -44,8 +44,8 @@ pub fn lines_of_part(block: &Block, skip: u64, limit: u64) -> u64
     (block.len() as u64).saturating_sub(skip).min(limit)
 }
 
-/// Appends the content of the lines of the blocks from the place `start` on, behind the first
-/// `skip`, of `limit` lines at most, and counts them.
+/// Appends the content of lines, and counts them. They are those of the blocks from the place
+/// `start` on, behind the first `skip` lines, `limit` at most.
 fn gather(
     out: &mut String,
     blocks: &[Placed],

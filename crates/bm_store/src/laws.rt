@@ -3,8 +3,8 @@
 ghost use Rattle.bm_store.specs.Laws.{BooksHaveTheLogs, VisibleBooksHaveTheLogs, BooksAnswerLooks, KeptBooksMeanLogs, LogsGrow};
 
 /// Where each event of a trace was taken, the book of its items has the logs, by name, and the
-/// outcomes of the trace; the book of the first `d` items has those of the prefix that viewers see,
-/// and answers each look as it does.
+/// outcomes of the trace. The book of the first `d` items has those of the prefix that viewers see,
+/// and answers each look as that prefix does.
 pub fn books_have_the_logs()
     ensures all { BooksHaveTheLogs }
     ensures visible { VisibleBooksHaveTheLogs }

@@ -58,8 +58,8 @@ fn append_part(
     Ok(Some(skip + first.len()))
 }
 
-/// A portion of the content of the asked lines of a log whose blocks stand at their places: behind
-/// the first `skip` bytes, `most` bytes at most.
+/// A portion of the content of the asked lines of a log whose blocks stand at their places. It
+/// begins behind the first `skip` bytes, and has `most` bytes at most.
 ///
 /// An error where memory is wanting, or where `skip` lies inside of a character.
 pub fn gather_portion(

@@ -1,4 +1,5 @@
--- What reading answers, in the words of the grammar: what is read is spelled so, and a fault is there.
+-- What reading answers, in the words of the grammar: what is read is spelled so, and a fault is
+-- there.
 use Rattle.std.proofs.Common.{◌≡◌, ℕ, zero, suc, ◌*◌, ◌<◌, ◌≤◌, Bool, true, false, cond, ◌⊎◌, inl, inr, List, [], ◌∷◌, ◌++◌, length, take, Ok, Err, refl, true≢false, sym, ap, subst, ◌∙◌, append_assoc, arith}
 use Rattle.std.specs.Prelude.{ℤ, pos, Some, None}
 use Rattle.std.specs.Int.{Width, w8, w32, w64, byte_len, cast_signed}

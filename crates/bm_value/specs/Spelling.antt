@@ -24,8 +24,8 @@ abbrev pub IsLength : Size → List ℕ → ℕ → Type 0
 IsLength (size.Here k) bytes n = (bytes ≡ []) × (n ≡ k)
 IsLength (size.Field w) bytes n = IsField (width w) bytes n
 
--- What stands behind the first byte of a value with no value inside: nothing, a number's field, or
--- a length, an ext's type and so many bytes. A str's bytes are UTF-8.
+-- What stands behind the first byte of a value with no value inside. It is nothing, a number's
+-- field, or a length, an ext's type and so many bytes. A str's bytes are UTF-8.
 abbrev pub IsPlain : Plain → List ℕ → Tree → Type 0
 IsPlain plain.Nil bytes t = (bytes ≡ []) × (t ≡ nil)
 IsPlain (plain.Bool b) bytes t = (bytes ≡ []) × (t ≡ bool b)
@@ -109,8 +109,8 @@ PlainFails (plain.Str s) bytes f = ((LacksLength s bytes ⊎ LacksBytes s 0 byte
 PlainFails (plain.Bin s) bytes f = (LacksLength s bytes ⊎ LacksBytes s 0 bytes) × (f ≡ Truncated)
 PlainFails (plain.Ext s) bytes f = (LacksLength s bytes ⊎ LacksBytes s 1 bytes) × (f ≡ Truncated)
 
--- a fault behind a first byte of this row; inside says it of an array or a map, whose entries are
--- of so many values each
+-- A fault behind a first byte of this row. Of an array or a map `inside` says it, from how many
+-- values an entry has and where the count stands.
 abbrev pub FailsRow : Row → List ℕ → DecodeError → (ℕ → Size → Type 0) → Type 0
 FailsRow (rows.Plain p) bytes f inside = PlainFails p bytes f
 FailsRow rows.Reserved bytes f inside = f ≡ Reserved

@@ -27,8 +27,8 @@ pub record TreePair : Type 0 where
   pub key : Tree
   pub value : Tree
 
--- 0 for a value with no value inside; of an array or a map one more than of its deepest child, and
--- 1 where it is empty
+-- The depth is 0 for a value with no value inside. Of an array or a map it is one more than of its
+-- deepest child, and 1 where it is empty.
 abbrev mutual
   pub depth : Tree → ℕ
   depth nil = 0

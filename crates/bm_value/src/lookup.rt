@@ -33,8 +33,8 @@ fn last_with<'a, A: Allocator>(pairs: &'a Pairs<A>, key: &str) -> Option<&'a Val
 }
 
 impl<A: Allocator> Value<A> {
-    /// The value of the last pair of this map whose key is the str `key`, or `None` where there is
-    /// no such pair, and for a value that is no map. Takes no memory.
+    /// The value of the last pair of this map whose key is the str `key`. `None` where there is no
+    /// such pair, and for a value that is no map. Takes no memory.
     pub fn get(&self, key: &str) -> Option<&Value<A>>
         ensures { option_map (λ v. tree v.now) result ≡ field (tree self.now) key.now }
     {

@@ -88,7 +88,8 @@ there-later k name t t' d d' h m f p there =
     let on : IsPrefix (visible t' d) (visible t' d') = visible-grows t' d d' m f in
     ap (λ u. has_log u k name) (sym on.1) ∙ has_log-grows k name (visible t' d) on.0 (ap (λ u. has_log u k name) same ∙ there)
 
--- the law: whatever steps follow, a viewer sees a log that stays and goes on, and is a prefix of the true one
+-- the law: whatever steps follow, a viewer sees a log that stays and goes on, and is a prefix of
+-- the true one
 pub looks_never_shrink : LooksNeverShrink
 looks_never_shrink c first more k name =
     let begun : IsOn (start c) (after_steps (start c) first) = on-steps (start c) first (omega arith) in

@@ -10,8 +10,8 @@ pub fn visible_logs_grow()
     ensures whole { DrainedLogsAreWhole }
 {}
 
-/// Whatever steps follow other steps, a log that viewers see is a prefix of what they see later,
-/// and that is a prefix of the log of all events that were taken.
+/// Whatever steps follow other steps, a log that viewers see is a prefix of what they see later.
+/// That is a prefix of the log of all events that were taken.
 pub fn looks_never_shrink()
     ensures { LooksNeverShrink }
 {}

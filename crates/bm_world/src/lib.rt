@@ -1,8 +1,8 @@
-//! The core of a lane over every interleaving of its steps: a session, the queue of what its events
-//! do to the logs, and the book that viewers look at. It is the reference for `bm_lane`, for one
-//! thread, and what a replay runs.
+//! The core of a lane over every interleaving of its steps. It has a session, the queue of what its
+//! events do to the logs, and the book that viewers look at. It is the reference for `bm_lane`, for
+//! one thread, and what a replay runs.
 //!
-//! Promised: each answer is the one that the definition of a step gives, and a log that is seen is a
+//! Promised: each answer is the one that the definition of a step gives. A log that is seen is a
 //! beginning of what the session's trace says. A body could still want memory.
 #![tactic(auto)]
 

@@ -77,9 +77,9 @@ impl World {
         &self.session
     }
 
-    /// Does one step. Out of memory, the step comes back and nothing has changed; that is never so
-    /// for an event that is refused, a drain that finds no item, or a look at a log that isn't
-    /// there. It may be so where the queue is full, since a plan takes its memory first.
+    /// Does one step. Out of memory, the step comes back and nothing has changed. An event that is
+    /// refused, a drain that finds no item, and a look at a log that isn't there take no memory. An
+    /// event that finds the queue full may, since a plan takes its memory first.
     pub fn step(&mut self, step: Step) -> Result<Answer, (Step, AllocError)>
         ensures answer { IfOk result (λ a. a ≡ (stepped self.old step).0) }
         ensures after { OnOk result (self.new ≡ (stepped self.old step).1) }

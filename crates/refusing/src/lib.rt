@@ -1,16 +1,15 @@
 //! A test aid: an allocator that refuses one request, so that a test can meet want of memory at
-//! each request in turn.
-//!
-//! A sweep calls with `at` 1, 2, .. until a run leaves the allocator unspent:
+//! each request in turn. A sweep calls with `at` 1, 2, .. until a run leaves the allocator unspent:
 //!
 //! ```text
-//! for at in 1..LIMIT {
-//!     let heap = Refusing::new(alloc, at);
-//!     let answer = call(&heap);
-//!     if !heap.is_spent() { break; }
-//!     // here the call met its at-th request refused
-//! }
+//! let heap = Refusing::new(alloc, at);
+//! let answer = call(&heap);
+//! if !heap.is_spent() { break; } // else the call met its at-th request refused
 //! ```
+//!
+//! Promised: it passes as an allocator, and keeps the one that it was given. A body could still
+//! refuse another request, or none: which one is the content of a cell, and in no clause. Tests
+//! (`core_tests`, `allocator`) show it.
 #![tactic(auto)]
 
 ghost use Rattle.std.specs.Prelude.{◌≡◌};
