@@ -34,6 +34,7 @@ pub enum LaneEvent {
 
 /// Who is told what happens to a lane.
 pub trait EventSink {
+    /// This happened to the lane, after all that was told before.
     fn tell(&mut self, event: LaneEvent);
 }
 
