@@ -20,8 +20,8 @@ use Rattle.bm_lane_actor.specs.LoginRefusals.{refusal_of}
 abbrev pub connection_of : Trace → ConnectionState
 connection_of t = if is_up t then Up else (if is_cut t then Cut else Down)
 
--- what is told where no login came: a lane that was up and is cut was cut; one that was up or cut
--- and is neither was lost
+-- What is told where no login came. A lane that was up and is cut now was cut; one that was up or
+-- cut and is neither now was lost.
 abbrev pub event_after : ConnectionState → ConnectionState → LossCause → Option LaneEvent
 event_after Up Cut cause = Some (event.Cut cause)
 event_after Up Down cause = Some (event.Lost cause)

@@ -1,5 +1,5 @@
--- What the state of a lane's actor is, and what each of its calls does to the lane, by what the lane's link and
--- the lane themselves do.
+-- What the state of a lane's actor is, and what each of its calls does to the lane. That goes by
+-- what the lane's link and the lane themselves do.
 use Rattle.std.specs.Prelude.{◌≡◌, ℕ, ◌==◌, Bool, true, false, not, ◌||◌, if◌then◌else◌, List, length}
 use Rattle.std.specs.Prelude.{Option, Some, None, Result, Ok, Err}
 use Rattle.bm_session.specs.declared.refusal.Refusal.TheVariants.{Mem, Full}
@@ -32,8 +32,8 @@ use Rattle.bm_lane_actor.specs.declared.connection_state.ConnectionState.{Connec
 use Rattle.bm_lane_actor.specs.declared.connection_state.ConnectionState.TheVariants as connection
 use Rattle.bm_lane_actor.specs.LaneEvents.{connection_of}
 
--- a lane's reader's end, what the lane carries from one link to the next, the link by which it is
--- up, and how long a cut one waits for its worker
+-- a lane's reader's end, its resume state, the link by which it is up, and how long a cut one
+-- waits for its worker
 pub record LaneView (S : Type 0) : Type 0 where
   pub lane : Heard
   pub carry : Carried
@@ -60,9 +60,9 @@ counting lane t = timer_in (connection_of lane.trace) t
 abbrev pub renewed : ℕ → Heard → TimerView → TimerView
 renewed n lane t = if is_up lane.trace || not (n == length lane.trace) then begun t else t
 
--- what a build is told of a start: the command's number; to try it later where the lane is busy, or
--- the link failed and the lane took no order; or that it is refused, for a full lane with that
--- reason
+-- What a build is told of a start: the command's number, or to try it later, or that it is
+-- refused. It is tried later where the lane is busy, or the link failed and the lane took no
+-- order. A full lane refuses it with that reason.
 abbrev pub start_outcome : Bool → Result ℕ LinkFault → OrderOutcome
 start_outcome taken (Ok k) = outcome.Started k
 start_outcome taken (Err (Lane Busy)) = outcome.Later

@@ -11,7 +11,8 @@ pub mod StepMeter
 pub mod LaneEvents
 pub mod Login
 pub mod LoginRefusals
--- Ports: what a build's port to a lane is, and answers. ByteCount: how many bytes an update carries.
+-- Ports: what a build's port to a lane is, and answers. ByteCount: how many bytes an update
+-- carries.
 pub mod Ports
 pub mod ByteCount
 -- What a gate of a pool answers, and how many connections may wait for their login.

@@ -4,8 +4,8 @@ use Rattle.std.specs.Option.{option_map_or}
 use Rattle.bm_lane_actor.specs.declared.peer_timer.PeerAction.{PeerAction}
 use Rattle.bm_lane_actor.specs.declared.peer_timer.PeerAction.TheVariants as action
 
--- the count of what came from the worker, when it was first seen, whether the worker was asked
--- since, and since when another connection asks for its lane; times are in milliseconds
+-- The count of what came from the worker, and when it was first seen. Whether the worker was asked
+-- since, and since when another connection asks for its lane. Times are in milliseconds.
 pub record PeerView : Type 0 where
   pub count : ℕ
   pub since : ℕ

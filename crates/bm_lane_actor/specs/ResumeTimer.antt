@@ -2,8 +2,8 @@
 use Rattle.std.specs.Prelude.{ℕ, ◌+◌, Bool, true, false, ◌||◌, nat_lt, nat_le, if◌then◌else◌, Option, Some, None}
 use Rattle.std.specs.Option.{option_map_or}
 
--- how many ticks a worker may take to come back, how many have passed since the cut, if there was
--- one (as many as it may take, where more have), and whether nobody is awaited
+-- How many ticks a worker may take to come back. How many have passed since the cut, if there was
+-- one: as many as it may take, where more have. And whether nobody is awaited.
 pub record TimerView : Type 0 where
   pub limit : ℕ
   pub cut : Option ℕ

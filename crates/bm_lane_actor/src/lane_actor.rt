@@ -31,7 +31,7 @@ use std::time::{Clock, Duration, Instant};
 const GLANCE_MS: u64 = 500;
 
 /// How many requests are taken at most between two ticks.
-const MOST_REQUESTS: u32 = 64;
+const REQUESTS_A_TICK: u32 = 64;
 
 /// The most bytes that the arena of a lane's messages takes, and what it keeps after a message.
 const MOST_ARENA_BYTES: usize = 32 * 1_048_576;
@@ -69,11 +69,13 @@ fn arena_of(alloc: Global) -> Bump {
     arena
 }
 
-/// Serves a lane until it gets the signal `Leave`: obeys each request, hears the worker, asks it for
-/// a sign of life where it is silent, counts ticks while the lane is cut, wakes the gate after each
-/// event, and tells what happens to the lane before it takes or answers a request after that. Then
-/// the mailbox is shut, the worker is told by a close frame, the session is given up, and the lane's
-/// end comes back.
+/// Serves a lane until it gets the signal `Leave`. It obeys each request, and hears the worker. It
+/// asks a silent one for a sign of life, and counts ticks while the lane is cut. After each event
+/// it wakes the gate. What happens to the lane it tells before it takes or answers a request after
+/// that.
+///
+/// Then the mailbox is shut, the worker is told by a close frame, the session is given up, and the
+/// lane's end comes back.
 pub fn serve_lane<Y, S, T, R>(
     rt: &R,
     alloc: Global,
@@ -170,7 +172,7 @@ where
 
     /// Obeys all that was in the mailbox.
     fn takes_all(&mut self, mailbox: &Mailbox<WorkerStream<S, R>>) -> bool {
-        for _ in 0..MOST_REQUESTS {
+        for _ in 0..REQUESTS_A_TICK {
             match mailbox.look(self.rt) {
                 NextRequest::Request(request) => self.obeys(request),
                 NextRequest::Nothing => return true,
@@ -300,8 +302,8 @@ where
         }
     }
 
-    /// Starts a command. The words of a configuration are short enough; a plan by which others come
-    /// is refused here, before its order is kept to be sent again.
+    /// Starts a command. The words of a configuration are short enough. A plan by which others
+    /// come is refused here, before its order is kept to be sent again.
     fn start(&mut self, words: &Words, bytes: ByteCount, answer: &Sender<OrderOutcome, Global>) {
         let argv = words.as_slice();
         if !are_short(argv) {

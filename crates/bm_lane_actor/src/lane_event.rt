@@ -24,8 +24,8 @@ pub enum LaneEvent {
     Cut(LossCause),
     /// The session was given up for this cause: each of its open commands has ended.
     Lost(LossCause),
-    /// A login of the worker, from this address, was declined for this cause, which it was told as
-    /// `already up`, `busy` or `full`; or the answer to it could not be sent.
+    /// A login of the worker, from this address, was declined for this cause, or the answer to it
+    /// could not be sent. A declined worker was told `already up`, `busy` or `full`.
     Declined(LinkFault, SocketAddr),
     /// A command was refused, since the lane has had as many events as it may. A loss and a
     /// declined login tell that by their cause.
@@ -34,6 +34,7 @@ pub enum LaneEvent {
 
 /// Who is told what happens to a lane.
 pub trait EventSink {
+    /// This happened to the lane, after all that was told before.
     fn tell(&mut self, event: LaneEvent);
 }
 

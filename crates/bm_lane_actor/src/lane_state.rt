@@ -23,10 +23,10 @@ use std::io::{Read, Write};
 use std::marker::Model;
 use std::sync::Wait;
 
-/// A lane's reader's end, what the lane carries from one link to the next, the link by which it is
-/// up, if it is, and how long a cut one waits for its worker. The lane is up just as long as it has
-/// a link, and ticks are counted just while it is cut. What it carries are the orders of its lane
-/// that have no answer, in order, by their numbers.
+/// A lane's reader's end, its resume state, the link, if it is up, and how long a cut one waits
+/// for its worker. The lane is up just as long as it has a link, and ticks are counted just while
+/// it is cut. The resume state has the orders of its lane that have no answer, in order, by their
+/// numbers.
 #[derive(Drop)]
 pub struct LaneState<Y: Yard, S> {
     reader: ReaderEnd<Y>,
@@ -112,8 +112,8 @@ impl<Y: Yard, S> LaneState<Y, S> {
         }
     }
 
-    /// What holds of every state: what it carries are the orders of its lane that have no answer, in
-    /// order, by their numbers, so that a link which resumes the session sends just those again. It
+    /// What holds of every state: its resume state has the orders of its lane that have no answer,
+    /// in order, by their numbers. So a link which resumes the session sends just those again. It
     /// does nothing when it runs.
     pub fn carries_what_is_pending(&self)
         ensures { CarriesPending self.now.carry self.now.lane.trace }
@@ -241,8 +241,8 @@ impl<Y: Yard, S: Read + Write + Drop> LaneState<Y, S> {
         }
     }
 
-    /// Asks the worker for a sign of life, where the lane has a link. A fault of the link is told by
-    /// its next turn.
+    /// Asks the worker for a sign of life, where the lane has a link. A fault of the link is told
+    /// by its next turn.
     pub fn ping(&mut self)
         ensures { Pings S.contents self.old.link self.old self.new }
     {

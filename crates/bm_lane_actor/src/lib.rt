@@ -1,11 +1,13 @@
 //! The actor of one lane of a build master, and what works with it.
 //!
-//! A lane has one actor, in a thread of its own ([`serve_lane`]), which alone calls the lane's link.
-//! Requests and links come to it by a [`Mailbox`], and it answers each until it is told to leave.
-//! [`log_in`] brings a new connection there, [`LanePort`] a build, [`DrainGate`] lets the pool of
-//! writers sleep. What the actor decides is in [`LaneState`], and proved: what each call does to
-//! lane, link and timers, and that the orders without an answer are those sent again. The loops
-//! round it have no clauses: a body could wait too long, take a request twice or tell no event.
+//! A lane has one actor, in a thread of its own ([`serve_lane`]), which alone calls the lane's
+//! link. Requests and links come to it by a [`Mailbox`], and it answers each until it is told to
+//! leave. [`log_in`] brings a new connection there, [`LanePort`] a build, [`DrainGate`] lets the
+//! pool of writers sleep. What the actor decides is in [`LaneState`].
+//!
+//! Promised: what each call of it does to lane, link and timers, and that the orders without an
+//! answer are those sent again. The loops round it have no clauses: a body could still wait too
+//! long, take a request twice or tell no event.
 #![tactic(auto)]
 
 mod byte_count;

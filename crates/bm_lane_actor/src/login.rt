@@ -13,8 +13,8 @@ use std::io::{Read, Write};
 use std::sync::Wait;
 use std::time::Clock;
 
-/// The most bytes that the arena of a login takes: enough for all that a login may say, and so little
-/// that all connections without a login may take it at once.
+/// The most bytes that the arena of a login takes. It is enough for all that a login may say, and
+/// so little that all connections without a login may take it at once.
 const MOST_LOGIN_BYTES: usize = 2 * 1_048_576;
 
 /// How many bytes the name of a refused login may have that is told.
@@ -68,9 +68,9 @@ fn name_of(users: &[User], place: usize) -> Option<Text>
     users.get(place)?.name.copy().ok()
 }
 
-/// Hands the link of a worker that has logged in as one of these users to the actor of its own lane.
-/// The result is the number of the lane. Where the mailbox has no room the worker is told `busy`, and
-/// `refused` becomes its name.
+/// Hands the link of a worker that has logged in as one of these users to the actor of its own
+/// lane. The result is the number of the lane. Where the mailbox has no room the worker is told
+/// `busy`, and `refused` becomes its name.
 ///
 /// # Errors
 ///
@@ -107,9 +107,9 @@ fn hand_over<S: Read + Write + Drop, R: Wait + Clock>(
 ///
 /// # Errors
 ///
-/// Those of the link's `accept` and `login`; `Closed` where the lane's actor has left; `Busy` of
-/// the lane where its mailbox has no room; `Stream` also where the time is over. Nothing is left of
-/// the connection then.
+/// Those of the link's `accept` and `login`. `Closed` where the lane's actor has left. `Busy` of
+/// the lane where its mailbox has no room. `Stream` also where the time is over. Nothing is left
+/// of the connection then.
 pub fn log_in<S, R>(
     rt: &R,
     alloc: Global,

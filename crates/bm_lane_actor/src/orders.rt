@@ -93,9 +93,10 @@ fn start_refusal(outcome: OrderOutcome) -> StartRefusal
 ///
 /// # Errors
 ///
-/// `Lost` where the lane is given up, or refuses; `Full` where it has had as many events as it may;
-/// `TooLong` where the words are more than an order carries; `Cancelled` where the step doesn't always run and
-/// its build is cancelled while it waits. Nothing is started then.
+/// `Lost` where the lane is given up, or refuses. `Full` where it has had as many events as it
+/// may. `TooLong` where the words are more than an order can have. `Cancelled` where the step
+/// doesn't always run and its build is cancelled while it waits. `Memory` where that is wanting.
+/// Nothing is started then.
 pub(crate) fn start<S: Drop, R: Wait + Clock>(
     rt: &R,
     alloc: Global,

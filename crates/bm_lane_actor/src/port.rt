@@ -38,15 +38,15 @@ pub trait Watch {
     /// The step was not started. Where its build was cancelled before, that cancel is carried out.
     fn refused(&mut self, step: &StepPlan, why: StartRefusal);
 
-    /// The command ended so. `said` is what its worker said last of one that ended EXCEPTION, where
-    /// that is a line of headers behind the first, and no long one.
+    /// The command ended so. `said` is what its worker said last of one that ended EXCEPTION,
+    /// where that is a short line of headers behind the first.
     fn ended(&mut self, command: u64, outcome: Results, said: Option<Text>);
 }
 
 /// The number of no command: that of a step whose build was cancelled before it was started.
 const NO_COMMAND: u64 = u64::MAX;
 
-/// The port of a build. It asks how its command does once a tick, and waits with a start or an
+/// The port of a build. Once a tick it asks how its command does. It waits with a start or an
 /// interruption until the lane is up or was given up. It says that a command ended by a loss once
 /// the lane's actor has told of that loss. The viewer is one of the lane whose handle it has.
 #[derive(Drop)]
@@ -57,7 +57,8 @@ pub struct LanePort<'a, Y: Yard, S, R, W> {
     viewer: Viewer<Y>,
     /// Set once the build is cancelled.
     cancelled: &'a AtomicBool,
-    /// Whether a cancel came before a step that always runs: it waits for the next one that doesn't.
+    /// Whether a cancel came before a step that always runs: it waits for the next one that
+    /// doesn't.
     is_held: bool,
     /// The limits of the last step that was started.
     meter: StepMeter,
@@ -258,8 +259,8 @@ impl<'a, Y: Yard, S: Drop, R: Wait + Clock, W: Watch + Drop> LanePort<'a, Y, S, 
         }
     }
 
-    /// What is to be said of a command that was seen so a tick later: where it has reached a limit
-    /// of its step it is interrupted, and its end is waited for, but not without an end.
+    /// What is to be said of a command that was seen so, a tick later. Where it has reached a
+    /// limit of its step it is interrupted, and its end is waited for, but not for ever.
     fn limited(&mut self, k: u64, seen: Polled) -> Polled
         ensures { self.new ≡ self.old }
     {

@@ -6,8 +6,8 @@ ghost use Rattle.bm_lane_actor.specs.ResumeTimer.{begun, cut_off, dismissed, is_
 use std::marker::Model;
 
 /// How long a lane whose connection was cut waits for its worker to resume the session. A lane is
-/// given up once as many ticks have passed since the cut as its worker may take, and at once where
-/// nobody is awaited: where the worker was told to shut down, or its process ended.
+/// given up once as many ticks have passed since the cut as its worker may take. Where nobody is
+/// awaited it is given up at once: the worker was told to shut down, or its process ended.
 #[derive(Drop)]
 pub struct ResumeTimer {
     limit: u32,
@@ -38,8 +38,8 @@ impl ResumeTimer {
         }
     }
 
-    /// A connection was attached to the lane, with its session or a new one, or the lane was given up:
-    /// nothing is counted any more, and the worker is awaited again after the next cut.
+    /// A connection was attached to the lane, with its session or a new one, or the lane was given
+    /// up. Nothing is counted any more, and the worker is awaited again after the next cut.
     pub fn begin(&mut self)
         ensures { self.new ≡ begun self.old }
     {

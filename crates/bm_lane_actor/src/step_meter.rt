@@ -8,7 +8,7 @@ use bm_session::Results;
 use std::marker::Model;
 
 /// How many ticks the end of a command is waited for that was stopped at a limit.
-const MOST_WAIT: u32 = 1_000;
+const MOST_WAIT_TICKS: u32 = 1_000;
 
 /// Counts the ticks of a step's command, and tells when it has reached a limit. A limit of 0 is
 /// none.
@@ -47,8 +47,8 @@ impl StepMeter {
         }
     }
 
-    /// A tick has passed, and the command's updates have carried so many bytes by now. The result is
-    /// the limit that it thereby reaches; none where it had reached one before.
+    /// A tick has passed, and the command's updates have carried so many bytes by now. The result
+    /// is the limit that it thereby reaches; none where it had reached one before.
     pub fn tick(&mut self, bytes: u64) -> Option<StepLimit>
         ensures limit { result ≡ reached_at self.old bytes }
         ensures meter { self.new ≡ meter_after self.old bytes }
@@ -75,7 +75,7 @@ impl StepMeter {
     pub fn is_given_up(&self) -> bool
         ensures { result ≡ is_given_up self.now }
     {
-        self.reached.is_some() && self.ticks >= MOST_WAIT
+        self.reached.is_some() && self.ticks >= MOST_WAIT_TICKS
     }
 
     /// How the step ends whose command ended so: EXCEPTION where it reached a limit, unless its

@@ -50,10 +50,11 @@ impl Timed for TcpStream {
 
 /// A worker's connection. Nobody waits for its worker for long:
 ///
-/// - Until it has logged in, a read that met nothing is made again, until the time for a login is over
-///   or the master ends.
-/// - Then a read waits for a short while alone. After the time of a turn it says that nothing came,
-///   whatever comes: what was read stays with who reads, and the rest is read by the next turn.
+/// - Until it has logged in, a read that met nothing is made again, until the time for a login is
+///   over or the master ends.
+/// - Then a read waits for a short while alone. After the time of a turn it says that nothing
+///   came, whatever comes. What was read stays with who reads, and the rest is read by the next
+///   turn.
 /// - A write fails where the worker reads too slowly. Once the master ends it has a tenth of a
 ///   second.
 /// - Once the worker is given up, each call fails.
@@ -145,8 +146,8 @@ impl<S, R: Clock> WorkerStream<S, R> {
         self.is_over.load(Ordering::SeqCst)
     }
 
-    /// Whether nothing is read any more. A worker that has logged in may still be told that the master
-    /// ends.
+    /// Whether nothing is read any more. A worker that has logged in may still be told that the
+    /// master ends.
     fn is_ended(&self) -> bool {
         self.is_given_up.load(Ordering::SeqCst) || !self.is_logged_in() && self.is_over()
     }

@@ -25,7 +25,7 @@ pub enum SettleError {
     Mem,
 }
 
-/// Settles a lane whose ends are all there: its trace is what its reader's end heard, and its book
+/// Settles a lane whose ends are all there. Its trace is what its reader's end heard, and its book
 /// has the logs of all of that.
 pub fn settle_lane<Y: Yard, W: Wait + Drop, R: Wait>(
     rt: &R,

@@ -35,8 +35,8 @@ fn is_in_order<Y: Yard>(viewers: &[Viewer<Y>]) -> bool
     true
 }
 
-/// Deals the ends of new lanes out. None where memory is wanting; or where an end is missing, of
-/// another lane or not at its lane's place, or a lane isn't new, which never comes.
+/// Deals the ends of new lanes out. None where memory is wanting. None also where a lane isn't
+/// new, or an end is missing, of another lane or not at its lane's place, which never comes.
 pub fn deal<Y: Yard, W: Wait + Drop, S: Drop>(
     alloc: Global,
     workers: &[WorkerConfig],

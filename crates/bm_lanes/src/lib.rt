@@ -1,10 +1,14 @@
 //! The lanes of a build master as a whole: opened, dealt to those who own their ends, and settled.
 //!
-//! [`open_all`] opens a lane for each worker, [`deal`] gives each end to its owner, and [`settle_all`]
-//! closes the lanes once every end is back. Nothing here knows threads or processes. Proved: how
-//! many viewers a lane is opened with, that the web's viewers stand in the lanes' order, and that a
-//! settled lane's logs, and what is told of it, are those of all that was heard. How many of a lane's
-//! viewers `deal` gives to the builds has no clause: a body could give them fewer.
+//! [`open_all`] opens a lane for each worker, [`deal`] gives each end to its owner, and
+//! [`settle_all`] closes the lanes once every end is back. Nothing here knows threads or
+//! processes.
+//!
+//! Promised: how many viewers a lane is opened with, and that the web's viewers stand in the
+//! lanes' order. A settled lane's logs, and what is told of it, are those of all that was heard.
+//!
+//! How many of a lane's viewers `deal` gives to the builds has no clause: a body could still give
+//! them fewer.
 #![tactic(auto)]
 
 mod all_ends;

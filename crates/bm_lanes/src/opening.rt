@@ -23,7 +23,7 @@ fn open_for<W: Wait + Drop>(rt: W, alloc: Global, capacity: usize, slots: u8) ->
     open(rt, alloc, capacity, slots as usize + 1).ok()
 }
 
-/// A blank for each worker: its queue takes so many items, and it has a viewer for each of the
+/// A blank for each worker. Its queue takes so many items, and it has a viewer for each of the
 /// worker's slots and one for the web. None where memory is wanting, or a number is out of its
 /// limits.
 pub fn open_all<W: Wait + Copy + Drop>(

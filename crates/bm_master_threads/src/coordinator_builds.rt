@@ -55,7 +55,7 @@ where
         }
     }
 
-    /// A build's thread hands its build back.
+    /// A build's thread has ended: it hands back the build's number and result, and the viewer.
     pub fn hear_build(&mut self, finished: FinishedBuild<Y>) {
         let FinishedBuild {
             number,

@@ -25,9 +25,9 @@ pub fn failed() -> u8
     status(&[], true)
 }
 
-// The exit status of a master whose builds ended so, where each result is known. It has failed where
-// a build or a report could not be had, where its threads did not do their work to the end, or where
-// its lanes could not be settled.
+// The exit status of a master whose builds ended so, where each result is known. It has failed
+// where a build or a report could not be had. It also has where its threads did not do their work
+// to the end, or its lanes could not be settled.
 fn status_of(
     results: Option<Vec<Results>>,
     has_failed: bool,
@@ -49,8 +49,8 @@ pub fn write_line<O: Write>(alloc: Global, line: OutputLine<'_>, output: &mut O)
     line.write(alloc, output).is_ok() && output.flush().is_ok()
 }
 
-/// Settles the lanes once all threads have ended, and `logs` are served no more. The answer is the exit status: 0 only where all that
-/// was to be done was done, and each build ended well.
+/// Settles the lanes once all threads have ended, and `logs` are served no more. The answer is the
+/// exit status: 0 only where all that was to be done was done, and each build ended well.
 pub fn end<Y, R, O>(
     shared: SharedState<Y, R>,
     left: MasterLeft<Y, O>,
@@ -119,17 +119,17 @@ fn close<Y: Yard, R: Wait + Drop, O: Write + Drop>(
     let Some(ends) = ends else {
         return false;
     };
-    let Ok(tallies) = settle_all(rt, alloc, ends) else {
+    let Ok(totals) = settle_all(rt, alloc, ends) else {
         return false;
     };
-    let mut is_good = tallies.len() == workers.len();
-    for (worker, tally) in workers.iter().zip(tallies.as_slice()) {
-        match tally {
-            Ok(tally) => {
+    let mut is_good = totals.len() == workers.len();
+    for (worker, total) in workers.iter().zip(totals.as_slice()) {
+        match total {
+            Ok(total) => {
                 let lane = OutputLine::Lane {
                     name: worker.name.as_str(),
-                    commands: tally.commands,
-                    lines: u128::from(tally.lines),
+                    commands: total.commands,
+                    lines: u128::from(total.lines),
                 };
                 is_good = write_line(alloc, lane, &mut output) && is_good;
             }

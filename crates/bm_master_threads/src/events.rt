@@ -15,7 +15,7 @@ use std::time::{Clock, Duration};
 /// How long a sender waits before it tries again where memory was wanting.
 const PAUSE_MS: u64 = 10;
 
-/// A build that has ended, as its thread hands it back.
+/// A build that has ended: its number, its result and the viewer, which its thread hands back.
 #[derive(Drop)]
 pub struct FinishedBuild<Y: Yard> {
     /// The build's number.
@@ -98,8 +98,8 @@ impl<Y: Yard> EventSender<Y> {
         })
     }
 
-    /// Tells the coordinator. Where memory is wanting it is tried again after a while, so that no
-    /// event is lost but those that come after the coordinator has left.
+    /// Tells the coordinator. Where memory is wanting it is tried again after a while. So no event
+    /// is lost but those that come after the coordinator has left.
     pub fn tell<R: Wait + Clock>(&self, rt: &R, event: MasterEvent<Y>) {
         let mut event = event;
         for _ in rt.forever() {

@@ -25,7 +25,8 @@ impl<'s, Y: Yard, R: Wait + Clock> EventSink for LaneReporter<'s, Y, R> {
     }
 }
 
-// Starts the actor of a lane. None where the mailbox is another lane's, or no thread can be started.
+// Starts the actor of a lane. None where the mailbox is another lane's, or no thread can be
+// started.
 fn start_actor<'s, E, Y, R>(
     scope: &Scope<'s, E>,
     shared: &'s SharedState<Y, R>,
@@ -117,8 +118,8 @@ impl<Y: Yard> LaneThreads<Y> {
     }
 
     /// Ends all of them: no connection is waited for any more, and the actors end while the pool
-    /// still drains. The lanes' reader's ends come back in `room`, where there is room for them. The
-    /// answer is also whether the pool did its work.
+    /// still drains. The lanes' reader's ends come back in `room`, where there is room for them.
+    /// The answer is also whether the pool did its work.
     pub fn end<R: Wait + Clock + Threads + Drop>(
         self,
         shared: &SharedState<Y, R>,

@@ -25,11 +25,13 @@ fn refuse<F: Write>(faults: &mut F, key: &str) -> u8 {
     REFUSED
 }
 
-/// Runs a build master: its workers connect, its builds run once each, and their logs are served on
-/// the web, until the input has ended and every build is over. The result is the exit status: 0
-/// where each build ended SUCCESS or WARNINGS; 2 where an address can't be bound, which is told on
-/// `faults`; else 1, as after a failed write to `output`, want of memory and where no thread could
-/// be started. Where it can't be written where the master listens, no build is run.
+/// Runs a build master: its workers connect, its builds run once each, and their logs are served
+/// on the web. It goes on until the input has ended and every build is over.
+///
+/// The result is the exit status. It is 0 where each build ended SUCCESS or WARNINGS and nothing
+/// failed. It is 2 where an address can't be bound, which is told on `faults`. Else it is 1, as
+/// after a failed write to `output`, want of memory and where no thread could be started. Where it
+/// can't be written where the master listens, no build is run.
 ///
 /// A line `cancel I` of the input cancels build I. On `output` stand `listening ADDR ADDR` (for
 /// workers, for the web), once every build is over `build I RESULT` for each, and at the end `lane

@@ -86,8 +86,9 @@ fn logs_of<Y: Yard>(alloc: Global, viewers: Vec<Viewer<Y>>) -> Option<Arc<LogSer
     Arc::new(alloc, LogService::new(alloc, viewers).ok()?).ok()
 }
 
-/// What all threads share, and what each of them owns, before the first of them starts; and the logs
-/// that the web serves, for the end. `at` is where workers connect. None where memory is wanting.
+/// What all threads share, and what each of them owns, before the first of them starts. With these
+/// come the logs that the web serves, for the end. `at` is where workers connect. None where
+/// memory is wanting.
 pub fn prepare<Y, R, I, O>(
     rt: &R,
     alloc: Global,

@@ -42,6 +42,7 @@ pub struct WebStop {
 }
 
 impl WebStop {
+    /// That of a web which was not ended, and which nobody serves yet.
     pub fn new() -> WebStop {
         WebStop {
             signal: Mutex::new(StopSignal {
@@ -74,9 +75,9 @@ impl WebStop {
     }
 }
 
-/// Serves the logs until the coordinator ends it. Where memory or descriptors are wanting, so that it
-/// can't begin or go on, it begins anew after a while: who connects meanwhile waits. The answer is
-/// whether it was served at the end, or ended before it began.
+/// Serves the logs until the coordinator ends it. Where memory or descriptors are wanting, so that
+/// it can't begin or go on, it begins anew after a while: who connects meanwhile waits. The answer
+/// is whether it was served at the end, or ended before it began.
 pub fn serve_web<Y, R>(
     shared: &SharedState<Y, R>,
     listener: &TcpListener,

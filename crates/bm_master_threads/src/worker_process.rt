@@ -7,8 +7,8 @@ use std::alloc::Global;
 use std::io::ErrorKind;
 use std::process::{Child, Command, Processes, Stdio, SystemProcess};
 
-// Asks a process to end, by SIGTERM. The shell sends it: the process can't be mistaken, since nobody
-// has waited for it. Where no shell can be started it isn't asked.
+// Asks a process to end, by SIGTERM. The shell sends it: the process can't be mistaken, since
+// nobody has waited for it. Where no shell can be started it isn't asked.
 fn ask<R: Processes<Started = SystemProcess>>(rt: &R, alloc: Global, id: u32) {
     let (Ok(mut command), Ok(words)) = (
         Command::new(alloc, "/bin/sh"),

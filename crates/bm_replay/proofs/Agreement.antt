@@ -1,4 +1,5 @@
--- What was said, a lane's trace and the worker's side of its session agree; and what the worker does keeps that.
+-- What was said, a lane's trace and the worker's side of its session agree; and what the worker
+-- does keeps that.
 use Rattle.std.proofs.Common.{◌≡◌, refl, sym, ◌∙◌, ap, subst, ℕ, ◌≤◌, ◌<◌, Bool, true, false, cond, ◌||◌, List, [], ◌∷◌, ◌++◌, length, take, drop, Some, None, arith, inl, inr, append_assoc}
 use Rattle.std.specs.Prelude.{◌==◌, nat_le, slice_get}
 use Rattle.std.proofs.lemmas.Bool.{eqb-true, or_cases}

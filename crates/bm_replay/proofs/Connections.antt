@@ -28,7 +28,8 @@ use Rattle.bm_replay.proofs.StreamNumbers.{numbers-append, next-number, arrived-
 abbrev pub passage : Link → Passage
 passage l = record { sent = numbers l.sent; arrived = l.arrived; answered = l.answered }
 
--- of the requests of these reports the first h were taken: the connection's numbers are in order, and each is sent with its bytes
+-- of the requests of these reports the first h were taken: the connection's numbers are in order,
+-- and each is sent with its bytes
 pub record IsLinked (h : ℕ) (reports : List Report) (l : Link) : Type 0 where
   pub in_order : IsInOrder h (length reports) (passage l)
   pub sent_of : AllByRecursion (IsSentOf reports) l.sent

@@ -42,7 +42,8 @@ line text = record { letter = O; text = text }
 abbrev reached : List Happening → Linked
 reached ps = linked_after (at_first 8) ps
 
--- the cut loses the answer to request 1, and all of request 2: both are sent again, and 1 is a repeat
+-- the cut loses the answer to request 1, and all of request 2: both are sent again, and 1 is a
+-- repeat
 abbrev before_the_cut : List Happening
 before_the_cut =
     up ∷ start ∷ run 0 ∷ Do (Respond 0 false) ∷ say 0 (codes "a\n") ∷ say 0 (codes "b\n") ∷ say 0 (codes "c\n")
@@ -74,7 +75,8 @@ viewers_see_each_line_once = refl
 they_see_what_was_said : log (visible (reached over_a_cut).scene.lane.trace (reached over_a_cut).scene.lane.shown) 0 stdio ≡ said (reported (acts_of over_a_cut)) 0
 they_see_what_was_said = refl
 
--- the answer lies in the worker's socket when the lane is cut: it is learned after the cut, and its request isn't sent again
+-- the answer lies in the worker's socket when the lane is cut: it is learned after the cut, and
+-- its request isn't sent again
 abbrev learned_after_the_cut : List Happening
 learned_after_the_cut =
     up ∷ start ∷ run 0 ∷ say 0 (codes "a\n") ∷ say 0 (codes "b\n") ∷ deliver 0 ∷ deliver 1 ∷ Learn 0 ∷ cut ∷ Learn 1 ∷ say 0 (codes "c\n") ∷ up ∷ []
@@ -88,7 +90,8 @@ answered_is_not_sent_again = refl
 each_line_is_logged_once : log (reached (learned_after_the_cut ++ deliver 2 ∷ [])).scene.lane.trace 0 stdio ≡ line (codes "a") ∷ line (codes "b") ∷ line (codes "c") ∷ []
 each_line_is_logged_once = refl
 
--- a new request after a resuming Up under a number that was had: none; with the next number it is one
+-- a new request after a resuming Up under a number that was had: none; with the next number it is
+-- one
 abbrev one_line_and_a_cut : List Happening
 one_line_and_a_cut = up ∷ start ∷ run 0 ∷ say 0 (codes "a\n") ∷ deliver 0 ∷ Learn 0 ∷ cut ∷ up ∷ say 0 (codes "b\n") ∷ []
 
@@ -109,14 +112,16 @@ twice_is_none = refl
 hole_is_none : is_resumed_schedule 8 (up ∷ start ∷ run 0 ∷ say 0 (codes "a\n") ∷ say 0 (codes "b\n") ∷ deliver 1 ∷ []) ≡ false
 hole_is_none = refl
 
--- the worker learns an answer that the cut lost over the next connection, or one before its request was taken
+-- the worker learns an answer that the cut lost over the next connection, or one before its
+-- request was taken
 lost_answer_is_none : is_resumed_schedule 8 (up ∷ start ∷ run 0 ∷ say 0 (codes "a\n") ∷ deliver 0 ∷ cut ∷ up ∷ Learn 0 ∷ []) ≡ false
 lost_answer_is_none = refl
 
 early_answer_is_none : is_resumed_schedule 8 (up ∷ start ∷ run 0 ∷ say 0 (codes "a\n") ∷ Learn 0 ∷ []) ≡ false
 early_answer_is_none = refl
 
--- a session that was given up: the next one numbers from 0, and nothing of the old one is sent again
+-- a session that was given up: the next one numbers from 0, and nothing of the old one is sent
+-- again
 abbrev given_up : List Happening
 given_up = up ∷ start ∷ run 0 ∷ say 0 (codes "a\n") ∷ cut ∷ Do (Make (Hear Down)) ∷ up ∷ start ∷ run 1 ∷ say 1 (codes "n\n") ∷ deliver 0 ∷ []
 

@@ -1,5 +1,5 @@
--- Schedules that compute: good ones, and what is none. Each that is none breaks one condition alone, and the log shows why the
--- condition is there.
+-- Schedules that compute: good ones, and what is none. Each that is none breaks one condition
+-- alone, and the log shows why the condition is there.
 use Rattle.std.specs.Prelude.{◌≡◌, refl, ℕ, true, false, List, [], ◌∷◌, ◌++◌, pos, codes, length}
 use Rattle.bm_lines.specs.declared.letter.Letter.TheVariants.{O}
 use Rattle.bm_lines.specs.Lines.{Line}
@@ -99,7 +99,8 @@ runs_though_refused_is_none = refl
 refused_command_is_fine : is_schedule 8 (up ∷ start ∷ Respond 0 true ∷ start ∷ Run 1 ∷ say 1 (codes "a\n") ∷ Deliver 0 ∷ []) ≡ true
 refused_command_is_fine = refl
 
--- a command runs before its start was taken, in a later session, twice, or says something after its end
+-- a command runs before its start was taken, in a later session, twice, or says something after
+-- its end
 unstarted_is_none : is_schedule 8 (up ∷ Run 0 ∷ []) ≡ false
 unstarted_is_none = refl
 

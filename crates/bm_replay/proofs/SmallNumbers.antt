@@ -1,4 +1,5 @@
--- A trace has fewer than a million events before a last loss, so the numbers of requests and commands are small.
+-- A trace has fewer than a million events before a last loss, so the numbers of requests and
+-- commands are small.
 use Rattle.std.proofs.Common.{◌≡◌, refl, sym, ◌∙◌, ℕ, ◌+◌, ◌≤◌, ◌<◌, Bool, true, false, cond, ◌&&◌, [], ◌∷◌, ◌++◌, length, Option, Some, None, arith}
 use Rattle.std.specs.Prelude.{nat_lt, nat_le, is_none}
 use Rattle.std.proofs.lemmas.Bool.Decides.{nat_tests}

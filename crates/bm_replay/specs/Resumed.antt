@@ -3,7 +3,7 @@
 --
 -- Two things they take for granted of the world. The worker's core is never restarted inside a
 -- session: each connection that resumes meets the core that the last one had. And the worker hears
--- of a giving up: no cut drops the answer `new` to the `auth` that follows one, so its core is new
+-- of a giving up. No cut drops the answer `new` to the `auth` that follows one, so its core is new
 -- from that Up on. What an old core says until it hears `new` counts as said before that Up.
 use Rattle.std.specs.Prelude.{ℕ, ◌+◌, Bool, true, false, ◌==◌, not, ◌&&◌, nat_lt, List, [], ◌∷◌, ◌++◌, length, take, Option, Some, None, if◌then◌else◌, option_map, unwrap_or, slice_get, fold, filter_map}
 use Rattle.std.specs.List.{list_any}
@@ -14,8 +14,8 @@ use Rattle.bm_work.specs.Stream.{stream, stream_from, without_answer}
 use Rattle.bm_world.specs.declared.step.Step.TheVariants.{Hear}
 use Rattle.bm_replay.specs.Schedule.{Act, Say, Finish, Deliver, Make, reported_by, Scene, opening, is_allowed, after}
 
--- the requests that the worker sent over this connection, in order, how many of them the lane took,
--- and the numbers of the requests of the session whose answers reached the worker
+-- The requests that the worker sent over this connection, in order, and how many of them the lane
+-- took. And the numbers of those requests of the session whose answers reached the worker.
 pub record Link : Type 0 where
   pub sent : List Sent
   pub arrived : ℕ

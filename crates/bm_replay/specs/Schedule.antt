@@ -142,9 +142,9 @@ lane_after w (Some step) = (stepped w step).1
 abbrev pub is_new_session : Trace → Bool
 is_new_session t = is_none (refusal t Up) && not (is_cut t)
 
--- a new session begins with a worker that is new, or lost the old one: its core is never restarted
--- inside a session, it hears that the session is new, and what an old core says until it hears so
--- counts as said before this Up
+-- A new session begins with a worker that is new, or lost the old one. Its core is never restarted
+-- inside a session, and it hears that the session is new. What an old core says until it hears so
+-- counts as said before this Up.
 abbrev pub worker_after : Scene → Act → Worker
 worker_after s (Run k) = with_run k s.worker
 worker_after s (Say k letter t) = with_reports (reported_by (Say k letter t)) s.worker

@@ -15,8 +15,8 @@ use Rattle.bm_value.specs.declared.fault.DecodeError.TheVariants.{Mem as NoMemor
 use Rattle.bm_msg.specs.declared.fault.MsgError.TheVariants.{Mem}
 use Rattle.bm_replay.specs.Schedule.{as_heard}
 
--- what a worker can say: of a command with a number below 2^63, as every start that is read has it,
--- a text or a fault in UTF-8 of at most 65,536 bytes, or an exit code that MessagePack has
+-- What a worker can say: a text or a fault in UTF-8 of at most 65,536 bytes, or an exit code that
+-- MessagePack has. The command's number is below 2^63, as that of every start that is read.
 abbrev pub CanBeSaid : Report → Type 0
 CanBeSaid (text k letter t) = (k < 2 ^ 63) × IsUtf8 t × (length t ≤ 65536)
 CanBeSaid (code k z) = (k < 2 ^ 63) × IsNum z

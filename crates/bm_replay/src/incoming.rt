@@ -60,7 +60,7 @@ fn read_hex<A: Allocator + Copy>(alloc: A, text: &[u8]) -> Result<Vec<u8, A>, Un
 }
 
 /// Reads the event that hex digits record. The bytes and the tree of the message lie in the arena,
-/// and are gone when the call returns; what stays is copied out of it.
+/// and are gone when the call returns. What stays is copied out of it.
 pub fn read_event(alloc: Global, arena: &Bump, digits: &[u8]) -> Result<Event, Unread> {
     let bytes = read_hex(arena, digits)?;
     event_of(alloc, arena, bytes.as_slice())

@@ -1,9 +1,10 @@
 //! The command line of `buildmaster`, and its replay of the recorded events of a worker's lane.
 //!
-//! Promised: a line's bytes are the event that `specs/Wire.antt` delivers for them, an input is read
-//! whole up to its bound, and the laws of `laws.rt`: what a worker said stands in its logs.
+//! Promised: the bytes of what a worker can say are read as the event that `specs/Wire.antt` has
+//! for them. An input is read whole, up to its bound. By the laws of `laws.rt` what a worker said
+//! stands in its logs.
 //!
-//! A body could still take one script line for another, and answer it in other words: what is read
+//! A body could still take one script line for another, and answer it in other words. What is read
 //! of a line and what is written for it is only tested.
 #![tactic(auto)]
 

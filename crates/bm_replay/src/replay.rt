@@ -37,10 +37,10 @@ impl From<AllocError> for Halt {
 /// Replays the script that the input holds over a queue of `capacity` items, and writes an answer
 /// for each line that asks for one. The input is read to its end before the first answer.
 ///
-/// The result is the exit status: 0 at the script's end; 1 after a line of another form, which is
-/// told on `faults`, and after a read or a write that failed, too long an input or want of memory,
-/// of which nothing is told. After a read that failed or too long an input nothing stands on
-/// `output`, and else the answers of the lines before.
+/// The result is the exit status. It is 0 at the script's end, and 1 after a line of another form,
+/// which is told on `faults`. It is 1 also after a read or a write that failed, too long an input
+/// or want of memory, of which nothing is told. After a read that failed or too long an input
+/// nothing stands on `output`, and else the answers of the lines before.
 pub fn replay_run<R: Read + Drop, W: Write + Drop, F: Write + Drop>(
     alloc: Global,
     capacity: u32,

@@ -5,8 +5,8 @@ use Rattle.bm_http.specs.FirstLooks.{Refuses, Tells}
 use Rattle.bm_http.specs.Replies.{Reply}
 use Rattle.bm_http.specs.Requests.{Asked, Asks}
 
--- the reply to what is asked, of so many lanes: a refusal, made of nothing; or else made of what the
--- viewer of the log's lane had seen
+-- The reply to what is asked, of so many lanes. It is a refusal, made of nothing; or else it is
+-- made of what the viewer of the log's lane had seen.
 abbrev pub TellsOf : Asked → ℕ → Option Watched → Reply → Type 0
 TellsOf a lanes seen reply = MatchOption seen (Refuses a reply) (λ w. Tells a lanes w reply)
 

@@ -4,8 +4,8 @@ use Rattle.http_body.specs.declared.frame.Frame.{Frame}
 use Rattle.http_body.specs.Frame.{data_frame}
 
 module _ {E : Type 0} where
-  -- the frame is a piece with which the text begins, and P holds of its rest; of an error nothing is
-  -- said
+  -- the frame is a piece with which the text begins, and P holds of its rest; of an error nothing
+  -- is said
   abbrev pub Takes : Result (Frame (List ℕ)) E → List ℕ → (List ℕ → Type 0) → Type 0
   Takes (Ok frame) text P =
       (piece : List ℕ) × (rest : List ℕ) × (frame ≡ data_frame piece) × (text ≡ piece ++ rest)

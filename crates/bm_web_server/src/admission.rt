@@ -17,7 +17,7 @@ use tokio::sync::{OwnedSemaphorePermit, Semaphore};
 use tokio::time::{Handle, Sleep};
 
 /// How many milliseconds no connection is taken in after one that could not be.
-const PAUSE: u64 = 20;
+const PAUSE_MS: u64 = 20;
 
 type Visitor<R, S> = Visit<WriteDeadline<TcpStream, R>, Pages<R, S>, OwnedSemaphorePermit>;
 
@@ -79,7 +79,7 @@ impl<R: Wait + Clock + Copy, S: Handler> Admission<R, S> {
         ensures kept { Keeps cx.old cx.new }
     {
         if let Ok(now) = Instant::now(&self.rt)
-            && let Some(end) = now.checked_add(Duration::from_millis(PAUSE))
+            && let Some(end) = now.checked_add(Duration::from_millis(PAUSE_MS))
         {
             self.pause.reset(end);
             if self.pause.poll(cx).is_pending() {

@@ -52,6 +52,7 @@ pub struct Connections<S, T> {
 }
 
 impl<S, T> Connections<S, T> {
+    /// A connection for each visit of `admitted`, served by the settings of `http`.
     pub fn new(admitted: S, http: Builder<T>) -> Connections<S, T>
         ensures { result ≡ record { admitted = admitted; http = http } }
     {

@@ -1,5 +1,13 @@
 //! The chunk server over HTTP/1.1: connections are taken in, so many at once, and served until a
 //! stop.
+//!
+//! [`serve`] takes them in and gives what they ask to a [`Handler`]. The one of a master is
+//! [`LogService`], which answers by the routes of `bm_http` and a viewer of each lane.
+//!
+//! Promised: a response has the status and the text that the service gives for its request, or it
+//! is 503. The pieces of a long answer that is told to its end are its text, joined.
+//!
+//! A body could still close a connection early, serve nobody, or keep no limit: tests show these.
 #![tactic(auto)]
 
 mod admission;

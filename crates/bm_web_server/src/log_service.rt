@@ -23,8 +23,8 @@ pub struct LogService<Y: Yard> {
     lanes: u64,
     // A lock for each lane: whoever holds it may take the lane's viewer.
     turns: Vec<Mutex<()>>,
-    // Held for a moment alone. What a lock guards is known by its type, so all viewers lie under
-    // one: that each is of its place's lane is a fact of all of them.
+    // Held for a moment alone. What a lock guards is known by its type, and that each viewer is of
+    // its place's lane is a fact of all of them. So all lie under one lock.
     viewers: Mutex<LaneViewers<Y>>,
     ghost some: { 0 < lanes },
 }

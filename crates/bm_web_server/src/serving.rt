@@ -20,7 +20,7 @@ use tokio::runtime::Runtime;
 use tokio::sync::{Semaphore, oneshot};
 
 /// How many milliseconds connections may go on after the stop.
-const GRACE: u64 = 200;
+const GRACE_MS: u64 = 200;
 
 /// How many bytes wait to be sent on a connection, beside one piece of a body.
 const BUFFERED: usize = 65_536;
@@ -57,10 +57,10 @@ where
 {
     let alloc = rt.alloc();
     let mut runtime = Runtime::with_worker_threads(&rt, limits.workers)?;
-    runtime.set_shutdown_timeout(Some(Duration::from_millis(GRACE)));
+    runtime.set_shutdown_timeout(Some(Duration::from_millis(GRACE_MS)));
     let listener = TcpListener::from_std(listener, runtime.handle().reactor())?;
     let timers = runtime.handle().time().clone()?;
-    let pause = timers.sleep(&rt, Duration::from_millis(GRACE))?;
+    let pause = timers.sleep(&rt, Duration::from_millis(GRACE_MS))?;
     let mut http = http1::Builder::new(alloc, RandomState::new(&rt)?).timer(TokioTimer::new(
         rt,
         timers.clone()?,

@@ -10,7 +10,8 @@ use std::time::{Clock, Duration, Instant};
 use tokio::io::{AsyncRead, AsyncWrite};
 use tokio::time::Sleep;
 
-/// A socket of which a call that was to pass bytes on fails once such calls were pending for so long.
+/// A socket of which a call that was to pass bytes on fails once such calls were pending for so
+/// long.
 #[derive(Drop)]
 pub struct WriteDeadline<I, R> {
     io: I,

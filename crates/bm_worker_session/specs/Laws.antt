@@ -12,17 +12,17 @@ use Rattle.bm_outbox.specs.declared.outbox_entry.OutboxEntry.{OutboxEntry}
 use Rattle.bm_outbox.specs.declared.progress.Progress.{Progress}
 use Rattle.bm_worker_session.specs.Sessions.{BeginsBy, HandsOver, HearsBy, SendsNext, SessionState, requests_of}
 
--- What is told has no answer yet, whatever becomes of the link: it stands behind all that has none,
--- and so the next link is handed it again.
+-- What is told has no answer yet, whatever becomes of the link. It stands behind all that has
+-- none, and so the next link is handed it again.
 abbrev pub TellsKeep : Type 0
 TellsKeep = (waiting waiting2 : List OutboxEntry) (c c2 : Core) (p : Progress) → IsCore c
     → TellsNext waiting c (Ok p) waiting2 c2
     → unanswered_requests c2 ≡ unanswered_requests c ++ requests_of (Ok p)
 
 module _ {S : Type 0} where
-  -- What the link was handed so far, and then the backlog, is what had no answer when the link came
-  -- to be, and then each request since, from this number on: none is missing, and none is out of
-  -- order.
+  -- The link was handed these so far, and the backlog comes next. Together they are what had no
+  -- answer when the link came to be, and then each request since, from this number on. None is
+  -- missing, and none is out of order.
   pub record InStep (resumed : List Sent) (first : ℕ) (sent : List Sent) (w : SessionState S)
       : Type 0 where
     pub since : first ≤ next_number w.core

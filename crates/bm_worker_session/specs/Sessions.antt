@@ -18,7 +18,7 @@ use Rattle.bm_worker_session.specs.declared.session_fault.SessionFault.{SessionF
 use Rattle.bm_worker_session.specs.declared.session_fault.SessionFault.TheVariants as fault
 
 -- the worker's core, what waits to be told, the requests that are still to be sent again, and the
--- link that is up, if one is
+-- link, if one is up
 pub record SessionState (S : Type 0) : Type 0 where
   pub core : Core
   pub outbox : List OutboxEntry
@@ -61,8 +61,8 @@ module _ {S : Type 0} where
   is_closed (Some link) = link.closed
   is_closed None = false
 
-  -- The requests were handed to the link, each whole and in this order. Or the link failed at one of
-  -- them, and nothing behind it was sent.
+  -- The requests were handed to the link, each whole and in this order. Or the link failed at one
+  -- of them, and nothing behind it was sent.
   abbrev pub HandsOver : (S → Option (List ℕ)) → List Sent → WorkState S → Bool → WorkState S
       → Type 0
   HandsOver contents [] old sent new = (sent ≡ true) × (new ≡ old)
@@ -78,7 +78,7 @@ module _ {S : Type 0} where
   HandsOverProgress contents p old r new =
       (sent : Bool) × HandsOver contents (requests_of p) old sent new × (r ≡ answer_of p sent)
 
-  -- What waits first is told: the core numbers and keeps its requests, and they are handed to the
+  -- What waits first is told. The core numbers and keeps its requests, and they are handed to the
   -- link at once, whatever becomes of them there.
   abbrev pub TellsOn : (S → Option (List ℕ)) → Core → List OutboxEntry → WorkState S
       → Result Bool SessionFault → Core → List OutboxEntry → WorkState S → Type 0
@@ -105,8 +105,8 @@ module _ {S : Type 0} where
       × (new.backlog ≡ []) × (new.link ≡ Some link2)
   SendsNext contents backlog None old r new = (r ≡ Err fault.Link) × (new ≡ old)
 
-  -- A resumed session goes on: all that has no answer is to be sent again, with its bytes and in its
-  -- order, and what waits waits on. Another one begins anew.
+  -- A resumed session goes on. All that has no answer is to be sent again, with its bytes and in
+  -- its order, and what waits waits on. Another one begins anew.
   abbrev pub BeginsBy : Bool → WorkState S → SessionState S → Result (Unit {0}) AllocError
       → SessionState S → Type 0
   BeginsBy true link old (Ok _) new =

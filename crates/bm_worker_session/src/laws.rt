@@ -4,10 +4,10 @@ ghost use Rattle.bm_worker_session.specs.Laws.{BeginsAnewInStep, BeginsInStep, H
 
 use std::io::{Read, Write};
 
-/// What a link was handed so far, and then what is still to be sent again, is what had no answer when
-/// the link came to be, and then all requests since, in order. A link begins so, and each call that
-/// sends without a fault, and each turn, keeps it so. What is told has no answer then, whether the
-/// link failed or not.
+/// A link was handed requests so far, and may have others still to send again. Together they are
+/// what had no answer when the link came to be, and then all requests since, in order. A link
+/// begins so, and each call that sends without a fault, and each turn, keeps it so. What is told
+/// has no answer then, whether the link failed or not.
 pub fn sent_requests_are_the_stream<S: Read + Write>()
     ensures begins { BeginsInStep S.contents }
     ensures anew { BeginsAnewInStep S.contents }

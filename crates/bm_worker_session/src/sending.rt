@@ -11,8 +11,8 @@ use std::alloc::{AllocError, Global};
 use std::io::{Read, Write};
 use tungstenite::MaskKeys;
 
-/// Hands requests to a link, in order, and answers whether all were sent. Behind one that isn't sent
-/// nothing is.
+/// Hands requests to a link, in order, and answers whether all were sent. Behind one that isn't
+/// sent nothing is.
 pub(crate) fn hand_over<S: Read + Write + Drop, K: MaskKeys + Drop>(
     alloc: Global,
     link: &mut WorkerLink<S, K>,

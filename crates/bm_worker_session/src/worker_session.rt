@@ -15,8 +15,8 @@ use std::io::{Read, Write};
 use std::marker::Model;
 use tungstenite::MaskKeys;
 
-/// A worker's session with its master, which outlives its connections: the core, what waits to be
-/// told, and the link that is up, if one is, with the requests that are still to be sent again by it.
+/// A worker's session with its master, which outlives its connections. It has the core, what waits
+/// to be told, and the link, if one is up. The backlog is what that link still has to send again.
 #[derive(Drop)]
 pub struct WorkerSession<S, K> {
     core: Worker,
@@ -60,8 +60,8 @@ impl<S: Read + Write + Drop, K: MaskKeys + Drop> WorkerSession<S, K> {
         }
     }
 
-    /// Goes on by a new link whose login was answered so: a resumed session's requests without an
-    /// answer are to be sent again by it, and what waits waits on; another one begins anew.
+    /// Goes on by a new link whose login was answered so. A resumed session's requests without an
+    /// answer are to be sent again by it, and what waits waits on. Another session begins anew.
     ///
     /// # Errors
     ///
@@ -81,8 +81,8 @@ impl<S: Read + Write + Drop, K: MaskKeys + Drop> WorkerSession<S, K> {
         Ok(())
     }
 
-    /// Sends what is next, and answers whether there was anything: the oldest request that is to be
-    /// sent again; or, where there is none, what waits first in the outbox.
+    /// Sends what is next, and answers whether there was anything. The oldest request that is to
+    /// be sent again is next; or, where there is none, what waits first in the outbox.
     ///
     /// # Errors
     ///
@@ -100,8 +100,8 @@ impl<S: Read + Write + Drop, K: MaskKeys + Drop> WorkerSession<S, K> {
         outcome(hand_over(alloc, link, &[request]))
     }
 
-    /// Hears one message of the link, and answers what it asks: a request of the master is answered,
-    /// and an answer of it frees the place of its request.
+    /// Hears one message of the link. A request of the master is answered, and an answer of it
+    /// frees the place of its request.
     ///
     /// # Errors
     ///

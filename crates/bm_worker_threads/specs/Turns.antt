@@ -43,14 +43,15 @@ IsReady at running = (process : RunningCommand) → slice_get running at ≡ Som
 abbrev pub IsOwn : RunningCommand → Type 0
 IsOwn process = ForSome process.code (λ (c : ExitCode). c.command ≡ process.pipes.command)
 
--- this text of a command is told: it waits behind all that waits, and the command, whose other texts
--- are kept, goes behind the others
+-- this text of a command is told: it waits behind all that waits, and the command, whose other
+-- texts are kept, goes behind the others
 abbrev pub TellsText : RunningCommand → Said → List Said → List RunningCommand → List RunningCommand → List OutboxEntry → List OutboxEntry → Type 0
 TellsText process said rest others running old new = (new ≡ old ++ entry.Text process.pipes.command said ∷ [])
     × ((kept : VecDeque Said Global) × (own : IsOwn process) × (kept.items ≡ rest)
     × (running ≡ others ++ record process { texts = kept; own = own } ∷ []))
 
--- what is told of a command: its first text; or where none is left its end, and then it runs no more
+-- what is told of a command: its first text; or where none is left its end, and then it runs no
+-- more
 abbrev pub TellsOf : RunningCommand → List Said → Option ExitCode → List RunningCommand → List RunningCommand → List OutboxEntry → List OutboxEntry → Type 0
 TellsOf process (said ∷ rest) code others running old new = TellsText process said rest others running old new
 TellsOf process [] (Some code) others running old new =

@@ -11,8 +11,8 @@ use std::alloc::{AllocError, Global};
 use std::io::{Read, Write};
 use tungstenite::MaskKeys;
 
-/// How many bytes without an answer there are before texts wait, where several commands run: what is
-/// told of one stands behind those of the others. Ends don't wait for this.
+/// How many bytes without an answer there are before texts wait, where several commands run. What
+/// is told of one stands behind what was told of the others. Ends don't wait for this.
 const MOST_UNANSWERED_BYTES: usize = 262_144;
 
 /// All that outlives a connection: the session, and the processes of its commands.

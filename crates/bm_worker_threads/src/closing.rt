@@ -20,8 +20,8 @@ const LAST_ANSWERS_SECONDS: u64 = 1;
 const LAST_BYTES_SECONDS: u64 = 1;
 
 impl<S: Read + Write + Drop, K: MaskKeys + Drop> BuildWorker<S, K> {
-    /// Kills all commands, and hears the answers to what was said of them, for a second at the most:
-    /// a master that finds its connection closed may not look at what came before that.
+    /// Kills all commands, and hears the answers to what was said of them, for a second at the
+    /// most. A master that finds its connection closed may not look at what came before that.
     pub(crate) fn hear_last_answers<R: Wait + Clock>(
         &mut self,
         rt: &R,
@@ -46,8 +46,8 @@ impl<S: Read + Write + Drop, K: MaskKeys + Drop> BuildWorker<S, K> {
         }
     }
 
-    /// Waits until the connection with this number has bytes to read, and forgets all other mail. The
-    /// answer is false where that isn't so until then.
+    /// Waits until the connection with this number has bytes to read, and forgets all other mail.
+    /// The answer is false where that isn't so until then.
     fn is_readable_by<R: Wait + Clock>(&mut self, rt: &R, number: u64, deadline: Instant) -> bool {
         for _ in rt.forever() {
             match self.processes.wait_until(rt, deadline) {
@@ -79,8 +79,8 @@ fn after<R: Clock>(rt: &R, seconds: u64) -> Option<Instant> {
     now.checked_add(Duration::from_secs(seconds))
 }
 
-/// Closes a connection: a close frame goes out, and what still comes is read until the other end
-/// closes, for a second at the most, since bytes that nobody read would reset the connection, and
+/// Closes a connection. A close frame goes out, and what still comes is read until the other end
+/// closes, for two seconds at the most. Bytes that nobody read would reset the connection, and
 /// what was written last would be lost with it.
 pub(crate) fn close<S, K, R>(rt: &R, link: &mut WorkerLink<ReadyStream<S>, K>)
 where
@@ -93,7 +93,8 @@ where
     read_to_end(rt, link.get_ref().get_ref());
 }
 
-/// Ends a stream for writing, and reads it to its end, for a second at the most.
+/// Ends a stream for writing, and reads it to its end. After a second no read begins, and each
+/// lasts a second at the most.
 fn read_to_end<S, R>(rt: &R, stream: &S)
 where
     S: Read + OpenStream + Drop,

@@ -1,12 +1,12 @@
-//! What a build worker does around its session: the processes of its commands, a thread for each of
-//! their pipes and for its connection, and the one mailbox in which it is told of all of them.
+//! What a build worker does around its session: the processes of its commands, and a thread for
+//! each of their pipes and for its connection. One mailbox tells it of all of them.
 //!
-//! What is told is put into the session's outbox, and `bm_worker_session` sends it. Contracts say of
-//! which command is told next and what, that a command begins with the line of its words, and that an
+//! What is told is put into the session's outbox, and `bm_worker_session` sends it. Promised: of
+//! which command is told next and what, and that a command begins with the line of its words. An
 //! exit code is told of the command whose pipes have both ended.
 //!
-//! A body could still leave mail lying, read no pipe, or never come back: a thread, a pipe and a
-//! process have no contract, and the tests of `worker_tests` and of the programs stand in for that.
+//! A body could still leave mail lying, read no pipe, or never come back. A thread, a pipe and a
+//! process have no contract: the tests of `worker_tests` and of the programs stand in for that.
 #![tactic(auto)]
 
 mod arguments;

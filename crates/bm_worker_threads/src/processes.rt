@@ -85,8 +85,8 @@ impl Processes {
         !self.killed.is_empty() || self.running.iter().any(|process| process.is_ending())
     }
 
-    /// Starts a command. The line of its words is told first, and where the process can't be started
-    /// then why that is.
+    /// Starts a command. The line of its words is told first, and where the process can't be
+    /// started then why that is.
     pub fn run<R>(
         &mut self,
         rt: &R,
@@ -220,9 +220,9 @@ impl Processes {
         }
     }
 
-    /// Puts what is told next into the outbox, by how the processes stood when they were looked at:
-    /// the end of a command, or else, where texts may be said or no other command runs, one of the
-    /// command whose turn it is.
+    /// Puts what is told next into the outbox, by how the processes stood when they were looked
+    /// at. That is the end of a command. Or else it is a text of the command whose turn it is,
+    /// where texts may be said or no other command runs.
     #[tactic(auto, using(crate::proofs::Turned::turn_is_ready))]
     pub fn next<R: Wait>(
         &mut self,

@@ -49,10 +49,11 @@ pub struct Login<'a> {
 /// A worker whose links are over streams that are read where they are ready.
 type LinkedWorker<S, R> = BuildWorker<ReadyStream<S>, RandomKeys<R>>;
 
-/// Works for the master that `dial` connects with, and answers the exit status: 0 after a shutdown
-/// or a close frame, 1 after 10 failed tries to connect again or want of memory. `dial` is told for
-/// how long it may try, and answers None for a failed try. A read of its streams is to wait for some
-/// seconds at the most, since a login waits for its answer. All commands are killed at the end.
+/// Works for the master that `dial` connects with, and answers the exit status. It is 0 after a
+/// shutdown or a close frame, and 1 after 10 failed tries to connect again or want of memory.
+/// `dial` is told for how long it may try, and answers None for a failed try. A read of its
+/// streams is to wait for some seconds at the most, since a login waits for its answer. All
+/// commands are killed at the end.
 pub fn work_run<S, D, R>(rt: &R, dial: D, name: &str, password: &str, session: Option<&str>) -> u8
 where
     S: Read + Write + OpenStream + Drop + Send + 'static,

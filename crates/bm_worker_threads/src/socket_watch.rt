@@ -8,8 +8,8 @@ use std::net::OpenStream;
 use std::sync::Wait;
 use std::time::{Clock, Instant};
 
-/// A connection's thread: it reads nothing, and tells whenever a read of the stream won't wait. Each
-/// time its stream's own limit for a read has passed, it looks how long the silence lasts.
+/// A connection's thread: it reads nothing, and tells whenever a read of the stream won't wait.
+/// Each time its stream's own limit for a read has passed, it looks how long the silence lasts.
 #[derive(Drop)]
 pub struct SocketWatch<S> {
     pub connection: u64,
@@ -57,7 +57,7 @@ impl<S: OpenStream + Drop> SocketWatch<S> {
     }
 }
 
-/// Waits until the stream has a byte to read, or has ended; the answer is true where that isn't so
+/// Waits until the stream has a byte to read, or has ended. The answer is true where that isn't so
 /// within the stream's own limit for a read.
 fn is_silent<S: OpenStream>(stream: &S) -> bool {
     let mut byte = [0u8; 1];

@@ -60,9 +60,10 @@ fn refuse<F: Write + Drop>(refusal: ConfigRefusal, faults: F) -> u8 {
     REFUSED
 }
 
-/// Runs the master of the configuration in a file, over these streams, and answers the exit status:
-/// 2 where the configuration is refused, with the first key at fault told on `faults`, `syntax` for
-/// a text that is no TOML and `file` for a file that can't be read.
+/// Runs the master of the configuration in a file, over these streams, and answers the exit
+/// status. It is 2 where the configuration is refused, with the first key at fault told on
+/// `faults`. For a text that is no TOML `syntax` is told in its place, and `file` for a file that
+/// can't be read.
 pub fn serve_file<R, I, O, F>(rt: &R, path: &str, input: I, output: O, faults: F) -> u8
 where
     R: Wait

@@ -1,4 +1,10 @@
 //! The build worker: logs in to a build master and runs the commands that it is told.
+//!
+//! Promised: it is safe. All else that is promised stands in the libraries: what a master is sent
+//! in `bm_worker_session`, what is told of a command in `bm_worker_threads`.
+//!
+//! A body could still connect to another address, or wait too long between its tries. What is done
+//! here with the command line and the network is only tested.
 #![tactic(auto)]
 
 use bm_worker_threads::{USAGE, new_session, read_arguments, words, work_run};
@@ -42,8 +48,8 @@ fn main(rt: HostRuntime) -> ExitCode {
     ExitCode::from(work_run(&rt, dial, arguments.name, arguments.password, session))
 }
 
-/// A connection with the first address that a host's name stands for. It is tried again and again for
-/// as long as the limit says, and once where that is no time.
+/// A connection with the first address that a host's name stands for. It is tried again and again
+/// for as long as the limit says, and once where that is no time.
 fn dial<R: Net<Stream = TcpStream> + Clock>(
     rt: &R,
     address: &str,
