@@ -6,8 +6,8 @@
 //! second are let through.
 //!
 //! Promised: each text, byte for byte, and that a name never ends a line or moves a cursor
-//! ([`one_line`]). `Remark::write` and `OutputLine::write` have no clause: a body could write
-//! another line there, and only tests would see it.
+//! ([`one_line`]). A body could still want memory. `Remark::write` and `OutputLine::write` have no
+//! clause: a body could write another line there, and only tests would see it.
 #![tactic(auto)]
 
 mod cancel;
