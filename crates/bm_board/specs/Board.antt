@@ -61,8 +61,8 @@ worker_of b id = option_map (λ job. job.build.worker) (slice_get b.jobs id)
 abbrev pub is_ready : BoardState → ℕ → Bool
 is_ready b w = option_map_or (λ worker. worker.ready) (slice_get b.workers w) false
 
--- the builds within their limits: of each lock there is one exclusive holder, or at most its
--- maximum of counting ones, and no worker has more builds that run or are not released than slots
+-- The builds are within their limits. Each lock has one exclusive holder, or at most its maximum of
+-- counting ones. No worker has more builds that run or are not released than slots.
 pub record IsWithinLimits (b : BoardState) : Type 0 where
   pub slots : (w : ℕ) → w < length b.workers
       → occupied w b.jobs ≤ slice_index (map (λ worker. worker.slots) b.workers) w

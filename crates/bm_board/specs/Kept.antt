@@ -1,5 +1,5 @@
--- What a board keeps beside its builds: how many slots are taken, how often each lock is held, and
--- how many builds wait for each worker, counted as they change.
+-- What a board keeps beside its builds, counted as they change. These are how many slots are taken,
+-- how often each lock is held, and how many builds wait for each worker.
 use Rattle.std.specs.Prelude.{◌≡◌, ℕ, ◌+◌, ◌<◌, ◌≤◌, ◌^◌, Bool, true, ◌&&◌, ◌==◌, nat_lt, if◌then◌else◌, IsTrue, All, List, length, count_by, slice_index}
 use Rattle.std.specs.List.{list_any, list_all}
 use Rattle.bm_board.specs.declared.plan.Mode.{Mode}

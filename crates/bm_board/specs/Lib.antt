@@ -1,5 +1,5 @@
--- What a board does, to be believed: the steps that follow and a build's result, the locks, a build
--- and each call on it, and the board of all builds.
+-- What a board does, to be believed. First the steps that follow and a build's result, then the
+-- locks, a build with its calls, and the board of all builds.
 pub mod Steps
 pub mod Locks
 pub mod ScheduledBuild

@@ -116,8 +116,8 @@ impl Board {
         Some(job.build().worker)
     }
 
-    /// What holds of every board: each lock has one exclusive holder, or at most its maximum of
-    /// counting ones, and no worker has more builds that run or are not released than slots. It
+    /// What holds of every board. Each lock has one exclusive holder, or at most its maximum of
+    /// counting ones. No worker has more builds that run or are not released than slots. The call
     /// does nothing when it runs.
     pub fn stays_within_limits(&self)
         ensures { IsWithinLimits self.now }

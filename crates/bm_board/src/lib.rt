@@ -1,9 +1,9 @@
 //! The board of builds: which build runs on which worker, the locks that it holds, its steps and
-//! its result (Buildbot manual: "Build Steps", "Interlocks", "Results").
+//! its result. Source: Buildbot manual, "Build Steps", "Interlocks" and "Results".
 //!
 //! Promised: each call does just what its definition says, and refuses in the order of its
-//! definition. No worker runs more builds than it has slots, and no lock is held beyond its maximum.
-//! A body could still want memory.
+//! definition. No worker runs more builds than it has slots, and no lock is held beyond its
+//! maximum. A body could still want memory.
 #![tactic(auto)]
 
 mod board;

@@ -38,18 +38,21 @@ impl<T> Listed<T> {
         }
     }
 
+    /// The items of this vector, in their order.
     pub fn from_vec(vec: Vec<T>) -> Listed<T>
         ensures { result ≡ vec.items }
     {
         Listed { vec }
     }
 
+    /// The items by value.
     pub fn into_vec(self) -> Vec<T>
         ensures { result.items ≡ self }
     {
         self.vec
     }
 
+    /// The items in their order.
     pub fn as_slice(&self) -> &[T]
         ensures { result.now ≡ self.now }
     {

@@ -62,18 +62,21 @@ impl ScheduledBuild {
         }
     }
 
+    /// The build as it was added: its worker, its locks and its steps.
     pub fn build(&self) -> &Build
         ensures { result.now ≡ self.now.build }
     {
         &self.build
     }
 
+    /// The build as it was added, by value.
     pub fn into_build(self) -> Build
         ensures { result ≡ self.build }
     {
         self.build
     }
 
+    /// Whether it waits: it was not started, and has no result.
     pub fn is_waiting(&self) -> bool
         ensures { result ≡ is_waiting self.now.phase }
     {

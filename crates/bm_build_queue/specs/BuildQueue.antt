@@ -48,8 +48,8 @@ abbrev pub worker_in : Result Started BoardRefusal → Option ℕ
 worker_in (Ok started) = Some started.worker
 worker_in (Err why) = None
 
--- the build was started on this worker: it waited, the worker was ready and had a free slot, and
--- each of the build's locks could be had
+-- The build was started on this worker. It waited, the worker was ready and had a free slot, and
+-- each of the build's locks could be had.
 pub record IsStarted (old new : BoardState) (number worker : ℕ) : Type 0 where
   pub answer : worker_in (answer_of (on_build (start old) old number)) ≡ Some worker
   pub board : new ≡ board_after old number (on_build (start old) old number)
@@ -64,8 +64,8 @@ has_viewer pools worker =
     option_map_or (λ pool. pool.lane == worker && nat_lt 0 (length pool.viewers))
     (slice_get pools worker) false
 
--- the build of this number can be started now: it waits, its worker is ready and has a free slot
--- and a viewer left, and each of its locks may be had
+-- The build of this number can be started now. It waits, its worker is ready and has a free slot
+-- and a viewer left, and each of its locks may be had.
 abbrev pub can_start : QueueState → ℕ → Bool
 can_start q number =
     is_ok (on_build (start q.board) q.board number)
@@ -95,8 +95,8 @@ after_giving_up b number = board_after b number (on_build give_up b number)
 abbrev pub phase_on : BoardState → ℕ → Option Phase
 phase_on b number = option_map (λ job. job.phase) (slice_get b.jobs number)
 
--- the result of a build that ran, by whether it was cancelled meanwhile and what its runner
--- reports: SUCCESS in place of SKIPPED, since its step was not skipped
+-- The result of a build that ran, by whether it was cancelled meanwhile and what its runner
+-- reports. It is SUCCESS in place of SKIPPED, since its step was not skipped.
 abbrev pub result_by : Bool → Results → Results
 result_by cancelled reported = if cancelled then Cancelled else worse Success reported
 

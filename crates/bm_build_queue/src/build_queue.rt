@@ -219,9 +219,9 @@ impl<Y: Yard> BuildQueue<Y> {
         }
     }
 
-    /// Starts the first of the builds that can be started now: one that waits, whose worker is
-    /// ready and has a free slot and a viewer left, and whose locks may be had. It is to run, and
-    /// to come back by `end`. None where there is none, or memory is wanting for each of them.
+    /// Starts the first of the builds that can be started now. It waits, its worker is ready and
+    /// has a free slot and a viewer left, and its locks may be had. It is to run, and to come back
+    /// by `end`. None where there is none, or memory is wanting for each of them.
     pub fn next(&mut self) -> Option<Assignment<Y>>
         ensures started { IfSome result
             (λ c. IsStarted self.old.board self.new.board c.number c.worker) }

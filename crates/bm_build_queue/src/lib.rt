@@ -3,6 +3,10 @@
 //!
 //! A build is started only on a worker that is ready and has a free slot, and gets a viewer of that
 //! worker's lane. Its result is kept once, under its number.
+//!
+//! Promised: [`BuildQueue::next`] starts the first build that can be started, and each call changes
+//! what its definition says. A body could still want memory. It could so pass over a build, and say
+//! that by `is_short`.
 #![tactic(auto)]
 
 mod assignment;

@@ -75,7 +75,7 @@ impl<Y: Yard> ViewerPool<Y> {
     }
 
     /// Gives a viewer back, which takes no memory. The viewer comes back in `Err` exactly where it
-    /// is of another lane, or there is no room: as much room as came with the pool's list.
+    /// is of another lane, or there is no room. There is as much room as came with the pool's list.
     pub fn give(&mut self, viewer: Viewer<Y>) -> Result<(), Viewer<Y>>
         ensures taken { is_ok result ≡ takes self.old viewer }
         ensures given { OnOk result (self.new ≡ with_viewer self.old viewer) }

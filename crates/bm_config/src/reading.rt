@@ -28,8 +28,8 @@ const WRITERS: NumberRange = NumberRange {
     missing: 2,
 };
 
-/// The configuration that a text says, or why it says none: the text is no TOML, or the first key
-/// at fault, in the order of [`Key`] and of the arrays.
+/// The configuration that a text says, or why it says none. The text is no TOML, or a key is at
+/// fault: the first in the order of [`Key`] and of the arrays. `Mem` says nothing of the text.
 pub fn read_config(alloc: Global, text: &str) -> Result<Config, ConfigFault>
     ensures { MatchResult result (λ c. Says text.now (Ok c)) (IsFaultOf text.now) }
 {

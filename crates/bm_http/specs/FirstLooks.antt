@@ -44,8 +44,8 @@ Refuses (refused r) reply = reply ≡ refusal r
 Refuses (state id name) reply = ⊥
 Refuses (lines id name off lim) reply = ⊥
 
--- the reply to what is asked, where there are so many lanes, made of what a viewer of the log's lane
--- has seen
+-- the reply to what is asked, where there are so many lanes, made of what a viewer of the log's
+-- lane has seen
 abbrev pub Tells : Asked → ℕ → Watched → Reply → Type 0
 Tells (refused r) lanes w reply = reply ≡ refusal r
 Tells (state id name) lanes w reply =

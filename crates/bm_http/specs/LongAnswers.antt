@@ -19,8 +19,8 @@ abbrev pub held : Option (List ℕ) → List ℕ
 held None = []
 held (Some text) = text
 
--- what is left to tell: what stands before the lines, the lines from one place up to another behind
--- so many bytes of their text, and what stands behind them
+-- What is left to tell: what stands before the lines, the lines, and what stands behind them. The
+-- lines are those from one place up to another, behind so many bytes of their text.
 abbrev pub left_text : Option (List ℕ) → List Line → ℕ → ℕ → ℕ → Option (List ℕ) → List ℕ
 left_text front lines at end skip back =
     held front ++ (escaped skip (slice lines at (end - at)) ++ held back)

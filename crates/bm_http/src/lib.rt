@@ -1,10 +1,14 @@
 //! The chunk server: a request for a log of a lane is answered from what the lane's viewer sees.
 //!
-//! An answer comes in three steps, so that a server holds its viewers for the second alone: what a
-//! request asks for ([`Routes::request`]), what the viewers show of it ([`LogRequest::look`]), and the
-//! answer with its body ([`Lookup::answer`]). [`Routes::answer`] takes all three. A server asks the
-//! viewer of one lane alone ([`LogRequest::first_look`]), and gets a long answer piece by piece, each by a
-//! short look ([`LongAnswer::next`]): the pieces joined are the body.
+//! An answer comes in three steps, so that a server holds its viewers for the second alone. They
+//! are what a request asks for ([`Routes::request`]), what the viewers show of it
+//! ([`LogRequest::look`]), and the answer with its body ([`Lookup::answer`]). [`Routes::answer`]
+//! takes all three. A server asks the viewer of one lane alone ([`LogRequest::first_look`]). It
+//! gets a long answer piece by piece, each by a short look ([`LongAnswer::next`]): the pieces
+//! joined are the body.
+//!
+//! Promised: what is asked, looked at and answered, byte for byte, or 503. A body could still
+//! answer 503 to anything, as for want of memory.
 #![tactic(auto)]
 
 mod answer;

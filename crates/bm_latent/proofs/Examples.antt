@@ -16,7 +16,8 @@ acts w (event ∷ events) = act_after w event ∷ acts (standing_after w event) 
 abbrev fresh : ℕ → LatentView
 fresh limit = record { state = Not; idle = 0; limit = limit }
 
--- a loss stops the worker, a want that comes meanwhile starts it again, and the third idle tick stops it
+-- a loss stops the worker, a want that comes meanwhile starts it again, and the third idle tick
+-- stops it
 idle_worker_is_stopped_at_its_limit :
     acts (fresh 3)
     (Want ∷ Want ∷ Started ∷ Attached ∷ Lost ∷ Want ∷ Want ∷ Stopped ∷ Attached ∷ IdleTick ∷ IdleTick ∷ IdleTick ∷ [])

@@ -14,8 +14,8 @@ use Rattle.bm_latent.specs.declared.worker_event.ProcessAction.{ProcessAction}
 use Rattle.bm_latent.specs.declared.worker_event.ProcessAction.TheVariants.{None as NoAction, Start, Shutdown}
 use Rattle.bm_latent.specs.declared.worker_event.WorkerAction.{WorkerAction}
 
--- the machine of a latent worker, whether a connection is attached to the lane, whether a process
--- runs that the master started, and whether the lane takes nothing more
+-- The machine of a latent worker, and whether a connection is attached to the lane. Also whether a
+-- process runs that the master started, and whether the lane takes nothing more.
 pub record WorkerView : Type 0 where
   pub latent : Option LatentView
   pub attached : Bool
@@ -26,9 +26,9 @@ pub record WorkerView : Type 0 where
 abbrev pub newcomer : Option LatentView → WorkerView
 newcomer latent = record { latent = latent; attached = false; running = false; full = false }
 
--- what the machine of a latent worker is told, in this order: no want of a lane that is full; an
--- idle tick only where the worker has no build; a worker that no process of ours is behind has stopped
--- once it is lost; and the end of a process is nothing while its worker is attached
+-- What the machine of a latent worker is told, in this order. Of a lane that is full no want is
+-- told, and an idle tick only where the worker has no build. A worker that no process of ours is
+-- behind has stopped once it is lost. The end of a process is nothing while its worker is attached.
 abbrev pub told : WorkerView → WorkerEvent → List LatentEvent
 told p Wanted = if p.full then [] else Want ∷ []
 told p Started = LatentStarted ∷ []
@@ -123,8 +123,8 @@ abbrev pub is_substantiating : LatentState → Bool
 is_substantiating Substantiating = true
 is_substantiating state = false
 
--- builds that wait are given up where their worker will not come: its process could not be started,
--- or ended before it logged in, or its lane takes nothing more
+-- Builds that wait are given up where their worker will not come. Its process could not be started,
+-- or ended before it logged in, or its lane takes nothing more.
 abbrev pub gives_up : WorkerView → WorkerEvent → Bool
 gives_up p Wanted = p.full
 gives_up p Failed = true

@@ -6,10 +6,10 @@ ghost use Rattle.bm_latent.specs.Deadline.{act_at, after_tick, begun};
 use std::marker::Model;
 
 /// How many ticks a process has that is to end, before it is asked to.
-const PATIENCE: u32 = 200;
+const ASK_AFTER_TICKS: u32 = 200;
 
 /// How many ticks it has until it is killed.
-const MOST: u32 = 1_000;
+const KILL_AFTER_TICKS: u32 = 1_000;
 
 /// What is to be done with a process that is to end.
 #[derive(Clone, Copy, PartialEq, Eq)]
@@ -22,8 +22,8 @@ pub enum EndAct {
     Kill,
 }
 
-/// Counts the ticks since a process is to end: it has two seconds to do so by itself, is asked then,
-/// and killed ten seconds after the beginning. A tick is `TICK_MS`.
+/// Counts the ticks since a process is to end. It has two seconds to do so by itself, is asked
+/// then, and killed ten seconds after the beginning. A tick is `TICK_MS`.
 #[derive(Drop)]
 pub struct Deadline {
     ticks: Option<u32>,
@@ -71,9 +71,9 @@ impl Deadline {
         };
         let ticks = ticks.saturating_add(1);
         self.ticks = Some(ticks);
-        if ticks >= MOST {
+        if ticks >= KILL_AFTER_TICKS {
             EndAct::Kill
-        } else if ticks == PATIENCE {
+        } else if ticks == ASK_AFTER_TICKS {
             EndAct::Ask
         } else {
             EndAct::None

@@ -1,12 +1,13 @@
 //! What a build master knows of its workers, and what it does with a worker's process. It decides
 //! alone: who drives it starts, stops and ends the process.
 //!
-//! [`Latent`] is the table of a latent worker, whose process is started once a build wants it, and
-//! stopped once it has been idle for long enough (Buildbot manual, "Latent Workers").
+//! [`Latent`] is the table of a latent worker (Buildbot manual, "Latent Workers"). Its process is
+//! started once a build wants it, and stopped once it has been idle for long enough.
 //! [`WorkerState`] says which worker takes builds. [`Deadline`] says when a process that is to end
-//! is killed, [`TickCounter`] how many ticks have passed. Each call is proved to be what `specs/`
-//! says. A body could still get away with nothing here; a driver could, which tells an event too
-//! late, twice or never.
+//! is killed, [`TickCounter`] how many ticks have passed.
+//!
+//! Promised: each call is what `specs/` says. A body could still get away with nothing here; a
+//! driver could, which tells an event too late, twice or never.
 #![tactic(auto)]
 
 mod deadline;

@@ -40,7 +40,7 @@ impl Latent {
         }
     }
 
-    /// Where the worker stands. What follows from an event depends on it: a process that ends is
+    /// The state of the worker. What follows from an event depends on it. A process that ends is
     /// started again where the worker is `Waiting`, and its builds are lost where it is
     /// `Substantiated` or `Held`.
     pub fn state(&self) -> LatentState

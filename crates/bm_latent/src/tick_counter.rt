@@ -65,8 +65,9 @@ impl TickCounter {
         ticks
     }
 
-    /// How many ticks are told of now: those that have ended since the last call, but never more
-    /// than a hundred, whose rest is left out. One where the clock failed, which counts none.
+    /// How many ticks are told of now: those that have ended since the last call, but at most a
+    /// hundred. Where there are more, the rest is left out. One is told where the clock failed,
+    /// which counts none.
     pub fn told(&mut self, now: Option<u64>) -> u64
         ensures ticks { result ≡ told_at self.old now }
         ensures left { self.new ≡ after_telling self.old now }

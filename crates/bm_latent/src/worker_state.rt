@@ -11,8 +11,8 @@ use crate::worker_event::{ProcessAction, WorkerAction, WorkerEvent};
 use std::marker::Model;
 
 /// What a build master knows of one worker. One that isn't latent takes builds while its connection
-/// is attached. One that is latent takes them while it is substantiated; its process is started
-/// once a build waits for it, and its worker is told to shut down once it has been idle for long
+/// is attached. One that is latent takes them while it is substantiated. Its process is started
+/// once a build waits for it. Its worker is told to shut down once it has been idle for long
 /// enough. A worker whose process ends while it is attached goes on until its connection ends.
 #[derive(Drop)]
 pub struct WorkerState {

@@ -28,8 +28,8 @@ unfoldable pub ask_bytes : ℕ → Ask → List ℕ
 ask_bytes n a = written (tree_of (request n (asks_for a)))
 
 module _ {S : Type 0} where
-  -- the request was sent under the next number; or the numbers are used up, and nothing left, or it
-  -- was not sent: its number is not given again
+  -- The request was sent under the next number. Or the numbers are used up, and nothing left. Or it
+  -- was not sent, and its number is not given again.
   abbrev pub SendsAsk : (S → Option (List ℕ)) → Carried → Ask → Socket S
       → Result (Unit {0}) LinkFault → Socket S → Carried → Type 0
   SendsAsk contents carry a old (Ok _) new carry2 =

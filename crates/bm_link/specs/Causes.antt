@@ -32,8 +32,8 @@ abbrev pub GivesNoEvent : List ℕ → LinkFault → Type 0
 GivesNoEvent bytes f = GivesNone IsEventOf bytes f
 
 module _ {S : Type 0} where
-  -- a message is not sent: memory is wanting, or the connection takes no message more, and nothing
-  -- left; or the stream failed, and a beginning left of what waited and of this message's frame
+  -- A message is not sent. Memory is wanting, or the connection takes no message more, and nothing
+  -- left. Or the stream failed, and a beginning left of what waited and of this message's frame.
   abbrev pub IsUnsent : (S → Option (List ℕ)) → List ℕ → Socket S → LinkFault → Socket S → Type 0
   IsUnsent contents bytes old f new =
       ((new ≡ old) × ((f ≡ Mem) ⊎ ((f ≡ Closed) × (can_write old.conn.state ≡ false))))
@@ -46,8 +46,8 @@ module _ {S : Type 0} where
       (m : Message) × (mid : Socket S) × Reads remaining old mid (Ok m) × IsCloseFrame m
       × Flushed contents mid new × (f ≡ Closed)
 
-  -- no event is read: the socket fails, and not only since nothing has come yet; a close frame
-  -- comes; or a binary message that gives none
+  -- No event is read. The socket fails, and not only since nothing has come yet. Or a close frame
+  -- comes, or a binary message that gives none.
   abbrev pub FailsToRead : (S → Option (List ℕ)) → (S → Option (List ℕ)) → Socket S → LinkFault
       → Socket S → Type 0
   FailsToRead remaining contents old f new =
@@ -56,8 +56,8 @@ module _ {S : Type 0} where
       ⊎ ((bs : List ℕ) × (m : Message) × Reads remaining old new (Ok m)
       × (content_of m ≡ binary bs) × GivesNoEvent bs f))
 
-  -- a first message does not come, or is not what it is to be: the socket fails; a close frame
-  -- comes; a message that is passed over elsewhere; or a binary one, whose bytes fail so
+  -- A first message does not come, or is not what it is to be. The socket fails, or a close frame
+  -- comes, or a message that is passed over elsewhere. Or a binary one comes, whose bytes fail so.
   abbrev pub FailsAtFirst : (List ℕ → LinkFault → Type 0) → (S → Option (List ℕ))
       → (S → Option (List ℕ)) → Socket S → LinkFault → Socket S → Type 0
   FailsAtFirst Fails remaining contents old f new =

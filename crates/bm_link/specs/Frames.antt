@@ -10,8 +10,8 @@ use Rattle.bm_link.specs.declared.fault.LinkFault.{LinkFault}
 use Rattle.bm_link.specs.declared.fault.LinkFault.TheVariants.{Closed, Mem, Stream}
 
 module _ {S : Type 0} where
-  -- a frame is not sent: memory is wanting, or the connection takes no frame more, and nothing
-  -- left; or the stream failed, and a beginning left of what waited and of the frame
+  -- A frame is not sent. Memory is wanting, or the connection takes no frame more, and nothing
+  -- left. Or the stream failed, and a beginning left of what waited and of the frame.
   abbrev pub IsFrameUnsent : (S → Option (List ℕ)) → Result Effect FrameError → Socket S → LinkFault
       → Socket S → Type 0
   IsFrameUnsent contents step old f new =

@@ -31,8 +31,8 @@ CutsWhereAllowed =
     (lane lane2 : Heard) (e : Ended) → Ends true lane lane2 e → refusal lane.trace Cut ≡ None
     → (e ≡ ended.Cut) × (lane2 ≡ with_event lane Cut)
 
--- a link that fails for its lane tells what the lane's trace refuses, which is neither want of
--- memory nor that the lane is full, and never that it is busy
+-- A link that fails for its lane tells what the lane's trace refuses. That is neither want of
+-- memory nor that the lane is full, and never that it is busy.
 abbrev pub LaneRefusesByItsTrace : Type 0
 LaneRefusesByItsTrace =
     (lane : Heard) (e : Event) (why : HearRefusal) → Declines lane e (Lane why)

@@ -16,7 +16,8 @@ pub mod Telling
 pub mod Attaching
 -- How long the texts may be that a message carries.
 pub mod Texts
--- What a master sends unasked, its pings and closes, and what a lane carries from one link to the next.
+-- What a master sends unasked, its pings and closes, and what a lane keeps from one link to the
+-- next.
 pub mod Orders
 pub mod Asks
 pub mod Asking
@@ -28,7 +29,8 @@ pub mod Received
 pub mod Working
 -- What is sent beside messages: pings, and close frames.
 pub mod Frames
--- Laws of what is carried, of what a fault leaves behind it, and of messages that carry short texts.
+-- Laws of what is kept for the next link, of what a fault leaves behind it, and of messages with
+-- short texts.
 pub mod Laws
 pub mod LawsOfFaults
 pub mod LawsOfTexts

@@ -15,7 +15,7 @@ use std::alloc::Global;
 use std::io::{Read, Write};
 
 impl<S: Read + Write + Drop> MasterLink<S> {
-    /// Asks the worker for a sign of life, which is no request of the session: a peer that is there
+    /// Asks the worker for a sign of life. That is no request of the session: a peer that is there
     /// answers with a pong, which a `turn` passes over.
     ///
     /// # Errors

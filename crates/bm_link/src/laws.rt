@@ -7,21 +7,21 @@ ghost use Rattle.bm_link.specs.LawsOfTexts.{AsksFit, LoginsFit, OrdersFit};
 
 use std::io::Write;
 
-/// The orders that are carried from one link to the next are those of the lane's trace that have no
-/// answer, in order, by their numbers. It holds of a new lane and what is new, and each event keeps
-/// it: one of the worker, a cut, a giving up and an `Up` that resumes, with what is carried after
-/// it; an order, with that order appended; and an `Up` that resumes nothing, with what a session
-/// begins with.
+/// The orders that are kept for the next link are those of the lane's trace that have no answer, in
+/// order, by their numbers. It holds of a new lane and what is new, and still after each event.
+/// After an event of the worker, a cut, a giving up or an `Up` that resumes, it holds of what is
+/// then kept. After an order it holds with that order appended, and after an `Up` that resumes
+/// nothing with what a session begins with.
 pub fn carried_orders_are_pending()
     ensures events { WorkersEventsKeep }
     ensures orders { OrdersAreAdded }
     ensures sessions { SessionsBeginAnew }
 {}
 
-/// After a fault nothing has left but what its call was to send: of an event only the answer to it,
-/// where the lane took it; of a refused login only the exception that says so. A link that fails
-/// for its lane tells what the lane's trace refuses; and its lane is cut wherever it may be and its
-/// trace takes that.
+/// After a fault nothing has left but what its call was to send. Of an event that is only the
+/// answer to it, where the lane took it. Of a refused login it is only the exception that says so.
+/// A link that fails for its lane tells what the lane's trace refuses. Its lane is cut wherever it
+/// may be and its trace takes that.
 pub fn faults_leave_no_more<S: Write>()
     ensures answers { AnswersOnlyWhatWasTaken S.contents }
     ensures refusals { TellsOnlyTheRefusal S.contents }
@@ -29,8 +29,8 @@ pub fn faults_leave_no_more<S: Write>()
     ensures cuts { CutsWhereAllowed }
 {}
 
-/// A message that carries the short texts of its caller fits into a frame of its reader: an order,
-/// any other request of a master, and a login whose session's text a master keeps.
+/// A message with the short texts of its caller fits into a frame of its reader. It is an order,
+/// any other request of a master, or a login whose session's text a master keeps.
 pub fn short_texts_fit()
     ensures orders { OrdersFit }
     ensures asks { AsksFit }

@@ -2,11 +2,12 @@
 //!
 //! A master's link reads one message a turn, gives its event to the reader's end of a lane, and
 //! writes the answer. A worker's link gives the message to the worker's core, and writes the
-//! response.
+//! response. A [`ResumeState`] keeps what the next link needs to resume a session, and to send its
+//! orders without an answer again.
 //!
-//! What a master's lane carries from one link of its worker to the next lets a session be resumed:
-//! a link that fails then cuts its lane, and the next one that names the same session takes it up
-//! again and sends the orders without an answer again.
+//! Promised: what each call sends, takes and keeps, and the causes of `BadMessage`, `BadLogin`,
+//! `Closed`, `Full` and `Lane` after the handshake. A body could still tell `Stream`, `Mem` or
+//! `Arena` without cause, or be always quiet: their causes are the ported crates' word.
 #![tactic(auto)]
 
 mod asks;

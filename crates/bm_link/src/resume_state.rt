@@ -14,10 +14,10 @@ use std::marker::Model;
 /// The number of the first request of a session that is no order.
 const FIRST_ASK: u64 = 1 << 62;
 
-/// What a lane carries from one link of its worker to the next, so that a session can be resumed:
-/// the session's text, the orders that have no answer yet, with the bytes that were sent, and the
-/// number of the next request that is no order. Each lane has one of its own, and gives it to all
-/// of its links.
+/// What a lane keeps from one link of its worker to the next, so that a session can be resumed. It
+/// has the session's text, and the orders that have no answer yet, with the bytes that were sent.
+/// It also has the number of the next request that is no order. Each lane has one of its own, and
+/// gives it to all of its links.
 #[derive(Drop)]
 pub struct ResumeState {
     resumable: bool,

@@ -1,8 +1,8 @@
 -- How many things a second are let through.
 use Rattle.std.specs.Prelude.{ℕ, ◌+◌, ◌-◌, ◌^◌, ◌==◌, Bool, nat_lt, if◌then◌else◌, min}
 
--- how many things a second are let through, the second of the last thing, how many were let through
--- in it, and how many were left out that nobody took
+-- How many things a second are let through, the second of the last thing, and how many were let
+-- through in it. Also how many were left out that nobody took.
 pub record Allowance : Type 0 where
   pub most : ℕ
   pub second : ℕ

@@ -5,9 +5,9 @@ ghost use Rattle.bm_operator.specs.Cancel.{cancelled};
 
 use bm_decimal::read_number_in;
 
-/// The number of the build that a line cancels: that of `cancel I`, one space between the two, with
-/// I of one or more decimal digits, below 2^64; none for any other line. The line end is no part of
-/// it.
+/// The number of the build that a line cancels. The line is `cancel I`: one space between the two,
+/// and I of one or more decimal digits, below 2^64. Any other line has none. The line end is no
+/// part of it.
 pub fn read_cancel(line: &[u8]) -> Option<u64>
     ensures { result ≡ cancelled line.now }
 {

@@ -2,10 +2,12 @@
 //!
 //! Written: the line `cancel I` ([`read_cancel`]) and the words of a latent worker's program
 //! ([`place_master`]). Read: standard output ([`OutputLine`]), standard error ([`Remark`], with its
-//! reasons, [`StepEvent`] and [`LogId`]) and the exit status. Each text is proved byte for byte, and
-//! a name never ends a line or moves a cursor ([`one_line`]). [`RateLimit`] says how many lines a
-//! second are let through. `Remark::write` and `OutputLine::write` have no clause: a body could
-//! write another line there, and only tests would see it.
+//! reasons, [`StepEvent`] and [`LogId`]) and the exit status. [`RateLimit`] says how many lines a
+//! second are let through.
+//!
+//! Promised: each text, byte for byte, and that a name never ends a line or moves a cursor
+//! ([`one_line`]). A body could still want memory. `Remark::write` and `OutputLine::write` have no
+//! clause: a body could write another line there, and only tests would see it.
 #![tactic(auto)]
 
 mod cancel;

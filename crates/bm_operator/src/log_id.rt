@@ -2,8 +2,8 @@
 
 ghost use Rattle.std.specs.Prelude.{◌≡◌, ◌+◌, ◌*◌};
 
-/// The log of a command on a lane, under the id that the web knows it by: the command's number
-/// times the number of lanes, plus the lane's place.
+/// The log of a command on a lane, under the id that the web knows it by. The id is the command's
+/// number times the number of lanes, plus the lane's place.
 #[derive(Clone, Copy, PartialEq, Eq)]
 pub struct LogId {
     pub command: u64,

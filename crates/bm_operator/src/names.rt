@@ -5,8 +5,8 @@ ghost use Rattle.bm_operator.specs.OneLine.{escaped, one_line, shown};
 
 use std::alloc::{AllocError, Global};
 
-/// A name as it is shown on one line: each control character as `\x` and two hex digits, and each
-/// backslash as two, so that no name ends a line or moves a terminal's cursor.
+/// A name as it is shown on one line. Each control character is `\x` and two hex digits, and each
+/// backslash is two. So no name ends a line or moves a terminal's cursor.
 pub fn one_line(alloc: Global, name: &str) -> Result<String, AllocError>
     ensures { IfOk result (λ s. string_bytes s ≡ one_line name.now) }
 {

@@ -16,7 +16,8 @@ fn placed(alloc: Global, word: &Text, master: &str) -> Result<Text, AllocError>
     Ok(Text::from_string(text))
 }
 
-/// The words of a worker's program, with the master's address in the place of each `{master}` in them.
+/// The words of a worker's program, with the master's address in the place of each `{master}` in
+/// them.
 pub fn place_master(alloc: Global, words: &[Text], master: &str) -> Result<Vec<Text>, AllocError>
     ensures { IfOk result (λ all. IsEachPlaced master.now words.now all.items) }
 {

@@ -44,8 +44,8 @@ pub enum Remark<'a> {
     Filled {
         worker: &'a str,
     },
-    /// A connection that logged in was not taken up: `login refused, WHY, from ADDR: NAME`. The name
-    /// may be no worker's.
+    /// A connection that logged in was not taken up: `login refused, WHY, from ADDR: NAME`. The
+    /// name may be no worker's.
     LoginRefused {
         name: &'a str,
         from: SocketAddr,

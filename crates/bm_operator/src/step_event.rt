@@ -25,8 +25,8 @@ pub enum StepEvent {
 }
 
 impl StepEvent {
-    /// What is told of it, where it happened to this step of this build, on the lane of this worker,
-    /// at this place among so many. `said` is what the worker said last.
+    /// What is told of it, where it happened to this step of this build. The lane is that of this
+    /// worker, at this place among so many. `said` is what the worker said last.
     pub fn remark<'a>(
         self,
         build: u64,

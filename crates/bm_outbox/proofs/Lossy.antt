@@ -1,4 +1,5 @@
--- Bytes shown as text, with U+FFFD for what is not UTF-8, split behind the end of a line: what stands before it and what follows play no part for each other.
+-- Bytes shown as text, with U+FFFD for what is not UTF-8, split behind the end of a line. What
+-- stands before it and what follows play no part for each other.
 use Rattle.std.proofs.Common.{◌≡◌, ◌⊎◌, ℕ, zero, suc, ◌+◌, ◌-◌, ◌<◌, ◌≤◌, ◌==◌, Bool, true, false, List, [], ◌∷◌, ◌++◌, length, take, drop, slice_index, None, Some, IsUtf8, refl, sym, ap, subst, ◌∙◌, arith, inl, inr, ⊎_elim, true≢false, append_assoc, length-append, length-drop, take_all, nat_lt, if◌then◌else◌}
 use Rattle.std.proofs.lemmas.Bool.{cases_Bool, cases_lt, cond-true, cond-false}
 use Rattle.std.proofs.lemmas.Bool.Decides.{nat_tests}

@@ -33,8 +33,8 @@ AreApart [] = ⊤
 AreApart (text ∷ []) = ⊤
 AreApart (first ∷ second ∷ rest) = (Fit first second → ⊥) × AreApart (second ∷ rest)
 
--- what is said of these texts is their text, in order, with the letter of their pipe; its lines are
--- theirs, and all that fits is joined
+-- What is said of these texts is their text, in order, with the letter of their pipe. Its lines are
+-- theirs, and all that fits is joined.
 pub record IsJoined (letter : Letter) (texts : List (List ℕ)) (said : List Said) : Type 0 where
   pub same_text : whole_of (texts_of said) ≡ whole_of texts
   pub same_lines : lines_in letter (texts_of said) ≡ lines_in letter texts

@@ -50,8 +50,8 @@ Starts k words old new = Opens k words [] old new
     ⊎ ((why : StartFault) × (told : List OutboxEntry) × EndsUnstarted k why told
     × Opens k words told old new)
 
--- the command whose pipes gave this exit code has ended: the line of that code waits behind all that
--- was told, and its end behind that
+-- The command whose pipes gave this exit code has ended. The line of that code waits behind all
+-- that was told, and its end behind that.
 abbrev pub Closes : ExitCode → List OutboxEntry → List OutboxEntry → Type 0
 Closes code old new = (said : List Said) × IsHeader (exit_line code.code) said
     × (new ≡ old ++ waiting_texts code.command said ++ entry.End code.command (Code code) ∷ [])

@@ -6,7 +6,7 @@ use Rattle.bm_lines.specs.declared.letter.Letter.{Letter}
 use Rattle.bm_work.specs.Cuts.{longest, texts_of as cut_texts, left_of, shown}
 use Rattle.bm_outbox.specs.Joining.{Joining, AreApart, all_of, lines_in, whole_of}
 
--- The first n bytes are shown at once: behind what is shown of them stands what is shown of the
+-- The first n bytes are shown at once. Behind what is shown of them stands what is shown of the
 -- rest, and so do its lines.
 pub record IsStretch (bytes : List ℕ) (n : ℕ) : Type 0 where
   pub some : 0 < n

@@ -100,8 +100,8 @@ impl Joiner {
     }
 }
 
-/// Whether a text can follow another one in the same update and its lines stay lines of their own:
-/// the first one is empty or ends its line, and both together are short enough.
+/// Whether a text can follow another one in the same update and its lines stay lines of their own.
+/// The first one is empty or ends its line, and both together are short enough.
 #[tactic(auto, using(crate::proofs::Joins::ends_line))]
 fn fit(first: &str, second: &str) -> bool
     requires first { length first.now ≤ 65536 }
@@ -118,9 +118,9 @@ fn fit(first: &str, second: &str) -> bool
     first.as_bytes()[first.len() - 1] == b'\n'
 }
 
-/// What is said of bytes of a pipe whose first stretch ends there: their texts in order, each of at
-/// most 65,536 bytes, with their lines. All that fits is joined. The bytes behind the last text
-/// follow.
+/// What is said of bytes of a pipe whose first stretch ends there. These are their texts in order,
+/// each of at most 65,536 bytes, with their lines. All that fits is joined. The bytes behind the
+/// last text follow.
 pub(crate) fn joined<'a>(
     alloc: Global,
     letter: Letter,

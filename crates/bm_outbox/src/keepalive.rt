@@ -21,7 +21,7 @@ pub enum Keepalive {
 }
 
 /// What is to be done about a master that has been silent for so long, and was pinged meanwhile or
-/// not: it is pinged once after 15 seconds, and given up after 60.
+/// not. It is pinged once after 15 seconds, and given up after 60.
 pub fn after_silence(silent_seconds: u64, was_pinged: bool) -> Keepalive
     ensures { result ≡ after_silence silent_seconds was_pinged }
 {

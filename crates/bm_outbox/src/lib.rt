@@ -1,5 +1,10 @@
 //! What a worker tells its master of its commands, and in which order: the texts of their pipes,
 //! joined, and their ends. Nothing here knows sockets, processes or threads.
+//!
+//! Promised: what waits is told in order, under the next numbers. What is said of a pipe is its
+//! text, in order, with the same lines. An exit code is told only by an [`ExitCode`], which only
+//! [`Pipes`] give that noted the ends of both pipes of its command. A body could still want memory.
+//! A driver could end a pipe that it has not read to its end.
 #![tactic(auto)]
 
 mod ending;

@@ -78,8 +78,8 @@ impl Outbox {
         self.push_all(command, header_texts(alloc, command, line.as_str())?)
     }
 
-    /// Tells the end of a command whose process can't be started for this reason: the line that says
-    /// why waits behind the others, and the end behind it.
+    /// Tells the end of a command whose process can't be started for this reason. The line that
+    /// says why waits behind the others, and the end behind it.
     ///
     /// # Errors
     ///
@@ -94,7 +94,7 @@ impl Outbox {
         Ok(())
     }
 
-    /// Tells the end of the command whose ended pipes gave this exit code: the line of that code
+    /// Tells the end of the command whose ended pipes gave this exit code. The line of that code
     /// waits behind the others, and the end behind it.
     ///
     /// # Errors

@@ -7,7 +7,7 @@ use crate::outbox::Outbox;
 use bm_work::{Sent, Worker};
 use std::alloc::{AllocError, Global};
 
-/// What is sent first once a login was answered. A resumed session goes on: its requests without an
+/// What is sent first once a login was answered. A resumed session goes on. Its requests without an
 /// answer are sent again, oldest first, with the bytes that were sent, and all that waits waits on.
 /// A session that wasn't resumed begins anew: the core forgets the old one, nothing of it is sent
 /// again, and nothing of it waits.

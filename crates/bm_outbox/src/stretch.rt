@@ -9,8 +9,8 @@ use memchr::memrchr;
 /// The most bytes of a line that go into one text.
 const LONGEST: usize = 16_384;
 
-/// How many bytes are shown at once: those up to the last line end of the first 16,384, or all of
-/// these where no line ends in them. None where no text ends in the bytes.
+/// How many bytes are shown at once: those up to the last line end of the first 16,384. All 16,384
+/// are shown where no line ends in them. None where no text ends in the bytes.
 pub(crate) fn stretch_end(bytes: &[u8]) -> Option<usize>
     ensures { MatchOption result (IsUnended bytes.now) (IsStretch bytes.now) }
 {

@@ -14,9 +14,9 @@ pub enum Ready {
     End,
 }
 
-/// The place of the command that is told of next: the first whose end is to be told, or else the
-/// first that has a text. Where the one that was told of goes behind all others each time, each
-/// command waits for one text of each of the others at the most.
+/// The place of the command that is told of next. It is the first whose end is to be told, or else
+/// the first that has a text. The one that was told of is to go behind all others each time. Then
+/// each command waits for one text of each of the others at the most.
 #[tactic(auto, using(crate::proofs::Turns::turn_within))]
 pub fn next_turn(commands: &[Ready]) -> Option<usize>
     ensures turn { result ≡ next_turn commands.now }

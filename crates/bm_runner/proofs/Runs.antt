@@ -16,7 +16,8 @@ use Rattle.bm_runner.specs.declared.port.Told.{Told}
 use Rattle.bm_runner.specs.Run.{is_skipped, outcome_of, counted, runs_at, ran, told_outcomes, IsWaitedFor, IsStepRun, IsRun}
 use Rattle.bm_runner.proofs.Places.{get-set_same, get-set_other, take_one, get-replicate, no_step_left}
 
--- a run that has come to a place: the outcomes before it are those of the steps, and the rest are SKIPPED
+-- a run that has come to a place: the outcomes before it are those of the steps, and the rest are
+-- SKIPPED
 pub record IsAt (steps : List StepPlan) (turns : ℕ) (before now : List Told) (refused : Bool) (outcomes : List Results) (i : ℕ) : Type 0 where
   pub entries : List Told
   pub told : now ≡ before ++ entries

@@ -39,9 +39,9 @@ told_outcomes entries refused = map outcome_of entries ++ (if refused then Retry
 abbrev pub IsWaitedFor : ℕ → Told → Type 0
 IsWaitedFor turns entry = entry.ended ≡ None → entry.polls ≡ turns
 
--- a run of the steps: one outcome for each step, SKIPPED just for those that don't run; the port
--- told an entry for each step that ran, in order, but for the last where its start was refused; and
--- the build's result
+-- A run of the steps. There is one outcome for each step, SKIPPED just for those that don't run.
+-- The port told an entry for each step that ran, in order, but for the last where its start was
+-- refused. The report's result is the build's.
 pub record IsRun (steps : List StepPlan) (turns : ℕ) (before after : List Told) (refused : Bool)
     (report : Report) : Type 0 where
   pub entries : List Told

@@ -33,13 +33,14 @@ impl Entries {
         }
     }
 
+    /// The entries, in the order in which their commands were started.
     pub fn as_slice(&self) -> &[Told]
         ensures { result.now ≡ self.now.told }
     {
         self.vec.as_slice()
     }
 
-    /// Makes room for one entry more, so that the next `begin` succeeds: called before a command is
+    /// Makes room for one entry more, so that the next `begin` succeeds. Called before a command is
     /// started, it leaves no command that runs and has no entry. Want of memory changes nothing.
     pub fn reserve(&mut self) -> Result<(), AllocError>
         ensures told { self.new.told ≡ self.old.told }

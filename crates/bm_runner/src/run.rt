@@ -28,8 +28,8 @@ impl Report {
     }
 }
 
-/// Runs the build's steps one after the other. A step whose start is refused is RETRY; a command
-/// that ended SKIPPED is EXCEPTION, and so is one that has no end after `turns` polls, which is
+/// Runs the build's steps one after the other. A step whose start is refused is RETRY. A command
+/// that ended SKIPPED is EXCEPTION. So is one that has no end after `turns` polls, which is
 /// interrupted. A command is interrupted when its port first says that the build is cancelled.
 /// Errors: want of memory, before anything was started.
 pub fn run_build<P: Port>(

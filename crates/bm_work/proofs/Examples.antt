@@ -1,4 +1,5 @@
--- Definitions on worked examples. The bytes are those that this project's profile gives for its messages.
+-- Definitions on worked examples. The bytes are those that this project's profile gives for its
+-- messages.
 use Rattle.std.proofs.Common.{◌≡◌, [], ◌∷◌, pos, Some, None, refl}
 use Rattle.std.specs.Prelude.{codes}
 use Rattle.std.specs.Fmt as numerals

@@ -13,8 +13,8 @@ abbrev pub strs_of : Trees → Option (List (List ℕ))
 strs_of none = Some []
 strs_of (item t ts) = option_and_then (λ s. option_map (λ more. s ∷ more) (strs_of ts)) (str_of t)
 
--- the words of a command: a shell runs a str, and an array of at least one str and of strs alone is
--- run as it is
+-- The words of a command. A shell runs a str. An array of at least one str and of strs alone is run
+-- as it is.
 abbrev pub words_of : Option Tree → Option (List (List ℕ))
 words_of (Some (str s)) = Some (codes "sh" ∷ codes "-c" ∷ s ∷ [])
 words_of (Some (array (item t ts))) = strs_of (item t ts)

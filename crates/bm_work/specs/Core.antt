@@ -17,8 +17,9 @@ use Rattle.bm_work.specs.declared.act.WorkAct.TheVariants.{Run, Interrupt, Print
 use Rattle.bm_work.specs.declared.act.WorkRefusal.{WorkRefusal}
 use Rattle.bm_work.specs.declared.act.WorkRefusal.TheVariants.{NoSuchCommand, Window}
 
--- the commands that run, what was reported in this session, the numbers of its requests that were
--- answered, and the numbers of the master's requests of this session, each with its first answer
+-- The commands that run, what was reported in this session, and the numbers of its requests that
+-- were answered. Also the numbers of the master's requests of this session, each with its first
+-- answer.
 pub record Core : Type 0 where
   pub running : List ℕ
   pub reports : List Report
@@ -197,9 +198,9 @@ abbrev pub Rise : ℕ → List ℕ → ℕ → Type 0
 Rise low [] high = low ≤ high
 Rise low (n ∷ ns) high = (low ≤ n) × Rise (n + 1) ns high
 
--- What holds of a worker at any time: at most four commands run, the unanswered requests fit into
--- the window, oldest first, no number is above those below 2^63, and only requests that were sent
--- are answered.
+-- What holds of a worker at any time. At most four commands run, and the unanswered requests fit
+-- into the window, oldest first. Each number that was given is below 2^63, and only requests that
+-- were sent are answered.
 pub record IsCore (c : Core) : Type 0 where
   pub few : length c.running ≤ 4
   pub within : length (unanswered_requests c) ≤ window

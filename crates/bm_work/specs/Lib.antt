@@ -1,5 +1,6 @@
--- What a worker says and answers, to be believed: the texts of a pipe, the words of a command, the
--- answers and their bytes, the requests and their order, and what each call does.
+-- What a worker says and answers, to be believed. Here are the texts of a pipe, the words of a
+-- command, the answers and their bytes. Then come the requests and their order, and what each call
+-- does.
 pub mod Cuts
 pub mod Argv
 pub mod WorkerAnswers

@@ -26,12 +26,14 @@ impl Model for Argv {
 }
 
 impl Argv {
+    /// The words of this vector, in their order.
     pub fn from_vec(words: Vec<Text>) -> Argv
         ensures { result ≡ words.items }
     {
         Argv { words }
     }
 
+    /// The words by value.
     pub fn into_vec(self) -> Vec<Text>
         ensures { result.items ≡ self }
     {
@@ -39,6 +41,7 @@ impl Argv {
         words
     }
 
+    /// The words in their order.
     pub fn as_slice(&self) -> &[Text]
         ensures { result.now ≡ self.now }
     {

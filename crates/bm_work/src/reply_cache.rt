@@ -30,6 +30,7 @@ impl Model for ReplyCache {
 }
 
 impl ReplyCache {
+    /// No answer is kept. It takes no memory.
     pub fn new(alloc: Global) -> ReplyCache
         ensures { result ≡ empty }
     {

@@ -137,8 +137,8 @@ impl Worker {
     ///
     /// # Errors
     ///
-    /// `NoSuchCommand` exactly where the command doesn't run, else `Window` exactly where 64
-    /// requests have no answer or the numbers below 2^63 are used up, else `Mem`. They change
+    /// `NoSuchCommand` exactly where the command doesn't run. Else `Window` exactly where 64
+    /// requests have no answer or the numbers below 2^63 are used up. Else `Mem`. They change
     /// nothing.
     pub fn say(&mut self, command: u64, letter: Letter, text: &str) -> Result<Sent, WorkRefusal>
         requires { length text.now ≤ 65536 }
