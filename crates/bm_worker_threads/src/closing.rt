@@ -80,7 +80,7 @@ fn after<R: Clock>(rt: &R, seconds: u64) -> Option<Instant> {
 }
 
 /// Closes a connection. A close frame goes out, and what still comes is read until the other end
-/// closes, for two seconds at the most. Bytes that nobody read would reset the connection, and
+/// closes, for a second at the most. Bytes that nobody read would reset the connection, and
 /// what was written last would be lost with it.
 pub(crate) fn close<S, K, R>(rt: &R, link: &mut WorkerLink<ReadyStream<S>, K>)
 where
@@ -93,8 +93,15 @@ where
     read_to_end(rt, link.get_ref().get_ref());
 }
 
-/// Ends a stream for writing, and reads it to its end. After a second no read begins, and each
-/// lasts a second at the most.
+/// How long it is until then: nothing where that is over, or the clock fails.
+fn left_until<R: Clock>(rt: &R, deadline: Instant) -> Duration {
+    match Instant::now(rt) {
+        Ok(now) => deadline.saturating_duration_since(now),
+        Err(_) => Duration::ZERO,
+    }
+}
+
+/// Ends a stream for writing, and reads it to its end, for a second at the most.
 fn read_to_end<S, R>(rt: &R, stream: &S)
 where
     S: Read + OpenStream + Drop,
@@ -104,16 +111,15 @@ where
         return;
     };
     let _ = stream.shutdown(Shutdown::Write);
-    let _ = stream.set_read_timeout(Some(Duration::from_secs(LAST_BYTES_SECONDS)));
     let mut room = [0u8; 4096];
     for _ in 0..u64::MAX {
+        let left = left_until(rt, deadline);
+        if left.is_zero() || stream.set_read_timeout(Some(left)).is_err() {
+            return;
+        }
         match rest.read(&mut room) {
             Ok(0) | Err(_) => return,
             Ok(_) => {}
-        }
-        match Instant::now(rt) {
-            Ok(now) if now < deadline => {}
-            _ => return,
         }
     }
 }
