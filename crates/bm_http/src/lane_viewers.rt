@@ -44,6 +44,20 @@ impl<Y: Yard> Model for LaneViewers<Y> {
     ghost invariant = { λ v. IsPlaced v.places.items × (v.room.items ≡ []) };
 }
 
+/// Appends the viewer that lies at a place. None where none does, or memory is wanting.
+fn keep<Y: Yard>(viewers: &mut Vec<Viewer<Y>>, place: Option<Viewer<Y>>) -> Option<()>
+    ensures { IfSome result
+        (λ _. map Some viewers.old.items ++ place ∷ [] ≡ map Some viewers.new.items) }
+{
+    let Some(viewer) = place else {
+        return None;
+    };
+    if viewers.push(viewer).is_err() {
+        return None;
+    }
+    Some(())
+}
+
 impl<Y: Yard> LaneViewers<Y> {
     /// The viewers of all lanes, in the order of the lanes. This is where each is compared with its
     /// place.
@@ -102,7 +116,7 @@ impl<Y: Yard> LaneViewers<Y> {
     {
         let LaneViewers { places, mut room } = self;
         for place in places {
-            room.push(place?).ok()?;
+            keep(&mut room, place)?;
         }
         Some(room)
     }
