@@ -2,6 +2,7 @@ pub mod Uses
 pub mod Places
 pub mod Keeping
 pub mod Starting
+pub mod Trying
 pub mod Waiting
 pub mod Counting
 mod Examples

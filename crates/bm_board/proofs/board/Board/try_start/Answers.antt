@@ -1,119 +1,70 @@
-use Rattle.std.proofs.Common.{◌≡◌, ◌<◌, ◌^◌, true, false, length, refl, sym, ap, subst, ◌∙◌, inl, inr, IsOk, All, arith}
-use Rattle.std.proofs.lemmas.Bool.{and_parts, ltb-true}
-use Rattle.bm_board.specs.ScheduledBuild.{BuildState, answer_of, first_of, is_waiting}
-use Rattle.bm_board.specs.Board.{board_after}
+use Rattle.std.proofs.Common.{◌≡◌, ◌<◌, ◌^◌, Bool, true, false, refl, sym, ap, subst, ◌∙◌, inl, inr, IsOk, All, arith}
+use Rattle.bm_board.specs.Board.{BoardState}
 use Rattle.bm_board.specs.Kept.{HasRoom, are_free}
-use Rattle.bm_board.proofs.Places.{same_place}
-use Rattle.bm_board.proofs.Keeping.{known_at}
-use Rattle.bm_board.proofs.Starting.{start_by, started_answer, started_board, started_waits_not, starts, startable, has_room}
-use Rattle.bm_board.proofs.Counting.{counted_started}
+use Rattle.bm_board.proofs.Trying.{IsTried, start_tried, room_tried, counted_tried, answer_tried, board_tried}
+use Rattle.bm_board.proofs.board.Board.try_start.Goals.{After-has_place, After-are_free}
 use Rattle.bm_board.proofs.board.Board.try_start.Goals as goal
+
+-- the board as the tests see it
+abbrev board : After-has_place → BoardState
+board c = record { workers = c.self.inside.workers.items; maxima = c.self.inside.maxima.items; jobs = c.self.inside.jobs.items }
+
+-- the tests before the locks, by the answer of the last
+tried : (c : After-has_place) (place : Bool) → c.has_place.result ≡ place → IsTried (board c) c.args.self.now c.self.inside.counts.held c.args.id c.index-job.result.now c.build-build.result.now c.index-had.result.now c.taken.result place
+tried c place h =
+    record {
+      seen = c.self.view_is;
+      low = omega arith;
+      job_is = c.index-job.ensures;
+      kept = c.self.invariant.held;
+      build_is = c.build-build.ensures;
+      waits = sym c.is_waiting.ensures ∙ c.if-not-is_waiting.false;
+      had_is = c.index-had.ensures;
+      taken_is = c.taken.ensures;
+      placed = sym c.has_place.ensures.place ∙ h;
+    }
+
+-- the test of the locks, by its answer
+freed : (c : After-are_free) (free : Bool) → c.are_free.result ≡ free → are_free c.self.inside.counts.held c.self.inside.maxima.items c.build-build.result.now.locks ≡ free
+freed c free h =
+    ap (λ m. are_free c.self.inside.counts.held m c.build-build.result.now.locks) (sym c.deref.ensures.value) ∙ sym c.are_free.ensures.free ∙ h
 
 pub returns-then-not-has_place-clause-refused : goal.returns-then-not-has_place-clause-refused
 returns-then-not-has_place-clause-refused c =
-    let b = c.self.inside in
-    let t = b.counts.held in
-    let job = c.index-job.result.now in
-    let build = c.build-build.result.now in
-    let low : c.args.id < length b.jobs.items = omega arith in
-    let waits : is_waiting job.phase ≡ true = sym c.is_waiting.ensures ∙ c.if-not-is_waiting.false in
-    let placed = sym c.has_place.ensures.place ∙ c.if-not-has_place.true in
-    inl (start_by _ _ t c.args.id job build c.index-had.result.now c.taken.result true false _ c.self.view_is low c.index-job.ensures c.self.invariant.held c.build-build.ensures waits c.index-had.ensures c.taken.ensures placed refl)
+    inl (start_tried (tried (goal.at.returns-then-not-has_place-clause-refused c).After-has_place false c.if-not-has_place.true) refl)
 
 pub returns-then-not-are_free-clause-refused : goal.returns-then-not-are_free-clause-refused
 returns-then-not-are_free-clause-refused c =
-    let b = c.self.inside in
-    let t = b.counts.held in
-    let job = c.index-job.result.now in
-    let build = c.build-build.result.now in
-    let low : c.args.id < length b.jobs.items = omega arith in
-    let waits : is_waiting job.phase ≡ true = sym c.is_waiting.ensures ∙ c.if-not-is_waiting.false in
-    let placed = sym c.has_place.ensures.place ∙ c.if-not-has_place.false in
-    let freed : are_free t b.maxima.items build.locks ≡ false =
-    ap (λ m. are_free t m build.locks) (sym c.deref.ensures.value) ∙ sym c.are_free.ensures.free ∙ c.if-not-are_free.true in
-    inl (start_by _ _ t c.args.id job build c.index-had.result.now c.taken.result true true false c.self.view_is low c.index-job.ensures c.self.invariant.held c.build-build.ensures waits c.index-had.ensures c.taken.ensures placed freed)
+    let at = goal.at.returns-then-not-are_free-clause-refused c in
+    inl (start_tried (tried at.After-has_place true c.if-not-has_place.false) (freed at.After-are_free false c.if-not-are_free.true))
 
 pub returns-in_default-clause-refused : goal.returns-in_default-clause-refused
 returns-in_default-clause-refused c =
-    let b = c.self.inside in
-    let t = b.counts.held in
-    let job = c.index-job.result.now in
-    let build = c.build-build.result.now in
-    let low : c.args.id < length b.jobs.items = omega arith in
-    let waits : is_waiting job.phase ≡ true = sym c.is_waiting.ensures ∙ c.if-not-is_waiting.false in
-    let placed = sym c.has_place.ensures.place ∙ c.if-not-has_place.false in
-    let freed : are_free t b.maxima.items build.locks ≡ true =
-    ap (λ m. are_free t m build.locks) (sym c.deref.ensures.value) ∙ sym c.are_free.ensures.free ∙ c.if-not-are_free.false in
-    inr (subst (λ o. IsOk o) (sym (start_by _ _ t c.args.id job build c.index-had.result.now c.taken.result true true true c.self.view_is low c.index-job.ensures c.self.invariant.held c.build-build.ensures waits c.index-had.ensures c.taken.ensures placed freed)) refl, refl)
+    let at = goal.at.returns-in_default-clause-refused c in
+    inr (subst (λ o. IsOk o) (sym (start_tried (tried at.After-has_place true c.if-not-has_place.false) (freed at.After-are_free true c.if-not-are_free.false))) refl, refl)
 
 pub take-requires-clause-room : goal.take-requires-clause-room
 take-requires-clause-room c =
-    let b = c.self.inside in
-    let t = b.counts.held in
-    let job = c.index-job.result.now in
-    let build = c.build-build.result.now in
-    let low : c.args.id < length b.jobs.items = omega arith in
-    let waits : is_waiting job.phase ≡ true = sym c.is_waiting.ensures ∙ c.if-not-is_waiting.false in
-    let placed = sym c.has_place.ensures.place ∙ c.if-not-has_place.false in
-    let freed : are_free t b.maxima.items build.locks ≡ true =
-    ap (λ m. are_free t m build.locks) (sym c.deref.ensures.value) ∙ sym c.are_free.ensures.free ∙ c.if-not-are_free.false in
-    let room = c.has_place.ensures.room c.if-not-has_place.false in
-    subst (λ h. HasRoom h build) (sym c.remove_waiting.ensures.held)
-    (has_room _ t job build c.build-build.ensures c.self.invariant.held (known_at _ t c.args.id job low c.index-job.ensures c.self.invariant.held)
-    (omega (arith, c.taken.ensures, room)) (subst (λ ms. All (λ m. m < 2 ^ 32) ms) c.deref.ensures.value c.are_free.ensures.small) freed)
+    let at = goal.at.take-requires-clause-room c in
+    subst (λ h. HasRoom h c.build-build.result.now) (sym c.remove_waiting.ensures.held)
+    (room_tried (tried at.After-has_place true c.if-not-has_place.false) (freed at.After-are_free true c.if-not-are_free.false)
+    (c.has_place.ensures.room c.if-not-has_place.false) (subst (λ ms. All (λ m. m < 2 ^ 32) ms) c.deref.ensures.value c.are_free.ensures.small))
 
 pub invariant_of-self : goal.invariant_of-self
 invariant_of-self c =
-    let b = c.self.inside in
-    let t = b.counts.held in
-    let job = c.index-job.result.now in
-    let build = c.build-build.result.now in
-    let low : c.args.id < length b.jobs.items = omega arith in
-    let waits : is_waiting job.phase ≡ true = sym c.is_waiting.ensures ∙ c.if-not-is_waiting.false in
-    let placed = sym c.has_place.ensures.place ∙ c.if-not-has_place.false in
-    let freed : are_free t b.maxima.items build.locks ≡ true =
-    ap (λ m. are_free t m build.locks) (sym c.deref.ensures.value) ∙ sym c.are_free.ensures.free ∙ c.if-not-are_free.false in
-    let other = c.index_mut.result.now in
-    let same = same_place b.jobs.items c.args.id job other low c.index-job.ensures c.index_mut.ensures.value in
-    let lt = ltb-true c.taken.result c.index-had.result.now.slots (and_parts c.index-had.result.now.ready _ placed).1 in
-    let mine = c.build-build.ensures ∙ ap (λ (j : BuildState). j.build) same in
-    let new = c.start-next.new.self in
-    let waited : is_waiting other.phase ≡ true = subst (λ (j : BuildState). is_waiting j.phase ≡ true) same waits in
-    counted_started _ b.counts c.remove_waiting.new.self _ c.args.id other new build low c.index_mut.ensures.value
-    (starts other new waited c.start-next.ensures.job)
-    (startable _ t c.args.id other build c.index-had.result.now c.taken.result low c.index_mut.ensures.value c.self.invariant.held mine c.index-had.ensures c.taken.ensures lt freed)
-    waited (ap (λ (j : BuildState). is_waiting j.phase) c.start-next.ensures.job ∙ started_waits_not (first_of other)) mine
-    (record { held = c.remove_waiting.ensures.held; fewer = c.remove_waiting.ensures.fewer }) c.take.ensures.held c.take.ensures.waiting
-    c.self.invariant
+    let at = goal.at.invariant_of-self c in
+    counted_tried _ c.remove_waiting.new.self _ (tried at.After-has_place true c.if-not-has_place.false) (freed at.After-are_free true c.if-not-are_free.false)
+    c.index_mut.ensures.value c.start-next.ensures.job (record { held = c.remove_waiting.ensures.held; fewer = c.remove_waiting.ensures.fewer })
+    c.take.ensures.held c.take.ensures.waiting c.self.invariant
 
 pub returns-clause-started : goal.returns-clause-started
 returns-clause-started c =
-    let b = c.self.inside in
-    let t = b.counts.held in
-    let job = c.index-job.result.now in
-    let build = c.build-build.result.now in
-    let low : c.args.id < length b.jobs.items = omega arith in
-    let waits : is_waiting job.phase ≡ true = sym c.is_waiting.ensures ∙ c.if-not-is_waiting.false in
-    let placed = sym c.has_place.ensures.place ∙ c.if-not-has_place.false in
-    let freed : are_free t b.maxima.items build.locks ≡ true =
-    ap (λ m. are_free t m build.locks) (sym c.deref.ensures.value) ∙ sym c.are_free.ensures.free ∙ c.if-not-are_free.false in
-    let other = c.index_mut.result.now in
-    let same = same_place b.jobs.items c.args.id job other low c.index-job.ensures c.index_mut.ensures.value in
-    started_answer job other build c.start-next.result same c.build-build.ensures c.start-next.ensures.next
-    ∙ ap answer_of (sym (start_by _ _ t c.args.id job build c.index-had.result.now c.taken.result true true true c.self.view_is low c.index-job.ensures c.self.invariant.held c.build-build.ensures waits c.index-had.ensures c.taken.ensures placed freed))
+    let at = goal.at.returns-clause-started c in
+    answer_tried (tried at.After-has_place true c.if-not-has_place.false) (freed at.After-are_free true c.if-not-are_free.false)
+    c.index_mut.ensures.value c.start-next.ensures.next
 
 pub returns-clause-board : goal.returns-clause-board
 returns-clause-board c =
-    let b = c.self.inside in
-    let t = b.counts.held in
-    let job = c.index-job.result.now in
-    let build = c.build-build.result.now in
-    let low : c.args.id < length b.jobs.items = omega arith in
-    let waits : is_waiting job.phase ≡ true = sym c.is_waiting.ensures ∙ c.if-not-is_waiting.false in
-    let placed = sym c.has_place.ensures.place ∙ c.if-not-has_place.false in
-    let freed : are_free t b.maxima.items build.locks ≡ true =
-    ap (λ m. are_free t m build.locks) (sym c.deref.ensures.value) ∙ sym c.are_free.ensures.free ∙ c.if-not-are_free.false in
-    let other = c.index_mut.result.now in
-    let same = same_place b.jobs.items c.args.id job other low c.index-job.ensures c.index_mut.ensures.value in
-    started_board _ c.args.self.now c.args.id job other _ c.self.view_is same c.start-next.ensures.job
-    ∙ ap (board_after c.args.self.now c.args.id) (sym (start_by _ _ t c.args.id job build c.index-had.result.now c.taken.result true true true c.self.view_is low c.index-job.ensures c.self.invariant.held c.build-build.ensures waits c.index-had.ensures c.taken.ensures placed freed))
+    let at = goal.at.returns-clause-board c in
+    board_tried (tried at.After-has_place true c.if-not-has_place.false) (freed at.After-are_free true c.if-not-are_free.false)
+    c.index_mut.ensures.value c.start-next.ensures.job
