@@ -10,8 +10,8 @@ use Rattle.bm_link.specs.Carries.{Carried}
 use Rattle.bm_link.specs.Link.{LinkState}
 
 module _ {S : Type 0} where
-  pub declined : (contents : S → Option (List ℕ)) (link : LinkState S) (lane : Heard) (carry : Carried) (r : Result Attached LinkFault)
-      (link2 : LinkState S) (lane2 : Heard) (carry2 : Carried)
-      → is_up lane.trace ≡ true → was_taken lane2.trace ≡ true → TakesUpFor contents link.login link lane carry r link2 lane2 carry2
-      → IsUnharmed lane carry r lane2 carry2
-  declined contents link lane carry r link2 lane2 carry2 up taken h = unharmed contents link.login link lane carry r link2 lane2 carry2 up taken h
+  pub declined : (contents : S → Option (List ℕ)) (link : LinkState S) (lane : Heard) (resume_state : Carried) (r : Result Attached LinkFault)
+      (link2 : LinkState S) (lane2 : Heard) (resume_state2 : Carried)
+      → is_up lane.trace ≡ true → was_taken lane2.trace ≡ true → TakesUpFor contents link.login link lane resume_state r link2 lane2 resume_state2
+      → IsUnharmed lane resume_state r lane2 resume_state2
+  declined contents link lane resume_state r link2 lane2 resume_state2 up taken h = unharmed contents link.login link lane resume_state r link2 lane2 resume_state2 up taken h

@@ -74,13 +74,13 @@ module _ {S : Type 0} where
         ∙ subst (λ (y : Heard). is_some (counting y term).cut ≡ is_awaited (connection_of y.trace)) (sym l) (ticked (is_up lane.trace) (is_cut lane.trace) term counts),
   )
 
-  pub attached : (contents : S → Option (List ℕ)) (link : LinkState S) (lane : Heard) (carry : Carried) (first : Option (LinkState S)) (term : TimerView)
-      (r : Result Attached LinkFault) (lane2 : Heard) (carry2 : Carried) (second place : Option (LinkState S)) (term2 : TimerView)
-      → is_some first ≡ false → TakesUp contents link lane carry term r second lane2 carry2 term2 → place ≡ second
-      → Attaches contents link first (record { lane = lane; carry = carry; link = first; timer = term }) r (record { lane = lane2; carry = carry2; link = place; timer = term2 })
-  attached contents link lane carry None term r lane2 carry2 second place term2 none h same =
-      subst (λ (x : Option (LinkState S)). TakesUp contents link lane carry term r x lane2 carry2 term2) (sym same) h
-  attached contents link lane carry (Some first) term r lane2 carry2 second place term2 none h same = cc
+  pub attached : (contents : S → Option (List ℕ)) (link : LinkState S) (lane : Heard) (resume_state : Carried) (first : Option (LinkState S)) (term : TimerView)
+      (r : Result Attached LinkFault) (lane2 : Heard) (resume_state2 : Carried) (second place : Option (LinkState S)) (term2 : TimerView)
+      → is_some first ≡ false → TakesUp contents link lane resume_state term r second lane2 resume_state2 term2 → place ≡ second
+      → Attaches contents link first (record { lane = lane; resume_state = resume_state; link = first; timer = term }) r (record { lane = lane2; resume_state = resume_state2; link = place; timer = term2 })
+  attached contents link lane resume_state None term r lane2 resume_state2 second place term2 none h same =
+      subst (λ (x : Option (LinkState S)). TakesUp contents link lane resume_state term r x lane2 resume_state2 term2) (sym same) h
+  attached contents link lane resume_state (Some first) term r lane2 resume_state2 second place term2 none h same = cc
 
   kept-while : (b : Bool) (l : LinkState S) → is_some (if b then Some l else None) ≡ b
   kept-while true l = refl
@@ -88,42 +88,42 @@ module _ {S : Type 0} where
 
   -- the lane has the link while it is up, ticks are counted while it is cut, and what is carried is
   -- pending
-  pub stands : (contents : S → Option (List ℕ)) (link : LinkState S) (lane : Heard) (carry : Carried) (term : TimerView)
-      (r : Result Attached LinkFault) (lane2 : Heard) (carry2 : Carried) (second place : Option (LinkState S)) (term2 : TimerView)
-      → CarriesPending carry lane.trace
-      → TakesUp contents link lane carry term r second lane2 carry2 term2 → place ≡ second
+  pub stands : (contents : S → Option (List ℕ)) (link : LinkState S) (lane : Heard) (resume_state : Carried) (term : TimerView)
+      (r : Result Attached LinkFault) (lane2 : Heard) (resume_state2 : Carried) (second place : Option (LinkState S)) (term2 : TimerView)
+      → CarriesPending resume_state lane.trace
+      → TakesUp contents link lane resume_state term r second lane2 resume_state2 term2 → place ≡ second
       → (is_some place ≡ is_up lane2.trace) × (is_some term2.cut ≡ is_awaited (connection_of lane2.trace))
-      × CarriesPending carry2 lane2.trace
-  stands contents link lane carry term r lane2 carry2 second place term2 h (l2, t, k, c) same = (
+      × CarriesPending resume_state2 lane2.trace
+  stands contents link lane resume_state term r lane2 resume_state2 second place term2 h (l2, t, k, c) same = (
     ap (λ (x : Option (LinkState S)). is_some x) (same ∙ k) ∙ kept-while (is_up lane2.trace) l2,
     ap (λ (x : TimerView). is_some x.cut) c ∙ counted (is_up lane2.trace) (is_cut lane2.trace) (not (length lane.trace == length lane2.trace)) term,
-    carries_attached contents link.login link l2 lane lane2 carry carry2 r h t,
+    carries_attached contents link.login link l2 lane lane2 resume_state resume_state2 r h t,
   )
 
   pub turned : (remaining contents : S → Option (List ℕ)) (old new : LaneView S) (l l2 : LinkState S) (r : Result Turn LinkFault)
-      → old.link ≡ Some l → Turned remaining contents l.stage l old.lane old.carry r l2 new.lane new.carry
+      → old.link ≡ Some l → Turned remaining contents l.stage l old.lane old.resume_state r l2 new.lane new.resume_state
       → new.link ≡ kept new.lane (Some l2) → new.timer ≡ counting new.lane old.timer → Turns remaining contents old.link old r new
   turned remaining contents old new l l2 r is t k c = subst (λ (x : Option (LinkState S)). Turns remaining contents x old r new) (sym is) (l2, t, (k, c))
 
   pub started : (contents : S → Option (List ℕ)) (argv : List (List ℕ)) (old new : LaneView S) (l l2 : LinkState S) (r : Result ℕ LinkFault) (t : OrderOutcome)
-      → old.link ≡ Some l → LinkStarts contents argv l.stage l old.lane old.carry r l2 new.lane new.carry
+      → old.link ≡ Some l → LinkStarts contents argv l.stage l old.lane old.resume_state r l2 new.lane new.resume_state
       → new.link ≡ kept new.lane (Some l2) → new.timer ≡ counting new.lane old.timer
       → t ≡ start_outcome (not (commands old.lane.trace == commands new.lane.trace)) r → Starts contents argv old.link old t new
   started contents argv old new l l2 r t is h k c e = subst (λ (x : Option (LinkState S)). Starts contents argv x old t new) (sym is) (r, l2, h, (k, c), e)
 
   pub interrupted : (contents : S → Option (List ℕ)) (command : ℕ) (old new : LaneView S) (l l2 : LinkState S) (r : Result (Unit {0}) LinkFault) (t : OrderOutcome)
-      → old.link ≡ Some l → LinkInterrupts contents command l.stage l old.lane old.carry r l2 new.lane new.carry
+      → old.link ≡ Some l → LinkInterrupts contents command l.stage l old.lane old.resume_state r l2 new.lane new.resume_state
       → new.link ≡ kept new.lane (Some l2) → new.timer ≡ counting new.lane old.timer
       → t ≡ interrupt_outcome (not (orders old.lane.trace == orders new.lane.trace)) r → Interrupts contents command old.link old t new
   interrupted contents command old new l l2 r t is h k c e = subst (λ (x : Option (LinkState S)). Interrupts contents command x old t new) (sym is) (r, l2, h, (k, c), e)
 
   pub shut_down : (contents : S → Option (List ℕ)) (old new : LaneView S) (l l2 : LinkState S) (r : Result (Unit {0}) LinkFault)
-      → old.link ≡ Some l → AsksFor contents Shutdown l.stage l old.carry r l2 new.carry
+      → old.link ≡ Some l → AsksFor contents Shutdown l.stage l old.resume_state r l2 new.resume_state
       → new.link ≡ Some l2 → new.lane ≡ old.lane → new.timer ≡ dismissed old.timer → ShutsDown contents old.link old new
   shut_down contents old new l l2 r is h k lane c = subst (λ (x : Option (LinkState S)). ShutsDown contents x old new) (sym is) (r, l2, h, k, lane, c)
 
   pub pinged : (contents : S → Option (List ℕ)) (old new : LaneView S) (l l2 : LinkState S) (r : Result (Unit {0}) LinkFault)
-      → old.link ≡ Some l → PingsFor contents l.stage l old.carry r l2 → new ≡ record old { link = Some l2 } → Pings contents old.link old new
+      → old.link ≡ Some l → PingsFor contents l.stage l old.resume_state r l2 → new ≡ record old { link = Some l2 } → Pings contents old.link old new
   pinged contents old new l l2 r is h same = subst (λ (x : Option (LinkState S)). Pings contents x old new) (sym is) (r, l2, h, same)
 
   pub closed : (contents : S → Option (List ℕ)) (old new : LaneView S) (l l2 : LinkState S) (r : Result (Unit {0}) LinkFault)

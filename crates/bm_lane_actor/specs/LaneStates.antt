@@ -36,7 +36,7 @@ use Rattle.bm_lane_actor.specs.LaneEvents.{connection_of}
 -- waits for its worker
 pub record LaneView (S : Type 0) : Type 0 where
   pub lane : Heard
-  pub carry : Carried
+  pub resume_state : Carried
   pub link : Option (LinkState S)
   pub timer : TimerView
 
@@ -108,8 +108,8 @@ module _ {S : Type 0} where
   abbrev pub TakesUp : (S → Option (List ℕ)) → LinkState S → Heard → Carried → TimerView
       → Result Attached LinkFault → Option (LinkState S)
       → Heard → Carried → TimerView → Type 0
-  TakesUp contents link lane carry term r second lane2 carry2 term2 =
-      (link2 : LinkState S) × TakesUpFor contents link.login link lane carry r link2 lane2 carry2
+  TakesUp contents link lane resume_state term r second lane2 resume_state2 term2 =
+      (link2 : LinkState S) × TakesUpFor contents link.login link lane resume_state r link2 lane2 resume_state2
       × (second ≡ kept lane2 (Some link2))
       × (term2 ≡ counting lane2 (renewed (length lane.trace) lane2 term))
 
@@ -118,7 +118,7 @@ module _ {S : Type 0} where
       → Result Attached LinkFault → LaneView S → Type 0
   Attaches contents link (Some first) old r new = (new ≡ old) × ((f : LinkFault) × (r ≡ Err f))
   Attaches contents link None old r new =
-      TakesUp contents link old.lane old.carry old.timer r new.link new.lane new.carry new.timer
+      TakesUp contents link old.lane old.resume_state old.timer r new.link new.lane new.resume_state new.timer
 
   -- a turn of the link
   abbrev pub Turns : (S → Option (List ℕ)) → (S → Option (List ℕ)) → Option (LinkState S) → LaneView S
@@ -126,7 +126,7 @@ module _ {S : Type 0} where
   Turns remaining contents None old r new = (r ≡ Ok Quiet) × (new ≡ old)
   Turns remaining contents (Some link) old r new =
       (link2 : LinkState S)
-      × Turned remaining contents link.stage link old.lane old.carry r link2 new.lane new.carry
+      × Turned remaining contents link.stage link old.lane old.resume_state r link2 new.lane new.resume_state
       × Leaves old old.timer link2 new
 
   -- a start: without a link nothing is sent
@@ -135,7 +135,7 @@ module _ {S : Type 0} where
   Starts contents argv None old t new = (t ≡ unlinked_outcome old.lane) × (new ≡ old)
   Starts contents argv (Some link) old t new =
       (r : Result ℕ LinkFault) × (link2 : LinkState S)
-      × LinkStarts contents argv link.stage link old.lane old.carry r link2 new.lane new.carry
+      × LinkStarts contents argv link.stage link old.lane old.resume_state r link2 new.lane new.resume_state
       × Leaves old old.timer link2 new
       × (t ≡ start_outcome (not (commands old.lane.trace == commands new.lane.trace)) r)
 
@@ -145,7 +145,7 @@ module _ {S : Type 0} where
   Interrupts contents k None old t new = (t ≡ unlinked_outcome old.lane) × (new ≡ old)
   Interrupts contents k (Some link) old t new =
       (r : Result (Unit {0}) LinkFault) × (link2 : LinkState S)
-      × LinkInterrupts contents k link.stage link old.lane old.carry r link2 new.lane new.carry
+      × LinkInterrupts contents k link.stage link old.lane old.resume_state r link2 new.lane new.resume_state
       × Leaves old old.timer link2 new
       × (t ≡ interrupt_outcome (not (orders old.lane.trace == orders new.lane.trace)) r)
 
@@ -154,7 +154,7 @@ module _ {S : Type 0} where
   ShutsDown contents None old new = new ≡ with_timer old (dismissed old.timer)
   ShutsDown contents (Some link) old new =
       (r : Result (Unit {0}) LinkFault) × (link2 : LinkState S)
-      × AsksFor contents Shutdown link.stage link old.carry r link2 new.carry
+      × AsksFor contents Shutdown link.stage link old.resume_state r link2 new.resume_state
       × (new.link ≡ Some link2) × (new.lane ≡ old.lane) × (new.timer ≡ dismissed old.timer)
 
   -- the worker is asked for a sign of life, which is no event of the lane
@@ -162,7 +162,7 @@ module _ {S : Type 0} where
   Pings contents None old new = new ≡ old
   Pings contents (Some link) old new =
       (r : Result (Unit {0}) LinkFault) × (link2 : LinkState S)
-      × PingsFor contents link.stage link old.carry r link2
+      × PingsFor contents link.stage link old.resume_state r link2
       × (new ≡ record old { link = Some link2 })
 
   -- the worker is told that its connection ends; the lane is still to be given up
@@ -177,7 +177,7 @@ module _ {S : Type 0} where
   abbrev pub GivesUp : LaneView S → Bool → LaneView S → Type 0
   GivesUp old done new =
       (r : Result Reply (Event × HearRefusal)) × Hears old.lane Down r new.lane
-      × (done ≡ not (is_busy r)) × (new.carry ≡ old.carry)
+      × (done ≡ not (is_busy r)) × (new.resume_state ≡ old.resume_state)
       × (new.link ≡ (if done then kept new.lane old.link else old.link))
       × (new.timer ≡ (if done then counting new.lane old.timer else old.timer))
 

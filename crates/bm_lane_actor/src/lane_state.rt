@@ -30,7 +30,7 @@ use std::sync::Wait;
 #[derive(Drop)]
 pub struct LaneState<Y: Yard, S> {
     reader: ReaderEnd<Y>,
-    carry: ResumeState,
+    resume_state: ResumeState,
     link: Option<MasterLink<S>>,
     timer: ResumeTimer,
 }
@@ -46,14 +46,14 @@ impl<Y: Yard, S> Model for LaneState<Y, S> {
 
     ghost view = { λ d. record {
       lane = d.reader;
-      carry = d.carry;
+      resume_state = d.resume_state;
       link = d.link;
       timer = d.timer;
     } };
 
     ghost invariant = { λ d. (is_some d.link ≡ is_up d.reader.trace)
         × (is_some d.timer.cut ≡ is_awaited (connection_of d.reader.trace))
-        × CarriesPending d.carry d.reader.trace };
+        × CarriesPending d.resume_state d.reader.trace };
 }
 
 /// What an actor waits for.
@@ -76,13 +76,13 @@ impl<Y: Yard, S> LaneState<Y, S> {
     pub fn new(alloc: Global, reader: ReaderEnd<Y>, resume_ticks: u32) -> LaneState<Y, S>
         requires { reader.trace ≡ [] }
         ensures lane { result.lane ≡ reader }
-        ensures carry { result.carry ≡ new_carried (nat_lt 0 resume_ticks) }
+        ensures resume_state { result.resume_state ≡ new_carried (nat_lt 0 resume_ticks) }
         ensures link { result.link ≡ None }
         ensures timer { result.timer ≡ kept_timer resume_ticks }
     {
         LaneState {
             reader,
-            carry: ResumeState::new(alloc, resume_ticks > 0),
+            resume_state: ResumeState::new(alloc, resume_ticks > 0),
             link: None,
             timer: ResumeTimer::new(resume_ticks),
         }
@@ -116,9 +116,9 @@ impl<Y: Yard, S> LaneState<Y, S> {
     /// in order, by their numbers. So a link which resumes the session sends just those again. It
     /// does nothing when it runs.
     pub fn carries_what_is_pending(&self)
-        ensures { CarriesPending self.now.carry self.now.lane.trace }
+        ensures { CarriesPending self.now.resume_state self.now.lane.trace }
     {
-        let _ = &self.carry;
+        let _ = &self.resume_state;
     }
 
     /// The number of the lane.
@@ -165,13 +165,13 @@ impl<Y: Yard, S: Read + Write + Drop> LaneState<Y, S> {
         ensures { Attaches S.contents link self.old.link self.old result self.new }
     {
         if self.link.is_some() {
-            return Err(decline(rt, alloc, &mut self.reader, &mut self.carry, link));
+            return Err(decline(rt, alloc, &mut self.reader, &mut self.resume_state, link));
         }
         let (answer, link) = take_up(
             rt,
             alloc,
             &mut self.reader,
-            &mut self.carry,
+            &mut self.resume_state,
             &mut self.timer,
             link,
         );
@@ -196,7 +196,7 @@ impl<Y: Yard, S: Read + Write + Drop> LaneState<Y, S> {
         let Some(link) = &mut self.link else {
             return Ok(Turn::Quiet);
         };
-        let answer = link.turn(rt, alloc, arena, &mut self.reader, &mut self.carry);
+        let answer = link.turn(rt, alloc, arena, &mut self.reader, &mut self.resume_state);
         settle(&self.reader, &mut self.link, &mut self.timer);
         answer
     }
@@ -211,7 +211,7 @@ impl<Y: Yard, S: Read + Write + Drop> LaneState<Y, S> {
             return unlinked_outcome(&self.reader);
         };
         let command = self.reader.next_command();
-        let answer = link.start(rt, alloc, &mut self.reader, &mut self.carry, argv);
+        let answer = link.start(rt, alloc, &mut self.reader, &mut self.resume_state, argv);
         settle(&self.reader, &mut self.link, &mut self.timer);
         start_outcome(answer, command != self.reader.next_command())
     }
@@ -224,7 +224,7 @@ impl<Y: Yard, S: Read + Write + Drop> LaneState<Y, S> {
             return unlinked_outcome(&self.reader);
         };
         let order = self.reader.next_order();
-        let answer = link.interrupt(rt, alloc, &mut self.reader, &mut self.carry, command);
+        let answer = link.interrupt(rt, alloc, &mut self.reader, &mut self.resume_state, command);
         settle(&self.reader, &mut self.link, &mut self.timer);
         interrupt_outcome(answer, order != self.reader.next_order())
     }
@@ -237,7 +237,7 @@ impl<Y: Yard, S: Read + Write + Drop> LaneState<Y, S> {
     {
         self.timer.dismiss();
         if let Some(link) = &mut self.link {
-            let _ = link.ask(alloc, &mut self.carry, Ask::Shutdown);
+            let _ = link.ask(alloc, &mut self.resume_state, Ask::Shutdown);
         }
     }
 
@@ -249,7 +249,7 @@ impl<Y: Yard, S: Read + Write + Drop> LaneState<Y, S> {
         let Some(link) = &mut self.link else {
             return;
         };
-        let _ = link.ping(&self.carry);
+        let _ = link.ping(&self.resume_state);
     }
 
     /// Tells the worker by a close frame that its connection ends, where the lane has a link.

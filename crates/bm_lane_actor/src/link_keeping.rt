@@ -73,16 +73,16 @@ pub(crate) fn take_up<Y: Yard, S: Read + Write + Drop, R: Wait>(
     rt: &R,
     alloc: Global,
     reader: &mut ReaderEnd<Y>,
-    carry: &mut ResumeState,
+    resume_state: &mut ResumeState,
     timer: &mut ResumeTimer,
     link: MasterLink<S>,
 ) -> (Result<Attached, LinkFault>, Option<MasterLink<S>>)
-    ensures { TakesUp S.contents link reader.old carry.old timer.old result.0 result.1 reader.new
-        carry.new timer.new }
+    ensures { TakesUp S.contents link reader.old resume_state.old timer.old result.0 result.1 reader.new
+        resume_state.new timer.new }
 {
     let mut link = link;
     let events = reader.trace().len();
-    let answer = link.attach(rt, alloc, reader, carry);
+    let answer = link.attach(rt, alloc, reader, resume_state);
     renew(reader, events, timer);
     let mut link = Some(link);
     settle(reader, &mut link, timer);
@@ -95,15 +95,15 @@ pub(crate) fn decline<Y: Yard, S: Read + Write + Drop, R: Wait>(
     rt: &R,
     alloc: Global,
     reader: &mut ReaderEnd<Y>,
-    carry: &mut ResumeState,
+    resume_state: &mut ResumeState,
     link: MasterLink<S>,
 ) -> LinkFault
     requires { is_up reader.old.trace ≡ true }
     ensures lane { reader.new ≡ reader.old }
-    ensures carry { carry.new ≡ carry.old }
+    ensures resume_state { resume_state.new ≡ resume_state.old }
 {
     let mut link = link;
-    let answer = link.attach(rt, alloc, reader, carry);
+    let answer = link.attach(rt, alloc, reader, resume_state);
     let _events = reader.trace();
     match answer {
         Err(fault) => fault,

@@ -1,5 +1,5 @@
 -- What the end of all lanes tells of each.
-use Rattle.std.specs.Prelude.{◌≡◌, Unit, Empty, List, [], ◌∷◌, length, Result, IfOk}
+use Rattle.std.specs.Prelude.{◌≡◌, List, [], ◌∷◌, length, Result, IfOk}
 use Rattle.bm_session.specs.Trace.{Trace}
 use Rattle.bm_store.specs.Book.{logs, stdio_lines_in}
 use Rattle.bm_lane.specs.Ends.{Heard}
@@ -13,6 +13,6 @@ totals t = record { commands = length (logs t); lines = stdio_lines_in (logs t) 
 -- an answer for each reader's end, in order: the totals of its trace, or why there are none
 abbrev pub AreTotals : List Heard → List (Result LaneTotals SettleError) → Type 0
 AreTotals [] [] = Unit {0}
-AreTotals [] (had ∷ more) = Empty {0}
-AreTotals (r ∷ rs) [] = Empty {0}
+AreTotals [] (had ∷ more) = ⊥
+AreTotals (r ∷ rs) [] = ⊥
 AreTotals (r ∷ rs) (had ∷ more) = IfOk had (λ t. t ≡ totals r.trace) × AreTotals rs more

@@ -6,8 +6,8 @@ pub returns : goal.returns
 returns g c =
     rw (← c.self.view_is) (
     closed g.S.Write.contents
-    (record { lane = c.self.inside.reader; carry = c.self.inside.carry; link = c.self.inside.link; timer = c.self.inside.timer })
-    (record { lane = c.self.inside.reader; carry = c.self.inside.carry; link = Some c.close.new.self; timer = c.self.inside.timer })
+    (record { lane = c.self.inside.reader; resume_state = c.self.inside.resume_state; link = c.self.inside.link; timer = c.self.inside.timer })
+    (record { lane = c.self.inside.reader; resume_state = c.self.inside.resume_state; link = Some c.close.new.self; timer = c.self.inside.timer })
     c.in-Some.link c.close.new.self c.close.result
     c.in-Some.is c.close.ensures.closed refl
     )

@@ -8,5 +8,5 @@ invariant_of-self-2 g c =
     c.self.invariant.0 c.self.invariant.1 c.down.ensures.heard c.settle.ensures.link c.settle.ensures.timer in (
       view.0,
       view.1,
-      given_up c.self.inside.reader c.down.new.self c.self.inside.carry c.down.result c.self.invariant.2 c.down.ensures.heard,
+      given_up c.self.inside.reader c.down.new.self c.self.inside.resume_state c.down.result c.self.invariant.2 c.down.ensures.heard,
     )

@@ -8,7 +8,7 @@ invariant_of-self-2 g c = (
   search rules,
   search rules,
   carries_interrupted g.S.Write.contents c.args.command c.in-Some.link.stage c.in-Some.link c.interrupt-answer.new.self
-      c.self.inside.reader c.interrupt-answer.new.reader c.self.inside.carry c.interrupt-answer.new.resume_state c.interrupt-answer.result
+      c.self.inside.reader c.interrupt-answer.new.reader c.self.inside.resume_state c.interrupt-answer.new.resume_state c.interrupt-answer.result
       c.self.invariant.2 c.interrupt-answer.ensures.interrupted,
 )
 
@@ -16,8 +16,8 @@ pub returns : goal.returns
 returns g c =
     rw (← c.self.view_is) (
     interrupted g.S.Write.contents c.args.command
-    (record { lane = c.self.inside.reader; carry = c.self.inside.carry; link = c.self.inside.link; timer = c.self.inside.timer })
-    (record { lane = c.interrupt-answer.new.reader; carry = c.interrupt-answer.new.resume_state; link = c.settle.new.link; timer = c.settle.new.timer })
+    (record { lane = c.self.inside.reader; resume_state = c.self.inside.resume_state; link = c.self.inside.link; timer = c.self.inside.timer })
+    (record { lane = c.interrupt-answer.new.reader; resume_state = c.interrupt-answer.new.resume_state; link = c.settle.new.link; timer = c.settle.new.timer })
     c.in-Some.link c.interrupt-answer.new.self c.interrupt-answer.result c.interrupt_outcome.result
     c.in-Some.is c.interrupt-answer.ensures.interrupted c.settle.ensures.link c.settle.ensures.timer (search rules)
     )

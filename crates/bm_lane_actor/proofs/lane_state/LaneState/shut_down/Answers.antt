@@ -6,8 +6,8 @@ pub returns-in-Some : goal.returns-in-Some
 returns-in-Some g c =
     rw (← c.self.view_is) (
     shut_down g.S.Write.contents
-    (record { lane = c.self.inside.reader; carry = c.self.inside.carry; link = c.self.inside.link; timer = c.self.inside.timer })
-    (record { lane = c.self.inside.reader; carry = c.ask.new.resume_state; link = Some c.ask.new.self; timer = c.dismiss.new.self })
+    (record { lane = c.self.inside.reader; resume_state = c.self.inside.resume_state; link = c.self.inside.link; timer = c.self.inside.timer })
+    (record { lane = c.self.inside.reader; resume_state = c.ask.new.resume_state; link = Some c.ask.new.self; timer = c.dismiss.new.self })
     c.in-Some.link c.ask.new.self c.ask.result
     c.in-Some.is c.ask.ensures.asked refl refl c.dismiss.ensures
     )
