@@ -152,7 +152,7 @@ class Trouble(Strangers):
             await asyncio.sleep(0.05)
         FIGURES["workers back from a dark connection"] += 1
         try:
-            await asyncio.wait_for(ride.is_left_by_master.wait(), 5)
+            await asyncio.wait_for(ride.is_left_by_master.wait(), SECONDS_TO_ANSWER)
         except asyncio.TimeoutError:
             fault(f"the master keeps the dark connection of {worker.name}")
 
