@@ -12,6 +12,7 @@ from chaos_builds import LINKED, STRANGER, WORKERS
 from chaos_parts import CHANCE, FIGURES, fault, reset
 
 MOST_GUESTS = 256
+# A connection that doesn't log in is closed after so many seconds, as is promised; a busy machine has some more.
 SECONDS_TO_LOG_IN = 10
 SLACK = 15
 SECONDS_TO_CONNECT = 10
