@@ -10,7 +10,7 @@ import wire
 HERE = os.path.dirname(os.path.abspath(__file__))
 PROGRAMS = os.environ.get("PROGRAMS", os.path.join(HERE, "..", "dist"))
 # What comes at once from a master that is well is waited for so many seconds: a bound for a hang. It is far below the 60
-# seconds after which a silent connection ends by itself, so that what waits for that is told from what doesn't.
+# seconds after which a silent connection ends by itself. So it tells what doesn't come before that end.
 SOON = 20
 
 CONFIGURATION = """
