@@ -7,12 +7,13 @@ from chaos_builds import WORKERS
 from chaos_parts import FIGURES, IS_LONG, LINES, fault
 
 LETTERS = {numbered_lines.OUTPUT: "o", numbered_lines.ERRORS: "e"}
-# The end of a short command is told within so many seconds beside a noisy one: its own two, what is on its way on the
-# narrow link, and as long as the master is stopped or its standard error is left unread. Where a busy machine makes the link
-# narrower, it is a third of what the noisy one takes.
+# The end of a short command is told soon beside a noisy one, which is the promise itself. So many seconds are its own two,
+# what is on its way on the narrow link, and as long as the master is stopped or its standard error is left unread. Where a
+# busy machine makes the link narrower, it is a third of what the noisy one takes.
 MOST_SECONDS = 2 + 5 + 4
-# A step ends within so many seconds after the cancel of its build, where its worker isn't cut meanwhile.
-SECONDS_TO_CANCEL = 4
+# A step ends after the cancel of its build, where its worker isn't cut meanwhile: so many seconds are a bound for a hang.
+# A silent command would take more than an hour.
+SECONDS_TO_CANCEL = 30
 # How often each thing has to happen at least, in a run of 30,000 lines and in one of 500,000.
 LEAST = {
     "cuts": (8, 80),

@@ -12,12 +12,14 @@ from chaos_builds import LINKED, STRANGER, WORKERS
 from chaos_parts import CHANCE, FIGURES, fault, reset
 
 MOST_GUESTS = 256
+# A connection that doesn't log in is closed after so many seconds, as is promised; a busy machine has some more.
 SECONDS_TO_LOG_IN = 10
 SLACK = 15
 SECONDS_TO_CONNECT = 10
 TOO_MANY = "connection refused, too many connections"
-# A second login is answered within two seconds, and some for a busy machine and a master that is stopped.
-SECONDS_TO_ANSWER = 2 + 3
+# A second login is answered within so many seconds: a bound for a hang. It is far below the 60 after which a connection
+# that is silent ends by itself.
+SECONDS_TO_ANSWER = 20
 # It takes a connection for dead that is silent for one and a half; a busy machine may have a part of that.
 LEAST_SECONDS_OF_SILENCE = 1
 REQUEST = wire.request_head("master")

@@ -17,8 +17,8 @@ from chaos_strangers import SECONDS_TO_ANSWER, TOO_MANY, Strangers
 from processes import children_of
 
 MOST_SECONDS_AWAY = 5
-# After a minute of silence a worker and a master take each other for dead.
-SECONDS_TO_NOTICE = 60 + 15
+# After a minute of silence a worker and a master take each other for dead, as is promised; a busy machine has some more.
+SECONDS_TO_NOTICE = 60 + 30
 SET_PIPE_SIZE, PIPE_SIZE = 1031, 4_096
 
 
@@ -152,7 +152,7 @@ class Trouble(Strangers):
             await asyncio.sleep(0.05)
         FIGURES["workers back from a dark connection"] += 1
         try:
-            await asyncio.wait_for(ride.is_left_by_master.wait(), 5)
+            await asyncio.wait_for(ride.is_left_by_master.wait(), SECONDS_TO_ANSWER)
         except asyncio.TimeoutError:
             fault(f"the master keeps the dark connection of {worker.name}")
 

@@ -38,10 +38,11 @@ def parsed(body):
 
 
 class Master:
-    """A master with a worker for each command, which run until the `with` ends."""
+    """A master with a build for each command, each for a worker of its own, which run until the `with` ends. Where it isn't
+    staffed a script has to log in as these workers."""
 
-    def __init__(self, commands):
-        self.commands = commands
+    def __init__(self, commands, is_staffed=True):
+        self.commands, self.is_staffed = commands, is_staffed
         self.folder, self.master, self.workers = tempfile.mkdtemp(prefix="web-"), None, []
 
     def __enter__(self):
@@ -72,7 +73,7 @@ class Master:
             pipe = subprocess.PIPE
             self.master = subprocess.Popen(words, cwd=self.folder, stdin=pipe, stdout=pipe, stderr=told, text=True)
         _, self.listen, self.web = self.master.stdout.readline().split()
-        for place in range(len(self.commands)):
+        for place in range(len(self.commands) if self.is_staffed else 0):
             words = [f"{PROGRAMS}/buildworker", self.listen, f"w{place}", "p"]
             null = subprocess.DEVNULL
             self.workers.append(subprocess.Popen(words, cwd=self.folder, stdin=null, stdout=null, stderr=null))
