@@ -3,7 +3,7 @@
 use bm_board::{Build, Listed, LockUse, Mode, StepPlan, Words};
 use bm_config::{Config, LockConfig, WorkerConfig};
 use bm_lines::Text;
-use std::net::{IpAddr, Ipv4Addr, SocketAddr};
+use std::net::{IpAddr, SocketAddr};
 
 /// What one item of a list is to be.
 trait Wanted<T> {
@@ -106,16 +106,23 @@ impl Wanted<Build> for BuildRow {
     }
 }
 
+/// The four numbers of an address, and its port.
+type At = ([u8; 4], u16);
+
 /// What a configuration is to say.
 struct Said {
-    listen: SocketAddr,
-    web: SocketAddr,
+    listen: At,
+    web: At,
     address: Option<&'static str>,
     capacity: u32,
     writers: u32,
     workers: &'static [WorkerRow],
     locks: &'static [LockRow],
     builds: &'static [BuildRow],
+}
+
+fn is_at(address: SocketAddr, (ip, port): &At) -> bool {
+    address == SocketAddr::new(IpAddr::from(*ip), *port)
 }
 
 /// Whether the address is this, or there is none.
@@ -129,8 +136,8 @@ fn is_address(wanted: Option<&str>, address: &Option<Text>) -> bool {
 
 /// Whether the configuration says this, and nothing else.
 fn says(config: &Config, said: &Said) -> bool {
-    config.listen == said.listen
-        && config.web == said.web
+    is_at(config.listen, &said.listen)
+        && is_at(config.web, &said.web)
         && is_address(said.address, &config.address)
         && config.capacity == said.capacity
         && config.writers == said.writers
@@ -145,13 +152,9 @@ web = \"127.0.0.1:0\"
 worker = [{name=\"w0\",password=\"p\"}]
 build = [{worker=\"w0\",step=[{name=\"s\",command=[\"a\",\"b\"]}]}]";
 
-const fn at(a: u8, b: u8, c: u8, d: u8, port: u16) -> SocketAddr {
-    SocketAddr::new(IpAddr::V4(Ipv4Addr::new(a, b, c, d)), port)
-}
-
 static DEFAULTS: Said = Said {
-    listen: at(127, 0, 0, 1, 0),
-    web: at(127, 0, 0, 1, 0),
+    listen: ([127, 0, 0, 1], 0),
+    web: ([127, 0, 0, 1], 0),
     address: None,
     capacity: 64,
     writers: 2,
@@ -216,8 +219,8 @@ timeout_ticks = 9
 ";
 
 static EACH: Said = Said {
-    listen: at(127, 0, 0, 1, 1),
-    web: at(192, 0, 2, 9, 2),
+    listen: ([127, 0, 0, 1], 1),
+    web: ([192, 0, 2, 9], 2),
     address: Some("m:3"),
     capacity: 8,
     writers: 3,
