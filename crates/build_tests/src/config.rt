@@ -3,11 +3,12 @@
 //! Texts that are configurations, and texts that aren't.
 
 mod memory;
+mod values;
 
-use bm_board::Mode;
-use bm_config::{Config, ConfigFault, read_config};
+use bm_config::{ConfigFault, read_config};
 use std::alloc::Global;
 use std::test::Fail;
+use values::{PLAIN, WHOLE, has_defaults, is_whole};
 
 const HEAD: &str = "listen = \"127.0.0.1:0\"\nweb = \"127.0.0.1:0\"\n";
 
@@ -222,121 +223,11 @@ fn addresses_are_ip_addresses_and_ports(rt: HostRuntime) {
     }
 }
 
-/// A configuration that lacks each key that may be missing.
-const PLAIN: &str = "listen = \"127.0.0.1:0\"
-web = \"127.0.0.1:0\"
-worker = [{name=\"w0\",password=\"p\"}]
-build = [{worker=\"w0\",step=[{name=\"s\",command=[\"a\",\"b\"]}]}]";
-
-fn has_defaults(config: &Config) -> bool {
-    let (Some(worker), Some(build)) = (
-        config.workers.as_slice().first(),
-        config.builds.as_slice().first(),
-    ) else {
-        return false;
-    };
-    let Some(step) = build.steps.as_slice().first() else {
-        return false;
-    };
-    config.capacity == 64
-        && config.writers == 2
-        && worker.slots == 1
-        && worker.latent.is_none()
-        && config.address.is_none()
-        && worker.idle_ticks == 100
-        && worker.resume_ticks == 0
-        && build.worker == 0
-        && build.locks.as_slice().is_empty()
-        && !step.halt_on_failure
-        && step.flunk_on_failure
-        && !step.always_run
-        && step.max_bytes == 1 << 30
-        && step.timeout_ticks == 0
-        && step.name.as_str() == "s"
-        && step.argv.as_slice().len() == 2
-}
-
 #[test]
 fn missing_keys_have_their_defaults(rt: HostRuntime) -> Result<(), Fail> {
     let config = read_config(rt.alloc(), PLAIN)?;
     assert!(rt; has_defaults(&config));
     Ok(())
-}
-
-const WHOLE: &str = "listen = \"127.0.0.1:1\"
-web = \"127.0.0.1:2\"
-address = \"m:3\"
-capacity = 8
-writers = 3
-lock = [{name=\"a\"}, {name=\"b\",max=7}]
-[[worker]]
-name = \"w0\"
-password = \"p\"
-[[worker]]
-name = \"w1\"
-password = \"q\"
-slots = 2
-latent = [\"sh\", \"{master}\"]
-idle_ticks = 5
-resume_ticks = 6
-[[build]]
-worker = \"w1\"
-locks = [{name=\"b\",mode=\"counting\"}, {name=\"a\",mode=\"exclusive\"}]
-[[build.step]]
-name = \"s\"
-command = [\"x\"]
-haltOnFailure = true
-flunkOnFailure = false
-alwaysRun = true
-max_bytes = 0
-timeout_ticks = 9
-";
-
-/// Whether the address is this.
-fn is_at(config: &Config, wanted: &str) -> bool {
-    match &config.address {
-        Some(address) => address.as_str() == wanted,
-        None => false,
-    }
-}
-
-fn is_whole(config: &Config) -> bool {
-    let (Some(worker), Some(lock), Some(build)) = (
-        config.workers.as_slice().get(1),
-        config.locks.as_slice().get(1),
-        config.builds.as_slice().first(),
-    ) else {
-        return false;
-    };
-    let (Some(program), [first, second], [step]) = (
-        &worker.latent,
-        build.locks.as_slice(),
-        build.steps.as_slice(),
-    ) else {
-        return false;
-    };
-    config.listen.port() == 1
-        && config.web.port() == 2
-        && is_at(config, "m:3")
-        && config.capacity == 8
-        && config.writers == 3
-        && worker.name.as_str() == "w1"
-        && worker.password.as_str() == "q"
-        && worker.slots == 2
-        && program.as_slice().len() == 2
-        && worker.idle_ticks == 5
-        && worker.resume_ticks == 6
-        && lock.max == 7
-        && build.worker == 1
-        && first.lock == 1
-        && first.mode == Mode::Counting
-        && second.lock == 0
-        && second.mode == Mode::Exclusive
-        && step.max_bytes == 0
-        && step.timeout_ticks == 9
-        && step.halt_on_failure
-        && !step.flunk_on_failure
-        && step.always_run
 }
 
 #[test]

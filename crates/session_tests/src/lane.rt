@@ -4,6 +4,7 @@
 
 mod full;
 mod hand;
+mod looks;
 mod many;
 mod named;
 mod one;

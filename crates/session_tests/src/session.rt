@@ -50,17 +50,40 @@ fn planned_again(session: &mut Session, event: Event) -> Result<Plan, Refusal>
     }
 }
 
+/// What a session tells at no cost: its events, its state, the numbers of its next order and
+/// command, the last range of numbers that it had, and how command 0 ended.
+#[derive(Clone, Copy, PartialEq)]
+struct Stand {
+    events: usize,
+    is_up: bool,
+    is_cut: bool,
+    next_order: u64,
+    next_command: u64,
+    last_range: Option<Seen>,
+    outcome: Option<Results>,
+}
+
+fn stand_of(session: &Session) -> Stand {
+    Stand {
+        events: session.trace().len(),
+        is_up: session.is_up(),
+        is_cut: session.is_cut(),
+        next_order: session.next_order(),
+        next_command: session.next_command(),
+        last_range: session.seen().last().copied(),
+        outcome: session.outcome(0),
+    }
+}
+
 /// Plans to take the event. After want of memory the session is as before, and the event that came
 /// back is tried again.
 fn planned(session: &mut Session, event: Event) -> Result<Plan, Refusal>
     ensures { IfOk result (λ plan. IsPlanFor session.new plan) }
 {
-    let before = session.trace().len();
+    let before = stand_of(session);
     match session.ready(event) {
         Ok(plan) => Ok(plan),
-        Err((event, Refusal::Mem)) if session.trace().len() == before => {
-            planned_again(session, event)
-        }
+        Err((event, Refusal::Mem)) if stand_of(session) == before => planned_again(session, event),
         Err((event, reason)) => {
             drop(event);
             Err(reason)

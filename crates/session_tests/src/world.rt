@@ -12,6 +12,7 @@ mod script;
 
 use bm_session::{Results, Session};
 use bm_world::*;
+use random::agree;
 use says::Says;
 use script::{Script, step};
 use std::alloc::{AllocError, Global};
@@ -38,19 +39,73 @@ fn new_step(alloc: Global, script: Script) -> Result<Step, AllocError> {
     }
 }
 
-/// The answer to the step. After want of memory no event was taken, and the step that came back is
-/// tried again.
-fn answer(world: &mut World, step: Step) -> Option<Answer> {
-    let before = world.session().trace().len();
+/// What is seen of a world: how many events were taken, how command 0 ended, and the lines of its
+/// log `stdio` that viewers see.
+#[derive(Drop)]
+struct Seen {
+    events: usize,
+    outcome: Option<Results>,
+    lines: Answer,
+}
+
+/// The answer to a look, which is made again after want of memory.
+fn look_at(world: &mut World, step: Step) -> Option<Answer> {
     match world.step(step) {
         Ok(answer) => Some(answer),
-        Err((back, _)) => answer_again(world, back, before),
+        Err((back, _)) => world.step(back).ok(),
     }
 }
 
-/// The answer to the step that came back, where there are as many events as before.
-fn answer_again(world: &mut World, step: Step, before: usize) -> Option<Answer> {
-    if world.session().trace().len() == before {
+/// What viewers see of the log `stdio` of command 0, or none where memory is wanting.
+fn lines_of(alloc: Global, world: &mut World) -> Option<Answer> {
+    match new_step(alloc, Script::Look(0, "stdio", 0, 9)) {
+        Ok(step) => look_at(world, step),
+        Err(_) => None,
+    }
+}
+
+fn seen_of(alloc: Global, world: &mut World) -> Option<Seen> {
+    match lines_of(alloc, world) {
+        Some(lines) => Some(Seen {
+            events: world.session().trace().len(),
+            outcome: world.session().outcome(0),
+            lines,
+        }),
+        None => None,
+    }
+}
+
+/// Whether the same is seen of the world as before.
+fn is_as_before(alloc: Global, world: &mut World, before: &Seen) -> bool {
+    match seen_of(alloc, world) {
+        Some(seen) => {
+            seen.events == before.events
+                && seen.outcome == before.outcome
+                && agree(&seen.lines, &before.lines)
+        }
+        None => false,
+    }
+}
+
+/// The answer to the step. After want of memory the world is as before, and the step that came back
+/// is tried again.
+fn answer(alloc: Global, world: &mut World, step: Step) -> Option<Answer> {
+    match seen_of(alloc, world) {
+        Some(before) => answer_behind(alloc, world, step, &before),
+        None => None,
+    }
+}
+
+fn answer_behind(alloc: Global, world: &mut World, step: Step, before: &Seen) -> Option<Answer> {
+    match world.step(step) {
+        Ok(answer) => Some(answer),
+        Err((back, _)) => answer_again(alloc, world, back, before),
+    }
+}
+
+/// The answer to the step that came back, where the world is as before.
+fn answer_again(alloc: Global, world: &mut World, step: Step, before: &Seen) -> Option<Answer> {
+    if is_as_before(alloc, world, before) {
         world.step(step).ok()
     } else {
         None
@@ -60,7 +115,7 @@ fn answer_again(world: &mut World, step: Step, before: usize) -> Option<Answer> 
 /// The answer to the step of a script.
 fn answer_to(alloc: Global, world: &mut World, script: Script) -> Option<Answer> {
     match new_step(alloc, script) {
-        Ok(step) => answer(world, step),
+        Ok(step) => answer(alloc, world, step),
         Err(_) => None,
     }
 }
@@ -139,8 +194,8 @@ fn is_copied(answer: &Answer, says: &Says) -> bool {
 }
 
 /// Whether the lane's answer to the step has a copy that is what is said.
-fn has_a_copied_answer(world: &mut World, step: Step, says: &Says) -> bool {
-    match answer(world, step) {
+fn has_a_copied_answer(alloc: Global, world: &mut World, step: Step, says: &Says) -> bool {
+    match answer(alloc, world, step) {
         Some(answer) => is_copied(&answer, says),
         None => false,
     }
@@ -149,7 +204,7 @@ fn has_a_copied_answer(world: &mut World, step: Step, says: &Says) -> bool {
 /// Whether the lane says so to a copy of the row's step, by a copy of its answer.
 fn has_its_copies(alloc: Global, world: &mut World, (script, says): &Row) -> bool {
     match copied_step(alloc, *script) {
-        Ok(step) => has_a_copied_answer(world, step, says),
+        Ok(step) => has_a_copied_answer(alloc, world, step, says),
         Err(_) => false,
     }
 }

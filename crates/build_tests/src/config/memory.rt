@@ -4,7 +4,7 @@
 //! then, and nothing else is told; and the same call again answers as ever. In the gate no request
 //! is refused, and no text is read twice.
 
-use super::{WHOLE, is_whole};
+use super::values::{WHOLE, is_whole};
 use bm_config::{Config, ConfigFault, read_config};
 use std::alloc::Global;
 

@@ -1,4 +1,4 @@
-//! The texts of a link's faults, and copies of a user.
+//! The texts of a link's faults, and copies of a user and of what a master asks.
 
 use bm_lane::HearRefusal;
 use bm_lines::Text;
@@ -70,4 +70,30 @@ fn is_copied(alloc: Global, name: &str, password: &str) -> bool {
 fn a_user_is_copied(rt: HostRuntime) {
     assert!(rt; is_copied(rt.alloc(), "w0", "p"));
     assert!(rt; is_copied(rt.alloc(), "", ""));
+}
+
+fn is_print(ask: &Ask, text: &str) -> bool {
+    match ask {
+        Ask::Print(message) => message.as_str() == text,
+        _ => false,
+    }
+}
+
+fn copies_print(ask: &Ask, text: &str) -> bool {
+    match ask.copy() {
+        Ok(copied) => then_drop(is_print(&copied, text), copied),
+        Err(_) => false,
+    }
+}
+
+fn is_print_copied(alloc: Global, text: &str) -> bool {
+    match Text::from_str(alloc, text) {
+        Ok(message) => copies_print(&Ask::Print(message), text),
+        Err(_) => false,
+    }
+}
+
+#[test]
+fn a_request_to_print_is_copied(rt: HostRuntime) {
+    assert!(rt; is_print_copied(rt.alloc(), "x"));
 }

@@ -1,6 +1,8 @@
-//! What the scripts share. Each call is made again where it met want of memory.
+//! What the scripts share. Each call is made again where it met want of memory, and the lane is
+//! looked at before.
 ghost use Rattle.std.specs.Prelude.{◌≡◌, ◌<◌, ◌≤◌};
 
+use super::looks::{Stand, is_part_of, stand_of};
 use bm_lane::*;
 use bm_lines::{Letter, LineBatch, LogName};
 use bm_session::{Body, Event, Refusal, Reply, Results};
@@ -84,8 +86,9 @@ pub fn hear<Y: Yard, R: Wait>(
     reader: &mut ReaderEnd<Y>,
     event: Event,
 ) -> Result<Reply, HearRefusal> {
+    let before = stand_of(reader);
     let answer = reader.hear(rt, event);
-    again(rt, reader, answer)
+    again(rt, reader, answer, before)
 }
 
 /// Drains once.
@@ -109,6 +112,24 @@ pub fn chunk<Y: Yard>(
     chunk_of(viewer, "stdio", offset, limit)
 }
 
+// Asks again, where the viewer has seen no less than before. The log had these lines already.
+fn chunk_behind<Y: Yard>(
+    viewer: &mut Viewer<Y>,
+    name: &str,
+    offset: u64,
+    limit: u64,
+    before: u64,
+) -> Result<Chunk, ViewRefusal> {
+    let state = viewer.state(0, name);
+    let has_seen = before <= viewer.count();
+    let answer = viewer.chunk(0, name, offset, limit);
+    if has_seen && is_part_of(&state, offset, limit, &answer) {
+        answer
+    } else {
+        Err(ViewRefusal::Mem)
+    }
+}
+
 /// Asks for lines of a log of command 0.
 pub fn chunk_of<Y: Yard>(
     viewer: &mut Viewer<Y>,
@@ -116,9 +137,10 @@ pub fn chunk_of<Y: Yard>(
     offset: u64,
     limit: u64,
 ) -> Result<Chunk, ViewRefusal> {
+    let before = viewer.count();
     let answer = viewer.chunk(0, name, offset, limit);
     if is_mem(&answer) {
-        viewer.chunk(0, name, offset, limit)
+        chunk_behind(viewer, name, offset, limit, before)
     } else {
         answer
     }
@@ -170,29 +192,32 @@ pub fn is_left(settled: &Settled, events: u64, seen: &[u64]) -> bool {
     settled.trace.len() as u64 == events && settled.seen.as_slice() == seen
 }
 
-// Hears an event that met want of memory. Another reason stands.
+// Hears an event that met want of memory, where the lane is as before. Another reason stands.
 fn hear_behind<Y: Yard, R: Wait>(
     rt: &R,
     reader: &mut ReaderEnd<Y>,
     event: Event,
     reason: HearRefusal,
+    before: Stand,
 ) -> Result<Reply, HearRefusal> {
-    if reason == HearRefusal::Session(Refusal::Mem) {
+    if reason == HearRefusal::Session(Refusal::Mem) && stand_of(reader) == before {
         told(reader.hear(rt, event))
     } else {
         Err(reason)
     }
 }
 
-/// The answer of a call of the reader's end, which is made again where it met want of memory.
+/// The answer of a call of the reader's end, which is made again where it met want of memory and
+/// the lane is as before.
 pub fn again<Y: Yard, R: Wait>(
     rt: &R,
     reader: &mut ReaderEnd<Y>,
     answer: Result<Reply, (Event, HearRefusal)>,
+    before: Stand,
 ) -> Result<Reply, HearRefusal> {
     match answer {
         Ok(reply) => Ok(reply),
-        Err((back, reason)) => hear_behind(rt, reader, back, reason),
+        Err((back, reason)) => hear_behind(rt, reader, back, reason, before),
     }
 }
 

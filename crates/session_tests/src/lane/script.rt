@@ -2,10 +2,11 @@
 ghost use Rattle.std.specs.Prelude.{◌≡◌, ◌<◌, ◌≤◌};
 
 use super::hand::*;
+use super::looks::{first_sight, stand_of};
 use super::says::Says;
 use bm_lane::*;
 use bm_session::{Event, Reply};
-use std::alloc::Global;
+use std::alloc::{AllocError, Global};
 use std::marker::Brand;
 use std::process::Abort;
 use std::sync::Wait;
@@ -59,6 +60,7 @@ fn give<Y: Yard, R: Wait>(
     reader: &mut ReaderEnd<Y>,
     order: Order,
 ) -> Result<Reply, HearRefusal> {
+    let before = stand_of(reader);
     let answer = match order {
         Order::Up => reader.up(rt),
         Order::Go => reader.go(rt),
@@ -67,7 +69,7 @@ fn give<Y: Yard, R: Wait>(
         // The session is given up, which takes no memory.
         Order::Down => return told(reader.down(rt)),
     };
-    again(rt, reader, answer)
+    again(rt, reader, answer, before)
 }
 
 // Whether the reader's end answers the call so.
@@ -98,6 +100,15 @@ fn views<Y: Yard>(viewer: &mut Viewer<Y>, call: Call, says: &Says) -> bool {
     }
 }
 
+// Drains once. After want of memory the first viewer sees what it saw, and it is drained again.
+fn drain_looked<Y: Yard, W: Wait + Drop>(ends: &mut Ends<Y, W>) -> Result<Drained, AllocError> {
+    let before = first_sight(ends.viewers.as_mut_slice());
+    match ends.writer.drain() {
+        Err(_) if first_sight(ends.viewers.as_mut_slice()) == before => ends.writer.drain(),
+        answer => answer,
+    }
+}
+
 // Whether the end whose call it is answers so.
 fn fits<Y: Yard, W: Wait + Drop, R: Wait>(
     rt: &R,
@@ -107,7 +118,7 @@ fn fits<Y: Yard, W: Wait + Drop, R: Wait>(
 ) -> bool {
     let (call, says) = row;
     match call {
-        Call::Drain => says.is_drained(drain(&mut ends.writer)),
+        Call::Drain => says.is_drained(drain_looked(ends)),
         Call::Chunk(n, _, _, _) | Call::State(n, _) => match ends.viewers.get_mut(*n) {
             Some(viewer) => views(viewer, *call, says),
             None => false,

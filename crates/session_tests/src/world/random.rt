@@ -19,7 +19,8 @@ const NAMES: [&str; 3] = ["stdio", "l", "m"];
 
 const TEXTS: [&str; 4] = ["a\n", "b\nc", "", "d\n\n"];
 
-fn agree(a: &Answer, b: &Answer) -> bool {
+/// Whether the answers are equal.
+pub fn agree(a: &Answer, b: &Answer) -> bool {
     match (a, b) {
         (Answer::Heard(x), Answer::Heard(y)) => x == y,
         (Answer::Refused(x), Answer::Refused(y)) => x == y,

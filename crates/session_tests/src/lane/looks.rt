@@ -1,0 +1,46 @@
+//! What is seen of a lane without memory, before a call that may want it and after.
+
+use bm_lane::*;
+use bm_store::{Chunk, LogState, ViewRefusal};
+
+/// What a reader's end tells of its lane: how many events were taken, whether it is up, whether it
+/// is cut, and the numbers of the next order and the next command.
+pub type Stand = (usize, bool, bool, u64, u64);
+
+pub fn stand_of<Y: Yard>(reader: &ReaderEnd<Y>) -> Stand {
+    (
+        reader.trace().len(),
+        reader.is_up(),
+        reader.is_cut(),
+        reader.next_order(),
+        reader.next_command(),
+    )
+}
+
+/// How the log `stdio` of command 0 stands, and how many items its viewer has seen then.
+pub type Sight = (Option<LogState>, u64);
+
+/// What the first viewer sees.
+pub fn first_sight<Y: Yard>(viewers: &mut [Viewer<Y>]) -> Option<Sight> {
+    match viewers.first_mut() {
+        Some(viewer) => {
+            let state = viewer.state(0, "stdio").ok();
+            Some((state, viewer.count()))
+        }
+        None => None,
+    }
+}
+
+/// Whether the answer has as many lines as a log in this state has from the place `offset` on,
+/// `limit` at most.
+pub fn is_part_of(
+    state: &Result<LogState, ViewRefusal>,
+    offset: u64,
+    limit: u64,
+    answer: &Result<Chunk, ViewRefusal>,
+) -> bool {
+    match (state, answer) {
+        (Ok(state), Ok(chunk)) => state.lines.saturating_sub(offset).min(limit) == chunk.lines,
+        _ => false,
+    }
+}
