@@ -53,7 +53,7 @@ fn planned_again(session: &mut Session, event: Event) -> Result<Plan, Refusal>
 /// What a session tells at no cost: its events, its state, the numbers of its next order and
 /// command, the last range of numbers that it had, and how command 0 ended.
 #[derive(Clone, Copy, PartialEq)]
-struct Stand {
+struct Snapshot {
     events: usize,
     is_up: bool,
     is_cut: bool,
@@ -63,8 +63,8 @@ struct Stand {
     outcome: Option<Results>,
 }
 
-fn stand_of(session: &Session) -> Stand {
-    Stand {
+fn snapshot_of(session: &Session) -> Snapshot {
+    Snapshot {
         events: session.trace().len(),
         is_up: session.is_up(),
         is_cut: session.is_cut(),
@@ -80,10 +80,12 @@ fn stand_of(session: &Session) -> Stand {
 fn planned(session: &mut Session, event: Event) -> Result<Plan, Refusal>
     ensures { IfOk result (λ plan. IsPlanFor session.new plan) }
 {
-    let before = stand_of(session);
+    let before = snapshot_of(session);
     match session.ready(event) {
         Ok(plan) => Ok(plan),
-        Err((event, Refusal::Mem)) if stand_of(session) == before => planned_again(session, event),
+        Err((event, Refusal::Mem)) if snapshot_of(session) == before => planned_again(
+            session, event,
+        ),
         Err((event, reason)) => {
             drop(event);
             Err(reason)

@@ -2,7 +2,7 @@
 //! looked at before.
 ghost use Rattle.std.specs.Prelude.{◌≡◌, ◌<◌, ◌≤◌};
 
-use super::looks::{Stand, is_part_of, stand_of};
+use super::looks::{Snapshot, is_part_of, snapshot_of};
 use bm_lane::*;
 use bm_lines::{Letter, LineBatch, LogName};
 use bm_session::{Body, Event, Refusal, Reply, Results};
@@ -86,7 +86,7 @@ pub fn hear<Y: Yard, R: Wait>(
     reader: &mut ReaderEnd<Y>,
     event: Event,
 ) -> Result<Reply, HearRefusal> {
-    let before = stand_of(reader);
+    let before = snapshot_of(reader);
     let answer = reader.hear(rt, event);
     again(rt, reader, answer, before)
 }
@@ -198,9 +198,9 @@ fn hear_behind<Y: Yard, R: Wait>(
     reader: &mut ReaderEnd<Y>,
     event: Event,
     reason: HearRefusal,
-    before: Stand,
+    before: Snapshot,
 ) -> Result<Reply, HearRefusal> {
-    if reason == HearRefusal::Session(Refusal::Mem) && stand_of(reader) == before {
+    if reason == HearRefusal::Session(Refusal::Mem) && snapshot_of(reader) == before {
         told(reader.hear(rt, event))
     } else {
         Err(reason)
@@ -213,7 +213,7 @@ pub fn again<Y: Yard, R: Wait>(
     rt: &R,
     reader: &mut ReaderEnd<Y>,
     answer: Result<Reply, (Event, HearRefusal)>,
-    before: Stand,
+    before: Snapshot,
 ) -> Result<Reply, HearRefusal> {
     match answer {
         Ok(reply) => Ok(reply),

@@ -5,9 +5,9 @@ use bm_store::{Chunk, LogState, ViewRefusal};
 
 /// What a reader's end tells of its lane: how many events were taken, whether it is up, whether it
 /// is cut, and the numbers of the next order and the next command.
-pub type Stand = (usize, bool, bool, u64, u64);
+pub type Snapshot = (usize, bool, bool, u64, u64);
 
-pub fn stand_of<Y: Yard>(reader: &ReaderEnd<Y>) -> Stand {
+pub fn snapshot_of<Y: Yard>(reader: &ReaderEnd<Y>) -> Snapshot {
     (
         reader.trace().len(),
         reader.is_up(),
@@ -18,10 +18,10 @@ pub fn stand_of<Y: Yard>(reader: &ReaderEnd<Y>) -> Stand {
 }
 
 /// How the log `stdio` of command 0 stands, and how many items its viewer has seen then.
-pub type Sight = (Option<LogState>, u64);
+pub type ViewerSnapshot = (Option<LogState>, u64);
 
 /// What the first viewer sees.
-pub fn first_sight<Y: Yard>(viewers: &mut [Viewer<Y>]) -> Option<Sight> {
+pub fn first_viewer<Y: Yard>(viewers: &mut [Viewer<Y>]) -> Option<ViewerSnapshot> {
     match viewers.first_mut() {
         Some(viewer) => {
             let state = viewer.state(0, "stdio").ok();

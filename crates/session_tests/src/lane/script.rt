@@ -2,7 +2,7 @@
 ghost use Rattle.std.specs.Prelude.{◌≡◌, ◌<◌, ◌≤◌};
 
 use super::hand::*;
-use super::looks::{first_sight, stand_of};
+use super::looks::{first_viewer, snapshot_of};
 use super::says::Says;
 use bm_lane::*;
 use bm_session::{Event, Reply};
@@ -60,7 +60,7 @@ fn give<Y: Yard, R: Wait>(
     reader: &mut ReaderEnd<Y>,
     order: Order,
 ) -> Result<Reply, HearRefusal> {
-    let before = stand_of(reader);
+    let before = snapshot_of(reader);
     let answer = match order {
         Order::Up => reader.up(rt),
         Order::Go => reader.go(rt),
@@ -102,9 +102,9 @@ fn views<Y: Yard>(viewer: &mut Viewer<Y>, call: Call, says: &Says) -> bool {
 
 // Drains once. After want of memory the first viewer sees what it saw, and it is drained again.
 fn drain_looked<Y: Yard, W: Wait + Drop>(ends: &mut Ends<Y, W>) -> Result<Drained, AllocError> {
-    let before = first_sight(ends.viewers.as_mut_slice());
+    let before = first_viewer(ends.viewers.as_mut_slice());
     match ends.writer.drain() {
-        Err(_) if first_sight(ends.viewers.as_mut_slice()) == before => ends.writer.drain(),
+        Err(_) if first_viewer(ends.viewers.as_mut_slice()) == before => ends.writer.drain(),
         answer => answer,
     }
 }
