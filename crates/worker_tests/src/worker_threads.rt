@@ -21,6 +21,36 @@ use std::thread;
 use std::thread::Threads;
 use std::time::{Clock, Duration};
 
+/// A system with threads that may wait, a clock, random numbers, memory, sockets and processes.
+trait Host: Wait
+    + Threads
+    + Clock
+    + RandomSource
+    + AllocGlobal
+    + Net<Listener = TcpListener, Stream = TcpStream>
+    + Processes<Started = SystemProcess>
+    + Copy
+    + Drop
+    + Send
+    + Sync
+    + 'static {}
+
+impl<R> Host for R
+where
+    R: Wait
+        + Threads
+        + Clock
+        + RandomSource
+        + AllocGlobal
+        + Net<Listener = TcpListener, Stream = TcpStream>
+        + Processes<Started = SystemProcess>
+        + Copy
+        + Drop
+        + Send
+        + Sync
+        + 'static,
+{}
+
 /// Whether small messages leave the stream at once, and a read of it waits so many milliseconds at
 /// the most.
 fn is_set(stream: &TcpStream, wait: u64) -> bool {
@@ -50,6 +80,15 @@ fn waiting(alloc: Global, stream: TcpStream) -> Option<ReadyStream<TcpStream>> {
     }
 }
 
+/// A line for a shell, which says a line over each of its pipes and fails.
+const FAILING: &str = "echo a; echo b >&2; exit 3";
+
+/// Whether this is what is told of that command: its two lines come in either order.
+fn is_failed(told: &str) -> bool {
+    told == "hsh -c echo a; echo b >&2; exit 3\noa\neb\nhprogram finished with exit code 3\n"
+        || told == "hsh -c echo a; echo b >&2; exit 3\neb\noa\nhprogram finished with exit code 3\n"
+}
+
 /// What became of the script, played to the worker that connects next.
 fn played<F>(alloc: Global, listener: &TcpListener, script: F) -> Option<()>
 where
@@ -67,20 +106,8 @@ where
 
 /// Lets a worker work for the master that the script is, and answers what the worker's status was.
 /// None where the script met its end.
-pub fn status_under<R, F>(rt: R, script: F) -> Option<u8>
+pub fn status_under<R: Host, F>(rt: R, script: F) -> Option<u8>
 where
-    R: Wait
-        + Threads
-        + Clock
-        + RandomSource
-        + AllocGlobal
-        + Net<Listener = TcpListener, Stream = TcpStream>
-        + Processes<Started = SystemProcess>
-        + Copy
-        + Drop
-        + Send
-        + Sync
-        + 'static,
     F: FnOnce(&mut Master) -> Option<()>,
     requires { F.IsAlwaysCallable script }
 {
