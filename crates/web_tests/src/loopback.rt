@@ -17,30 +17,6 @@ use std::thread::{Threads, join};
 use std::time::{Clock, Duration};
 use tokio::sync::oneshot;
 
-/// A system with sockets, threads that may wait, a clock, random numbers and memory.
-trait Host: Net<Listener = TcpListener, Stream = TcpStream>
-    + Wait
-    + Threads
-    + Clock
-    + RandomSource
-    + AllocGlobal
-    + Copy
-    + Send
-    + Sync {}
-
-impl<R> Host for R
-where
-    R: Net<Listener = TcpListener, Stream = TcpStream>
-        + Wait
-        + Threads
-        + Clock
-        + RandomSource
-        + AllocGlobal
-        + Copy
-        + Send
-        + Sync,
-{}
-
 /// What is served, where, for whom, and until when.
 #[derive(Drop)]
 struct Serving<R, Y: Yard> {
@@ -68,7 +44,18 @@ fn bound<R: Net<Listener = TcpListener, Stream = TcpStream>>(
     Some(listener).zip(address)
 }
 
-impl<R: Host, Y: Yard + Send + Sync> Serving<R, Y> {
+impl<R, Y: Yard + Send + Sync> Serving<R, Y>
+where
+    R: Net<Listener = TcpListener, Stream = TcpStream>
+        + Wait
+        + Threads
+        + Clock
+        + RandomSource
+        + AllocGlobal
+        + Copy
+        + Send
+        + Sync,
+{
     // What serves the service, what tells it to stop, and who visits it.
     fn new(
         rt: R,
@@ -107,11 +94,18 @@ impl<R: Host, Y: Yard + Send + Sync> Serving<R, Y> {
 }
 
 // Whether a server of the service does what is wanted, and stops.
-fn is_visited<Y: Yard + Send + Sync, R: Host>(
-    rt: R,
-    service: Arc<LogService<Y>>,
-    visit: Visit,
-) -> bool {
+fn is_visited<
+    Y: Yard + Send + Sync,
+    R: Net<Listener = TcpListener, Stream = TcpStream>
+        + Wait
+        + Threads
+        + Clock
+        + RandomSource
+        + AllocGlobal
+        + Copy
+        + Send
+        + Sync,
+>(rt: R, service: Arc<LogService<Y>>, visit: Visit) -> bool {
     let Some((serving, stop, client)) = Serving::new(rt, service, visit) else {
         return false;
     };
@@ -158,7 +152,18 @@ pub fn is_back<Y: Yard>(service: Arc<LogService<Y>>, lanes: usize) -> bool {
 }
 
 // Whether a server of these viewers does what is wanted, stops and gives the viewers back.
-fn is_well<Y: Yard + Send + Sync, R: Host>(rt: R, viewers: Vec<Viewer<Y>>, visit: Visit) -> bool {
+fn is_well<
+    Y: Yard + Send + Sync,
+    R: Net<Listener = TcpListener, Stream = TcpStream>
+        + Wait
+        + Threads
+        + Clock
+        + RandomSource
+        + AllocGlobal
+        + Copy
+        + Send
+        + Sync,
+>(rt: R, viewers: Vec<Viewer<Y>>, visit: Visit) -> bool {
     let lanes = viewers.len();
     match service_of(rt.alloc(), viewers) {
         Some((service, held)) => {
@@ -195,11 +200,19 @@ fn shown_for<Y: Yard, W: Wait + Drop, R: Wait + AllocGlobal>(
 
 // Whether a server of a lane does all of that. The other ends stay: viewers see nothing once their
 // writer is gone.
-fn on_lane<Y: Yard + Send + Sync, W: Wait + Drop, R: Host>(
-    rt: R,
-    blank: Blank<W>,
-    visit: Visit,
-) -> bool
+fn on_lane<
+    Y: Yard + Send + Sync,
+    W: Wait + Drop,
+    R: Net<Listener = TcpListener, Stream = TcpStream>
+        + Wait
+        + Threads
+        + Clock
+        + RandomSource
+        + AllocGlobal
+        + Copy
+        + Send
+        + Sync,
+>(rt: R, blank: Blank<W>, visit: Visit) -> bool
     requires { (blank.queue ≡ Y.queue 0) × (blank.copy ≡ Y.copy 0) }
 {
     match shown_for::<Y, W, R>(&rt, blank, visit) {
@@ -208,7 +221,19 @@ fn on_lane<Y: Yard + Send + Sync, W: Wait + Drop, R: Host>(
     }
 }
 
-fn on_loopback<R: Host + Abort + Drop>(rt: R, visit: Visit) -> Result<(), Fail> {
+fn on_loopback<
+    R: Net<Listener = TcpListener, Stream = TcpStream>
+        + Wait
+        + Threads
+        + Clock
+        + RandomSource
+        + AllocGlobal
+        + Copy
+        + Send
+        + Sync
+        + Abort
+        + Drop,
+>(rt: R, visit: Visit) -> Result<(), Fail> {
     let blank = open(rt, rt.alloc(), 8, 1).ok().ok_or("no lane")?;
     assert!(rt; on_lane::<Brand, R, R>(rt, blank, visit));
     Ok(())

@@ -21,36 +21,6 @@ use std::thread;
 use std::thread::Threads;
 use std::time::{Clock, Duration};
 
-/// A system with threads that may wait, a clock, random numbers, memory, sockets and processes.
-trait Host: Wait
-    + Threads
-    + Clock
-    + RandomSource
-    + AllocGlobal
-    + Net<Listener = TcpListener, Stream = TcpStream>
-    + Processes<Started = SystemProcess>
-    + Copy
-    + Drop
-    + Send
-    + Sync
-    + 'static {}
-
-impl<R> Host for R
-where
-    R: Wait
-        + Threads
-        + Clock
-        + RandomSource
-        + AllocGlobal
-        + Net<Listener = TcpListener, Stream = TcpStream>
-        + Processes<Started = SystemProcess>
-        + Copy
-        + Drop
-        + Send
-        + Sync
-        + 'static,
-{}
-
 /// Whether small messages leave the stream at once, and a read of it waits so many milliseconds at
 /// the most.
 fn is_set(stream: &TcpStream, wait: u64) -> bool {
@@ -106,8 +76,20 @@ where
 
 /// Lets a worker work for the master that the script is, and answers what the worker's status was.
 /// None where the script met its end.
-pub fn status_under<R: Host, F>(rt: R, script: F) -> Option<u8>
+pub fn status_under<R, F>(rt: R, script: F) -> Option<u8>
 where
+    R: Wait
+        + Threads
+        + Clock
+        + RandomSource
+        + AllocGlobal
+        + Net<Listener = TcpListener, Stream = TcpStream>
+        + Processes<Started = SystemProcess>
+        + Copy
+        + Drop
+        + Send
+        + Sync
+        + 'static,
     F: FnOnce(&mut Master) -> Option<()>,
     requires { F.IsAlwaysCallable script }
 {

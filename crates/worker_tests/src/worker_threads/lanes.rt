@@ -3,22 +3,26 @@
 ghost use Rattle.std.specs.Prelude.{◌≡◌};
 
 mod logs;
+mod outcome;
 
 use super::cut::{Cut, Unit};
-use super::{FAILING, Host, dial, waiting};
-use bm_lane::{Blank, Drained, Ends, Settled, Yard, open, same_lane, settle};
+use super::{FAILING, dial, waiting};
+use bm_lane::{Blank, Drained, Ends, Yard, open, same_lane, settle};
 use bm_lines::{STDIO, Text};
 use bm_link::{Ask, MasterLink, ResumeState, User, are_short};
 use bm_session::Results;
 use bm_worker_threads::{ReadyStream, work_run};
 use bumpalo::Bump;
-use std::alloc::{AllocError, Global};
+use outcome::{Log, log_in};
+use std::alloc::{AllocError, AllocGlobal, Global};
 use std::marker::Brand;
 use std::net::{Net, SocketAddr, TcpListener, TcpStream};
+use std::process::{Processes, SystemProcess};
+use std::random::RandomSource;
 use std::sync::Wait;
 use std::thread;
-use std::thread::JoinHandle;
-use std::time::Duration;
+use std::thread::{JoinHandle, Threads};
+use std::time::{Clock, Duration};
 
 /// The most items that wait in a lane's queue.
 const CAPACITY: usize = 64;
@@ -96,25 +100,6 @@ struct Run {
     /// The session that it names, if any, which its later connections resume.
     session: Option<&'static str>,
     cuts: Cuts,
-}
-
-/// What is left of a command: its lines, and how it ended.
-#[derive(Drop)]
-struct Log {
-    content: Text,
-    ended: Option<Results>,
-}
-
-/// What a lane leaves of its first command.
-fn log_in(settled: &Settled) -> Option<Log> {
-    let ended = settled.book.state(0, STDIO)?.ended;
-    match settled.book.slice(0, STDIO, 0, u64::MAX) {
-        Ok(chunk) => Some(Log {
-            content: chunk.content,
-            ended,
-        }),
-        Err(_) => None,
-    }
 }
 
 /// A master's end of a worker's connection.
@@ -279,7 +264,21 @@ impl<Y: Yard, W: Wait + Drop> CommandLane<Y, W> {
 }
 
 /// Starts the worker of a run.
-fn worker_of<R: Host>(rt: R, address: SocketAddr, run: Run) -> Option<JoinHandle<u8>> {
+fn worker_of<R>(rt: R, address: SocketAddr, run: Run) -> Option<JoinHandle<u8>>
+where
+    R: Wait
+        + Threads
+        + Clock
+        + RandomSource
+        + AllocGlobal
+        + Net<Listener = TcpListener, Stream = TcpStream>
+        + Processes<Started = SystemProcess>
+        + Copy
+        + Drop
+        + Send
+        + Sync
+        + 'static,
+{
     let worker = thread::spawn(&rt, move || {
         let mut made = 0usize;
         let dial = |_: Duration| {
@@ -296,11 +295,25 @@ fn worker_of<R: Host>(rt: R, address: SocketAddr, run: Run) -> Option<JoinHandle
 }
 
 /// Whether a desk served the worker of a run, and the worker then left.
-fn has_served<Y: Yard, W: Wait + Drop, R: Host>(
+fn has_served<Y: Yard, W: Wait + Drop, R>(
     rt: R,
     desk: &mut CommandLane<Y, W>,
     run: Run,
-) -> Option<bool> {
+) -> Option<bool>
+where
+    R: Wait
+        + Threads
+        + Clock
+        + RandomSource
+        + AllocGlobal
+        + Net<Listener = TcpListener, Stream = TcpStream>
+        + Processes<Started = SystemProcess>
+        + Copy
+        + Drop
+        + Send
+        + Sync
+        + 'static,
+{
     let listener = TcpListener::bind(&rt, "127.0.0.1:0").ok()?;
     let address = listener.local_addr().ok()?;
     let worker = worker_of(rt, address, run)?;
@@ -310,11 +323,21 @@ fn has_served<Y: Yard, W: Wait + Drop, R: Host>(
 }
 
 /// What the lane of a new desk has of the command of a run, once it is settled.
-fn log_at<Y: Yard, W: Wait + Drop, R: Host>(
-    rt: R,
-    mut desk: CommandLane<Y, W>,
-    run: Run,
-) -> Option<Log> {
+fn log_at<Y: Yard, W: Wait + Drop, R>(rt: R, mut desk: CommandLane<Y, W>, run: Run) -> Option<Log>
+where
+    R: Wait
+        + Threads
+        + Clock
+        + RandomSource
+        + AllocGlobal
+        + Net<Listener = TcpListener, Stream = TcpStream>
+        + Processes<Started = SystemProcess>
+        + Copy
+        + Drop
+        + Send
+        + Sync
+        + 'static,
+{
     if desk.is_ready(run.task.line()) && has_served(rt, &mut desk, run) == Some(true) {
         desk.log(&rt)
     } else {
@@ -323,7 +346,20 @@ fn log_at<Y: Yard, W: Wait + Drop, R: Host>(
 }
 
 /// What a lane has of the command of a run. Its sessions are resumed where the run's has a name.
-fn log_over<Y: Yard, W: Wait + Drop, R: Host>(rt: R, blank: Blank<W>, run: Run) -> Option<Log>
+fn log_over<Y: Yard, W: Wait + Drop, R>(rt: R, blank: Blank<W>, run: Run) -> Option<Log>
+where
+    R: Wait
+        + Threads
+        + Clock
+        + RandomSource
+        + AllocGlobal
+        + Net<Listener = TcpListener, Stream = TcpStream>
+        + Processes<Started = SystemProcess>
+        + Copy
+        + Drop
+        + Send
+        + Sync
+        + 'static,
     requires { (blank.queue ≡ Y.queue 0) × (blank.copy ≡ Y.copy 0) }
 {
     let ends = blank.ends::<Y>(rt.alloc(), 0).ok()?;
@@ -332,7 +368,21 @@ fn log_over<Y: Yard, W: Wait + Drop, R: Host>(rt: R, blank: Blank<W>, run: Run) 
 }
 
 /// What a new lane has of the command of a run.
-fn log_of<R: Host>(rt: R, run: Run) -> Option<Log> {
+fn log_of<R>(rt: R, run: Run) -> Option<Log>
+where
+    R: Wait
+        + Threads
+        + Clock
+        + RandomSource
+        + AllocGlobal
+        + Net<Listener = TcpListener, Stream = TcpStream>
+        + Processes<Started = SystemProcess>
+        + Copy
+        + Drop
+        + Send
+        + Sync
+        + 'static,
+{
     let blank = open(rt, rt.alloc(), CAPACITY, 1).ok()?;
     log_over::<Brand, R, R>(rt, blank, run)
 }

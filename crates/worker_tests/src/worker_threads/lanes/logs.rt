@@ -2,7 +2,8 @@
 
 use super::super::cut::Unit;
 use super::super::is_failed;
-use super::{Cuts, IN_A_ROW, Log, NO_CUTS, Run, Task, log_of};
+use super::outcome::Log;
+use super::{Cuts, IN_A_ROW, NO_CUTS, Run, Task, log_of};
 use bm_session::Results;
 
 /// Whether this is what a command leaves that says a line over each of its pipes, and fails.
