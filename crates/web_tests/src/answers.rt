@@ -2,6 +2,7 @@
 ghost use Rattle.std.specs.Prelude.{◌≡◌, ◌<◌, length};
 
 use crate::lanes::shown;
+use crate::loopback::{is_back, service_of};
 use crate::rows::{ODD, ONE, Row, THREE, WIRE};
 use bm_http::Routes;
 use bm_lane::{Blank, Ends, Viewer, Yard, open};
@@ -88,6 +89,19 @@ fn on_lanes<Y: Yard, W: Wait + Drop, R: Wait + Abort>(
     let _two = joined(rt, alloc, &mut viewers, second, 1, ODD, ODD);
     let _three = joined(rt, alloc, &mut viewers, third, 2, "a b", "d\n");
     answered(rt, routes, alloc, &mut viewers, THREE);
+    assert!(rt; come_back(alloc, viewers));
+}
+
+// Whether a service of the viewers gives the viewer of each lane back.
+fn come_back<Y: Yard>(alloc: Global, viewers: Vec<Viewer<Y>>) -> bool {
+    let lanes = viewers.len();
+    match service_of(alloc, viewers) {
+        Some((service, held)) => {
+            drop(service);
+            is_back(held, lanes)
+        }
+        None => false,
+    }
 }
 
 // Three lanes that aren't named yet.

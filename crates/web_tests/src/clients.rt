@@ -7,6 +7,9 @@ use std::io::{Read, Write};
 use std::net::{Net, SocketAddr, TcpStream};
 use std::time::{Clock, Duration};
 
+/// For how many seconds a client waits until it gives up: they end a test that would hang.
+const HANG_SECONDS: u64 = 20;
+
 /// Who visits the server at an address.
 #[derive(Clone, Copy)]
 pub struct Client<R> {
@@ -67,10 +70,11 @@ impl<R: Net<Stream = TcpStream> + Clock + AllocGlobal + Copy> Client<R> {
     }
 }
 
-// Reads and writes give up after some seconds.
-fn limit(stream: &TcpStream) -> io::Result<()> {
-    stream.set_read_timeout(Some(Duration::from_secs(5)))?;
-    stream.set_write_timeout(Some(Duration::from_secs(5)))
+/// Reads and writes give up after some seconds.
+pub fn limit(stream: &TcpStream) -> io::Result<()> {
+    let hang = Some(Duration::from_secs(HANG_SECONDS));
+    stream.set_read_timeout(hang)?;
+    stream.set_write_timeout(hang)
 }
 
 fn has_status(alloc: Global, head: &str, status: u16) -> bool {
@@ -103,4 +107,32 @@ pub fn is_begun(stream: &TcpStream) -> bool {
     let mut byte = [0];
     let mut stream = stream;
     stream.read_exact(&mut byte).is_ok()
+}
+
+/// Whether these bytes come first.
+pub fn has_begun_with(stream: &TcpStream, want: &[u8; 13]) -> bool {
+    let mut bytes = [0; 13];
+    let mut stream = stream;
+    stream.read_exact(&mut bytes).is_ok() && bytes == *want
+}
+
+/// Whether the server ends the connection within a moment.
+pub fn is_over(stream: &TcpStream) -> bool {
+    stream
+        .set_read_timeout(Some(Duration::from_millis(100)))
+        .is_ok()
+        && ends(stream)
+}
+
+// Whether the next read meets the end, or a fault that isn't that nothing came.
+fn ends(stream: &TcpStream) -> bool {
+    let mut bytes = [0; 512];
+    let mut stream = stream;
+    match stream.read(&mut bytes) {
+        Ok(count) => count == 0,
+        Err(error) => !matches!(
+            error.kind(),
+            io::ErrorKind::WouldBlock | io::ErrorKind::TimedOut
+        ),
+    }
 }

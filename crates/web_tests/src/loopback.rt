@@ -17,13 +17,22 @@ use std::thread::{Threads, join};
 use std::time::{Clock, Duration};
 use tokio::sync::oneshot;
 
-/// What is served, where, and until when.
+/// What is served, where, for whom, and until when.
 #[derive(Drop)]
 struct Serving<R, Y: Yard> {
     rt: R,
     listener: TcpListener,
     service: Arc<LogService<Y>>,
+    visit: Visit,
     stopped: oneshot::Receiver<()>,
+}
+
+// How long a connection may be idle. Only slow clients reach that.
+fn idle_for(visit: Visit) -> Duration {
+    match visit {
+        Visit::Slow => Duration::from_secs(4),
+        _ => Duration::from_secs(60),
+    }
 }
 
 // A listener at a port that was free, and where that is.
@@ -51,6 +60,7 @@ where
     fn new(
         rt: R,
         service: Arc<LogService<Y>>,
+        visit: Visit,
     ) -> Option<(Serving<R, Y>, oneshot::Sender<()>, Client<R>)> {
         let channel = oneshot::channel(rt.alloc()).ok();
         let ((stop, stopped), (listener, address)) = channel.zip(bound(&rt))?;
@@ -58,6 +68,7 @@ where
             rt,
             listener,
             service,
+            visit,
             stopped,
         };
         Some((serving, stop, Client { rt, address }))
@@ -69,19 +80,20 @@ where
             rt,
             listener,
             service,
+            visit,
             stopped,
         } = self;
         let limits = WebLimits {
             workers: 2,
             connections: PLACES,
-            idle: Duration::from_millis(1500),
+            idle: idle_for(visit),
             stalled: Duration::from_secs(30),
         };
         serve(rt, limits, listener, service, stopped).is_ok()
     }
 }
 
-// Whether a server of the service does what is wanted, and stops in time.
+// Whether a server of the service does what is wanted, and stops.
 fn is_visited<
     Y: Yard + Send + Sync,
     R: Net<Listener = TcpListener, Stream = TcpStream>
@@ -94,7 +106,7 @@ fn is_visited<
         + Send
         + Sync,
 >(rt: R, service: Arc<LogService<Y>>, visit: Visit) -> bool {
-    let Some((serving, stop, client)) = Serving::new(rt, service) else {
+    let Some((serving, stop, client)) = Serving::new(rt, service, visit) else {
         return false;
     };
     let (left, is_served) = join(
@@ -102,11 +114,11 @@ fn is_visited<
         move || client.visit(visit, stop),
         move || serving.serve(),
     );
-    left.is_well(&rt) && is_served
+    left.is_well() && is_served
 }
 
-// The service of these viewers, held twice. None where there are none.
-fn service_of<Y: Yard>(
+/// The service of these viewers, held twice. None where there are none.
+pub fn service_of<Y: Yard>(
     alloc: Global,
     viewers: Vec<Viewer<Y>>,
 ) -> Option<(Arc<LogService<Y>>, Arc<LogService<Y>>)> {
@@ -119,15 +131,27 @@ fn service_of<Y: Yard>(
     Some(service).zip(held)
 }
 
-// Whether nobody else holds the service of so many lanes, which gives their viewers back.
-fn is_back<Y: Yard>(service: Arc<LogService<Y>>, lanes: usize) -> bool {
+// Whether the viewers are those of lane 0, 1 and so on.
+fn are_of_their_lanes<Y: Yard>(viewers: &[Viewer<Y>]) -> bool {
+    let mut lane = 0u64;
+    for viewer in viewers {
+        if viewer.lane() != lane {
+            return false;
+        }
+        lane = lane.saturating_add(1);
+    }
+    true
+}
+
+/// Whether nobody else holds the service of so many lanes, which gives the viewer of each back.
+pub fn is_back<Y: Yard>(service: Arc<LogService<Y>>, lanes: usize) -> bool {
     match LogService::into_viewers(service) {
-        Some(viewers) => viewers.len() == lanes,
+        Some(viewers) => viewers.len() == lanes && are_of_their_lanes(viewers.as_slice()),
         None => false,
     }
 }
 
-// Whether a server of these viewers does what is wanted, stops in time and gives the viewers back.
+// Whether a server of these viewers does what is wanted, stops and gives the viewers back.
 fn is_well<
     Y: Yard + Send + Sync,
     R: Net<Listener = TcpListener, Stream = TcpStream>

@@ -1,14 +1,17 @@
 //! What clients of the server do.
-use crate::clients::{Client, is_begun, says};
+use crate::clients::{Client, has_begun_with, is_begun, is_over, limit, says};
 use crate::rows::{LINES, NOT_ALLOWED, WIRE};
 use std::alloc::{AllocError, AllocGlobal};
+use std::io;
 use std::net::{Net, TcpStream};
-use std::time::{Clock, Duration, Instant};
-use std::{io, thread};
+use std::time::{Clock, Duration};
 use tokio::sync::oneshot;
 
 /// How many connections the server has open at most.
 pub const PLACES: usize = 40;
+
+/// How many bytes a slow client says at most.
+const MOST_BYTES: u32 = 300;
 
 /// What clients do.
 #[derive(Clone, Copy)]
@@ -159,24 +162,25 @@ impl<R: Net<Stream = TcpStream> + Clock + AllocGlobal + Copy> Client<R> {
     }
 
     fn slow_beside(self, idle: &TcpStream) -> bool {
-        match self.connect() {
-            Ok(stream) => {
-                self.says_slowly(&stream) && self.is_ended(&stream) && self.is_ended(idle)
-            }
-            Err(_) => false,
+        match self.half() {
+            Some(slow) => self.is_cut_off(&slow) && self.is_ended(idle),
+            None => false,
         }
     }
 
-    // Whether others are answered after each byte that is said on the connection.
-    fn says_slowly(self, stream: &TcpStream) -> bool {
-        static HALF: [&str; 3] = ["G", "E", "T"];
-        for word in &HALF {
-            if !says(stream, word) || !self.is_answered(&LINES) {
+    // Whether the connection is ended before its head is, though a byte more is said now and then.
+    // Others are answered after each byte.
+    fn is_cut_off(self, slow: &TcpStream) -> bool {
+        for _ in 0..MOST_BYTES {
+            let _ = says(slow, "x");
+            if !self.is_answered(&LINES) {
                 return false;
             }
-            thread::sleep(&self.rt, Duration::from_millis(300));
+            if is_over(slow) {
+                return true;
+            }
         }
-        true
+        false
     }
 
     // One more than there are places is answered only once another one has left.
@@ -194,9 +198,9 @@ impl<R: Net<Stream = TcpStream> + Clock + AllocGlobal + Copy> Client<R> {
         is_full && is_late
     }
 
-    // Whether each place can be taken.
+    // Whether each place can be taken but that of the one that has said half a head.
     fn fills(self, streams: &mut Vec<TcpStream>, words: &str) -> bool {
-        for _ in 0..PLACES {
+        for _ in 0..PLACES - 1 {
             if !self.takes_place(streams, words) {
                 return false;
             }
@@ -253,13 +257,13 @@ impl<R: Net<Stream = TcpStream> + Clock + AllocGlobal + Copy> Client<R> {
     }
 
     fn is_refused_early(self, words: &str) -> bool {
-        match self.said(words) {
-            Ok(text) => text.starts_with("HTTP/1.1 431 "),
-            // the rest of the words came after the server had closed
-            Err(error) => matches!(
-                error.kind(),
-                io::ErrorKind::ConnectionReset | io::ErrorKind::BrokenPipe
-            ),
+        match self.connect() {
+            Ok(stream) => {
+                // the server may have closed before all is said; what it said before comes still
+                let _ = says(&stream, words);
+                has_begun_with(&stream, b"HTTP/1.1 431 ")
+            }
+            Err(_) => false,
         }
     }
 
@@ -269,17 +273,12 @@ impl<R: Net<Stream = TcpStream> + Clock + AllocGlobal + Copy> Client<R> {
         says(&stream, "GET /").then_some(stream)
     }
 
-    /// Pays the visit, says half a head, and tells the server to stop.
+    /// Says half a head, pays the visit beside that, and tells the server to stop.
     pub fn visit(self, visit: Visit, stop: oneshot::Sender<()>) -> Left {
-        let is_pleased = self.is_pleased(visit);
         let half = self.half();
-        let stopped = Instant::now(&self.rt).ok();
+        let is_pleased = self.is_pleased(visit);
         let _ = stop.send(());
-        Left {
-            is_pleased,
-            half,
-            stopped,
-        }
+        Left { is_pleased, half }
     }
 }
 
@@ -331,10 +330,7 @@ fn waits(stream: &TcpStream) -> bool {
 // Whether one byte comes once these have left.
 fn is_begun_without(stream: &TcpStream, others: Vec<TcpStream>) -> bool {
     drop(others);
-    stream
-        .set_read_timeout(Some(Duration::from_secs(5)))
-        .is_ok()
-        && is_begun(stream)
+    limit(stream).is_ok() && is_begun(stream)
 }
 
 /// What clients leave behind at the stop.
@@ -343,20 +339,11 @@ pub struct Left {
     is_pleased: bool,
     // One that has said half a head.
     half: Option<TcpStream>,
-    stopped: Option<Instant>,
 }
 
 impl Left {
-    /// Whether the server did what is wanted, and ended less than a second after the stop.
-    pub fn is_well<R: Clock>(&self, rt: &R) -> bool {
-        self.is_pleased && self.half.is_some() && is_prompt(rt, self.stopped)
-    }
-}
-
-// Whether this was less than a second ago.
-fn is_prompt<R: Clock>(rt: &R, stopped: Option<Instant>) -> bool {
-    match stopped {
-        Some(stopped) => matches!(stopped.elapsed(rt), Ok(time) if time < Duration::from_secs(1)),
-        None => false,
+    /// Whether the server did what is wanted.
+    pub fn is_well(&self) -> bool {
+        self.is_pleased && self.half.is_some()
     }
 }

@@ -3,12 +3,14 @@
 //! What waits, is joined and is told, on the happy path and at a full window.
 
 mod memory;
+mod pipe_texts;
 
+use crate::work::worker::is_numbered;
 use bm_lines::{Letter, Text};
 use bm_msg::{Message, read};
 use bm_outbox::*;
 use bm_value::decode_whole;
-use bm_work::Worker;
+use bm_work::{Sent, Worker};
 use std::alloc::{AllocError, Global};
 use std::io;
 use std::process::Abort;
@@ -64,11 +66,20 @@ enum Step {
     Nothing,
     Full,
     Passed,
-    /// A text, by the request with this number.
-    Text(u64),
-    /// An end, by so many requests.
-    End(usize),
-    NoMemory,
+    /// The line, by the request with this number.
+    Line(u64),
+    Other,
+}
+
+/// What follows the number of the line's update.
+const LINE_REST: &[u8] = b"\xa2op\xa6update\xaacommand_id\xa10\xa4args\x91\x92\xa6stdout\xa2a\n";
+
+fn step_of(sent: &Sent) -> Step {
+    if is_numbered(sent, sent.seq, LINE_REST) {
+        Step::Line(sent.seq)
+    } else {
+        Step::Other
+    }
 }
 
 fn next(alloc: Global, worker: &mut Worker, outbox: &mut Outbox) -> Step {
@@ -76,17 +87,46 @@ fn next(alloc: Global, worker: &mut Worker, outbox: &mut Outbox) -> Step {
         Ok(Progress::Nothing) => Step::Nothing,
         Ok(Progress::Full) => Step::Full,
         Ok(Progress::Passed) => Step::Passed,
-        Ok(Progress::Text(sent)) => Step::Text(sent.seq),
-        Ok(Progress::End(requests)) => Step::End(requests.len()),
-        Err(_) => Step::NoMemory,
+        Ok(Progress::Text(sent)) => step_of(&sent),
+        _ => Step::Other,
     }
+}
+
+/// Whether these are the bytes of the requests.
+fn are(requests: &[Sent], want: &[&[u8]]) -> bool {
+    for (request, bytes) in requests.iter().zip(want) {
+        if request.bytes.as_slice() != *bytes {
+            return false;
+        }
+    }
+    requests.len() == want.len()
+}
+
+/// Whether these requests are told next. None where memory was wanting for that.
+fn tells(alloc: Global, worker: &mut Worker, outbox: &mut Outbox, want: &[&[u8]]) -> Option<bool> {
+    match outbox.tell(alloc, worker) {
+        Ok(Progress::Text(sent)) => Some(are(&[sent], want)),
+        Ok(Progress::End(requests)) => Some(are(requests.as_slice(), want)),
+        Ok(_) => Some(false),
+        Err(_) => None,
+    }
+}
+
+/// Whether these requests are told in turn, each of them alone.
+fn tells_each(alloc: Global, worker: &mut Worker, outbox: &mut Outbox, want: &[&[u8]]) -> bool {
+    for bytes in want {
+        if tells(alloc, worker, outbox, &[*bytes]) != Some(true) {
+            return false;
+        }
+    }
+    true
 }
 
 /// Tells a line for each place of the window, and one that waits on.
 fn fill(rt: &impl Abort, alloc: Global, worker: &mut Worker, outbox: &mut Outbox) {
     for number in 0..65u64 {
         let want = if number < 64 {
-            Step::Text(number)
+            Step::Line(number)
         } else {
             Step::Full
         };
@@ -98,7 +138,7 @@ fn fill(rt: &impl Abort, alloc: Global, worker: &mut Worker, outbox: &mut Outbox
 /// Whether the line that waits is told, and nothing else, once there is a place.
 fn goes_on(alloc: Global, worker: &mut Worker, outbox: &mut Outbox) -> bool {
     hears(alloc, worker, ANSWER)
-        && next(alloc, worker, outbox) == Step::Text(64)
+        && next(alloc, worker, outbox) == Step::Line(64)
         && outbox.is_empty()
         && next(alloc, worker, outbox) == Step::Nothing
 }
@@ -113,17 +153,22 @@ fn a_full_window_keeps_the_next_text(rt: HostRuntime) -> Result<(), Fail> {
     Ok(())
 }
 
-/// Whether a login that was answered so begins with so many requests.
+/// The first request, which ends command 0.
+const INTERRUPTED: &[u8] =
+    b"\x84\xaaseq_number\x00\xa2op\xa8complete\xaacommand_id\xa10\xa4args\xabinterrupted";
+
+/// Whether a login that was answered so begins with these requests. None where memory was wanting
+/// for that.
 fn begins(
     alloc: Global,
     resumed: bool,
     worker: &mut Worker,
     outbox: &mut Outbox,
-    count: usize,
-) -> bool {
+    want: &[&[u8]],
+) -> Option<bool> {
     match begin(alloc, resumed, worker, outbox) {
-        Ok(requests) => requests.len() == count,
-        Err(_) => false,
+        Ok(requests) => Some(are(requests.as_slice(), want)),
+        Err(_) => None,
     }
 }
 
@@ -131,7 +176,8 @@ fn begins(
 fn ends_at_once(alloc: Global, worker: &mut Worker, outbox: &mut Outbox) -> bool {
     pushes(alloc, outbox)
         && outbox.cut_short(0, Ending::Interrupted).is_ok()
-        && next(alloc, worker, outbox) == Step::End(1)
+        && tells(alloc, worker, outbox, &[INTERRUPTED]) == Some(true)
+        && outbox.is_empty()
 }
 
 /// Whether a text of a command that has ended is passed over; and its end is sent again where the
@@ -139,8 +185,8 @@ fn ends_at_once(alloc: Global, worker: &mut Worker, outbox: &mut Outbox) -> bool
 fn has_ended(alloc: Global, worker: &mut Worker, outbox: &mut Outbox) -> bool {
     pushes(alloc, outbox)
         && next(alloc, worker, outbox) == Step::Passed
-        && begins(alloc, true, worker, outbox, 1)
-        && begins(alloc, false, worker, outbox, 0)
+        && begins(alloc, true, worker, outbox, &[INTERRUPTED]) == Some(true)
+        && begins(alloc, false, worker, outbox, &[]) == Some(true)
 }
 
 #[test]
@@ -152,56 +198,6 @@ fn an_end_is_told_at_once_or_behind_the_texts(rt: HostRuntime) -> Result<(), Fai
         ends_at_once(alloc, &mut worker, &mut outbox) && has_ended(alloc, &mut worker, &mut outbox)
     );
     Ok(())
-}
-
-/// Whether so many texts are said of the next bytes of a pipe.
-fn says(alloc: Global, texts: &mut PipeTexts, bytes: &[u8], count: usize) -> bool {
-    match texts.take(alloc, bytes) {
-        Ok(said) => said.len() == count,
-        Err(_) => false,
-    }
-}
-
-/// Whether so many texts are said of the first bytes of a pipe.
-fn says_first(alloc: Global, bytes: &[u8], count: usize) -> bool {
-    let mut texts = PipeTexts::new(alloc, 0, Letter::E);
-    says(alloc, &mut texts, bytes, count)
-}
-
-/// Whether so many texts are said of a byte that a pipe gives so many times.
-fn says_of_many(alloc: Global, byte: u8, times: usize, count: usize) -> bool {
-    match vec![in alloc; byte; times] {
-        Ok(bytes) => says_first(alloc, bytes.as_slice(), count),
-        Err(_) => false,
-    }
-}
-
-/// Whether this is said at the end of a pipe. None where memory was wanting for that.
-fn says_last(texts: &mut PipeTexts, want: &str) -> Option<bool> {
-    match texts.last() {
-        Ok(Some(said)) => Some(said.text.as_str() == want),
-        Ok(None) => Some(false),
-        Err(_) => None,
-    }
-}
-
-/// Whether a byte that ends no line is said at the end of a pipe alone.
-fn keeps_a_rest(alloc: Global) -> bool {
-    let mut texts = PipeTexts::new(alloc, 0, Letter::O);
-    says(alloc, &mut texts, b"d", 0) && says_last(&mut texts, "d") == Some(true)
-}
-
-#[test]
-fn whole_lines_are_joined(rt: HostRuntime) {
-    let alloc = rt.alloc();
-    assert!(rt; says_first(alloc, b"a\nb\n\nc", 1) && says_first(alloc, b"a", 0));
-    assert!(rt;
-        says_of_many(alloc, b'x', 16_384, 1)
-            && says_of_many(alloc, b'x', 40_000, 2)
-            && says_of_many(alloc, b'\n', 70_000, 2)
-            && says_of_many(alloc, 0xFF, 40_000, 2)
-    );
-    assert!(rt; keeps_a_rest(alloc));
 }
 
 fn texts_of(alloc: Global, words: &[&str]) -> Result<Vec<Text>, AllocError> {
@@ -220,19 +216,16 @@ fn opens(alloc: Global, outbox: &mut Outbox, words: &[&str]) -> bool {
     }
 }
 
-/// Whether the next request is an update that ends with these bytes.
-fn ends_with(alloc: Global, worker: &mut Worker, outbox: &mut Outbox, last: &[u8]) -> bool {
-    match outbox.tell(alloc, worker) {
-        Ok(Progress::Text(sent)) => sent.bytes.as_slice().ends_with(last),
-        _ => false,
-    }
-}
+/// The updates of a command of one line before its end, and the requests of that.
+static UPDATES: [&[u8]; 3] = [
+    b"\x84\xaaseq_number\x00\xa2op\xa6update\xaacommand_id\xa10\xa4args\x91\x92\xa6header\xa7echo z\n",
+    b"\x84\xaaseq_number\x01\xa2op\xa6update\xaacommand_id\xa10\xa4args\x91\x92\xa6stdout\xa2a\n",
+    b"\x84\xaaseq_number\x02\xa2op\xa6update\xaacommand_id\xa10\xa4args\x91\x92\xa6header\xd9\x23program finished with exit code -1\n",
+];
 
-/// How the updates of a command of one line end, in their order.
-static LASTS: [&[u8]; 3] = [
-    b"\xa6header\xa7echo z\n",
-    b"\xa6stdout\xa2a\n",
-    b"\xa6header\xd9\x23program finished with exit code -1\n",
+static ENDED: [&[u8]; 2] = [
+    b"\x84\xaaseq_number\x03\xa2op\xa6update\xaacommand_id\xa10\xa4args\x91\x92\xa2rc\xff",
+    b"\x84\xaaseq_number\x04\xa2op\xa8complete\xaacommand_id\xa10\xa4args\xc0",
 ];
 
 /// The exit code that is told of command 0, whose process printed nothing and gave this one.
@@ -258,50 +251,29 @@ fn speaks(alloc: Global, outbox: &mut Outbox) -> bool {
         && outbox.close(alloc, exit_code(alloc, None)).is_ok()
 }
 
-fn ends_with_each(
-    alloc: Global,
-    worker: &mut Worker,
-    outbox: &mut Outbox,
-    lasts: &[&[u8]],
-) -> bool {
-    for last in lasts {
-        if !ends_with(alloc, worker, outbox, last) {
-            return false;
-        }
-    }
-    true
-}
-
 #[test]
 fn header_lines_stand_first_and_last(rt: HostRuntime) -> Result<(), Fail> {
     let alloc = rt.alloc();
     let mut worker = worker_of(alloc).ok_or("no command")?;
     let mut outbox = Outbox::new(alloc);
     assert!(rt;
-        speaks(alloc, &mut outbox) && ends_with_each(alloc, &mut worker, &mut outbox, &LASTS)
+        speaks(alloc, &mut outbox)
+            && tells_each(alloc, &mut worker, &mut outbox, &UPDATES)
+            && tells(alloc, &mut worker, &mut outbox, &ENDED) == Some(true)
+            && outbox.is_empty()
     );
     Ok(())
 }
 
-/// How the updates of a command end whose program is missing, in their order.
-static UNSTARTED: [&[u8]; 2] = [
-    b"\xa6header\xa7echo z\n",
-    b"\xa6header\xbbcannot start: no such file\n",
+/// The requests of a command whose program is missing, in their order.
+static UNSTARTED: [&[u8]; 3] = [
+    b"\x84\xaaseq_number\x00\xa2op\xa6update\xaacommand_id\xa10\xa4args\x91\x92\xa6header\xa7echo z\n",
+    b"\x84\xaaseq_number\x01\xa2op\xa6update\xaacommand_id\xa10\xa4args\x91\x92\xa6header\xbbcannot start: no such file\n",
+    b"\x84\xaaseq_number\x02\xa2op\xa8complete\xaacommand_id\xa10\xa4args\xaccannot start",
 ];
 
 fn fails(alloc: Global, outbox: &mut Outbox) -> bool {
     opens(alloc, outbox, &["echo", "z"]) && outbox.fail(alloc, 0, StartFault::NoSuchFile).is_ok()
-}
-
-/// Whether the next request is the only one of an end, by this fault.
-fn ends_by(alloc: Global, worker: &mut Worker, outbox: &mut Outbox, fault: &[u8]) -> bool {
-    match outbox.tell(alloc, worker) {
-        Ok(Progress::End(requests)) => match requests.as_slice() {
-            [only] => only.bytes.as_slice().ends_with(fault),
-            _ => false,
-        },
-        _ => false,
-    }
 }
 
 #[test]
@@ -311,8 +283,8 @@ fn missing_program_is_told_before_the_end(rt: HostRuntime) -> Result<(), Fail> {
     let mut outbox = Outbox::new(alloc);
     assert!(rt;
         fails(alloc, &mut outbox)
-            && ends_with_each(alloc, &mut worker, &mut outbox, &UNSTARTED)
-            && ends_by(alloc, &mut worker, &mut outbox, b"\xaccannot start")
+            && tells_each(alloc, &mut worker, &mut outbox, &UNSTARTED)
+            && outbox.is_empty()
     );
     Ok(())
 }

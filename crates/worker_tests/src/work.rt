@@ -1,4 +1,4 @@
 //! Tests of `bm_work`: what no clause says.
 
 mod assembler;
-mod worker;
+pub mod worker;

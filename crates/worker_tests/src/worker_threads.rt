@@ -50,6 +50,15 @@ fn waiting(alloc: Global, stream: TcpStream) -> Option<ReadyStream<TcpStream>> {
     }
 }
 
+/// A line for a shell, which says a line over each of its pipes and fails.
+const FAILING: &str = "echo a; echo b >&2; exit 3";
+
+/// Whether this is what is told of that command: its two lines come in either order.
+fn is_failed(told: &str) -> bool {
+    told == "hsh -c echo a; echo b >&2; exit 3\noa\neb\nhprogram finished with exit code 3\n"
+        || told == "hsh -c echo a; echo b >&2; exit 3\neb\noa\nhprogram finished with exit code 3\n"
+}
+
 /// What became of the script, played to the worker that connects next.
 fn played<F>(alloc: Global, listener: &TcpListener, script: F) -> Option<()>
 where

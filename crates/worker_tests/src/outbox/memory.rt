@@ -4,10 +4,11 @@
 //! then and nothing told twice, and where an end can't be told its fault is. In the gate no request
 //! is refused, and no call is made twice.
 
-use super::{exit_code, opens, pushes, says, says_last, worker_of};
+use super::pipe_texts::{says, says_last};
+use super::{INTERRUPTED, begins, exit_code, opens, pushes, tells, worker_of};
 use bm_lines::Letter;
-use bm_outbox::{Ending, Outbox, PipeTexts, Progress, begin};
-use bm_work::{Sent, Worker};
+use bm_outbox::{Ending, Outbox, PipeTexts};
+use bm_work::Worker;
 use std::alloc::Global;
 use std::test::Fail;
 
@@ -34,9 +35,6 @@ const ENDED: &[u8] = b"\x84\xaaseq_number\x04\xa2op\xa8complete\xaacommand_id\xa
 const NO_MEMORY: &[u8] =
     b"\x84\xaaseq_number\x02\xa2op\xa8complete\xaacommand_id\xa10\xa4args\xadout of memory";
 
-const INTERRUPTED: &[u8] =
-    b"\x84\xaaseq_number\x00\xa2op\xa8complete\xaacommand_id\xa10\xa4args\xabinterrupted";
-
 /// All requests of a command whose end was told.
 static WHOLE: [&[u8]; 5] = [OPENED, LINE, CLOSED, EXIT_CODE, ENDED];
 
@@ -50,26 +48,6 @@ fn worker_again(alloc: Global) -> Option<Worker> {
     }
 }
 
-/// Whether these are the bytes of the requests.
-fn are(requests: &[Sent], want: &[&[u8]]) -> bool {
-    for (request, bytes) in requests.iter().zip(want) {
-        if request.bytes.as_slice() != *bytes {
-            return false;
-        }
-    }
-    requests.len() == want.len()
-}
-
-/// Whether these requests are told next. None where memory was wanting for that.
-fn tells(alloc: Global, worker: &mut Worker, outbox: &mut Outbox, want: &[&[u8]]) -> Option<bool> {
-    match outbox.tell(alloc, worker) {
-        Ok(Progress::Text(sent)) => Some(are(&[sent], want)),
-        Ok(Progress::End(requests)) => Some(are(requests.as_slice(), want)),
-        Ok(_) => Some(false),
-        Err(_) => None,
-    }
-}
-
 /// Whether these requests are told next, by a second call where memory was wanting.
 fn tells_again(alloc: Global, worker: &mut Worker, outbox: &mut Outbox, want: &[&[u8]]) -> bool {
     match tells(alloc, worker, outbox, want) {
@@ -78,25 +56,12 @@ fn tells_again(alloc: Global, worker: &mut Worker, outbox: &mut Outbox, want: &[
     }
 }
 
-/// Whether these requests are sent again. None where memory was wanting for that.
-fn resends(
-    alloc: Global,
-    worker: &mut Worker,
-    outbox: &mut Outbox,
-    want: &[&[u8]],
-) -> Option<bool> {
-    match begin(alloc, true, worker, outbox) {
-        Ok(requests) => Some(are(requests.as_slice(), want)),
-        Err(_) => None,
-    }
-}
-
 /// Whether nothing waits any more, and these requests are sent again, by a second call where memory
 /// was wanting.
 fn resends_again(alloc: Global, worker: &mut Worker, outbox: &mut Outbox, want: &[&[u8]]) -> bool {
-    let is_sent = match resends(alloc, worker, outbox, want) {
+    let is_sent = match begins(alloc, true, worker, outbox, want) {
         Some(is_sent) => is_sent,
-        None => resends(alloc, worker, outbox, want) == Some(true),
+        None => begins(alloc, true, worker, outbox, want) == Some(true),
     };
     is_sent && outbox.is_empty()
 }
@@ -192,9 +157,9 @@ fn refused_interrupt_is_told_again(rt: HostRuntime) -> Result<(), Fail> {
 /// Whether what a pipe keeps is said at its end, by a second call where memory was wanting, and
 /// nothing is said behind it.
 fn is_said_again(texts: &mut PipeTexts) -> bool {
-    let is_said = match says_last(texts, "d") {
+    let is_said = match says_last(texts, Letter::O, "d") {
         Some(is_said) => is_said,
-        None => says_last(texts, "d") == Some(true),
+        None => says_last(texts, Letter::O, "d") == Some(true),
     };
     is_said && matches!(texts.last(), Ok(None))
 }
@@ -203,7 +168,7 @@ fn is_said_again(texts: &mut PipeTexts) -> bool {
 /// where memory was wanting for it.
 fn keeps_a_rest(alloc: Global) -> Option<bool> {
     let mut texts = PipeTexts::new(alloc, 0, Letter::O);
-    if says(alloc, &mut texts, b"d", 0) {
+    if says(alloc, &mut texts, b"d", Letter::O, &[]) {
         Some(is_said_again(&mut texts))
     } else {
         None

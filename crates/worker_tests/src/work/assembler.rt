@@ -48,10 +48,15 @@ fn are_texts(texts: &[Text], wanted: &[&str]) -> bool {
     texts.len() == wanted.len()
 }
 
-/// Whether the texts are one of the longest length and these.
+/// Whether the text is `x` as often as the longest text has room for.
+fn is_longest(text: &str) -> bool {
+    text.len() == 16_384 && text.matches('x').count() == 16_384
+}
+
+/// Whether the texts are the longest one of `x` and these.
 fn is_long_then(texts: &[Text], wanted: &[&str]) -> bool {
     match texts {
-        [first, others @ ..] => first.as_str().len() == 16_384 && are_texts(others, wanted),
+        [first, others @ ..] => is_longest(first.as_str()) && are_texts(others, wanted),
         [] => false,
     }
 }
@@ -160,7 +165,7 @@ fn pieces_come_together_to_lines(rt: HostRuntime) {
     drop(assembler);
 }
 
-/// Whether the piece gives one text, of the longest length.
+/// Whether the piece gives one text, the longest one of `x`.
 fn gives_a_long_text(assembler: &mut Assembler, piece: &[u8]) -> bool {
     match feed(assembler, piece) {
         Ok(texts) => then_drop(is_long_then(texts.as_slice(), &[]), texts),
@@ -180,7 +185,7 @@ fn long_line_is_cut(rt: HostRuntime) -> Result<(), Fail> {
     Ok(())
 }
 
-/// Whether the pieces have a text of the longest length, and these behind it.
+/// Whether the pieces have the longest text of `x`, and these behind it.
 fn have_a_long_text(alloc: Global, pieces: &[&[u8]], wanted: &[&str]) -> bool {
     match texts_of(alloc, pieces) {
         Some(texts) => then_drop(is_long_then(texts.as_slice(), wanted), texts),

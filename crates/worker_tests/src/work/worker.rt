@@ -6,7 +6,7 @@ mod random;
 mod rows;
 mod turn;
 
-use bm_work::{WorkRefusal, *};
+use bm_work::{Sent, WorkRefusal, *};
 use gives::Gives;
 use std::alloc::{AllocError, Global};
 use std::process::Abort;
@@ -18,6 +18,16 @@ type Row = (Turn, Gives);
 /// The answer, once the value is dropped: here, where the proof doesn't ask of which type it is.
 pub(crate) fn then_drop<T: Drop>(answer: bool, _value: T) -> bool {
     answer
+}
+
+/// Whether this is an update with that number, at most 127, which goes on so behind it.
+pub(crate) fn is_numbered(sent: &Sent, seq: u64, rest: &[u8]) -> bool {
+    match sent.bytes.as_slice().strip_prefix(b"\x84\xaaseq_number") {
+        Some([number, others @ ..]) => {
+            sent.seq == seq && u64::from(*number) == seq && others == rest
+        }
+        _ => false,
+    }
 }
 
 /// Whether the worker makes of the turn what its row says.

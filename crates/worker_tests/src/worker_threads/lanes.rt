@@ -3,15 +3,17 @@
 ghost use Rattle.std.specs.Prelude.{◌≡◌};
 
 mod logs;
+mod outcome;
 
 use super::cut::{Cut, Unit};
-use super::{dial, waiting};
-use bm_lane::{Blank, Drained, Ends, Yard, open};
+use super::{FAILING, dial, waiting};
+use bm_lane::{Blank, Drained, Ends, Yard, open, same_lane, settle};
 use bm_lines::{STDIO, Text};
 use bm_link::{Ask, MasterLink, ResumeState, User, are_short};
 use bm_session::Results;
 use bm_worker_threads::{ReadyStream, work_run};
 use bumpalo::Bump;
+use outcome::{Log, log_in};
 use std::alloc::{AllocError, AllocGlobal, Global};
 use std::marker::Brand;
 use std::net::{Net, SocketAddr, TcpListener, TcpStream};
@@ -44,7 +46,7 @@ impl Task {
     /// Its line for a shell.
     fn line(self) -> &'static str {
         match self {
-            Task::Fail => "echo a; echo b >&2; exit 3",
+            Task::Fail => FAILING,
             Task::Count => "seq 1 9",
         }
     }
@@ -91,11 +93,13 @@ impl Cuts {
     }
 }
 
-/// What is left of a command: its lines, and how it ended.
-#[derive(Drop)]
-struct Log {
-    content: Text,
-    ended: Option<Results>,
+/// What a worker does.
+#[derive(Clone, Copy)]
+struct Run {
+    task: Task,
+    /// The session that it names, if any, which its later connections resume.
+    session: Option<&'static str>,
+    cuts: Cuts,
 }
 
 /// A master's end of a worker's connection.
@@ -126,12 +130,13 @@ fn user_of(alloc: Global) -> Result<User, AllocError> {
 }
 
 impl<Y: Yard, W: Wait + Drop> CommandLane<Y, W> {
-    /// A lane without a link. No user is known, and there is no command to start.
-    fn new(alloc: Global, ends: Ends<Y, W>) -> CommandLane<Y, W> {
+    /// A lane without a link, whose sessions are resumed or not. No user is known, and there is no
+    /// command to start.
+    fn new(alloc: Global, ends: Ends<Y, W>, resumable: bool) -> CommandLane<Y, W> {
         CommandLane {
             alloc,
             ends,
-            carry: ResumeState::new(alloc, true),
+            carry: ResumeState::new(alloc, resumable),
             users: Vec::new(alloc),
             argv: Vec::new(alloc),
         }
@@ -245,20 +250,21 @@ impl<Y: Yard, W: Wait + Drop> CommandLane<Y, W> {
         }
     }
 
-    fn log(&mut self) -> Option<Log> {
-        let ended = self.ended();
-        match self.ends.viewers.first_mut()?.chunk(0, STDIO, 0, u64::MAX) {
-            Ok(chunk) => Some(Log {
-                content: chunk.content,
-                ended,
-            }),
+    /// What is left of the command, once the lane is settled.
+    fn log<R: Wait>(self, rt: &R) -> Option<Log> {
+        let CommandLane { alloc, ends, .. } = self;
+        if !same_lane(&ends.reader, &ends.writer, ends.viewers.as_slice()) {
+            return None;
+        }
+        match settle(rt, alloc, ends) {
+            Ok(settled) => log_in(&settled),
             Err(_) => None,
         }
     }
 }
 
-/// Starts a worker whose first connections are cut so.
-fn cut_worker<R>(rt: R, address: SocketAddr, cuts: Cuts) -> Option<JoinHandle<u8>>
+/// Starts the worker of a run.
+fn worker_of<R>(rt: R, address: SocketAddr, run: Run) -> Option<JoinHandle<u8>>
 where
     R: Wait
         + Threads
@@ -276,23 +282,23 @@ where
     let worker = thread::spawn(&rt, move || {
         let mut made = 0usize;
         let dial = |_: Duration| {
-            let left = cuts.left(made);
+            let left = run.cuts.left(made);
             made = made.saturating_add(1);
             match dial(&rt, address) {
-                Some(stream) => Some(Cut::new(stream, cuts.unit, left)),
+                Some(stream) => Some(Cut::new(stream, run.cuts.unit, left)),
                 None => None,
             }
         };
-        work_run(&rt, dial, "w0", "p", Some("s"))
+        work_run(&rt, dial, "w0", "p", run.session)
     });
     worker.ok()
 }
 
-/// Whether a desk served a worker whose first connections are cut so, and the worker then left.
+/// Whether a desk served the worker of a run, and the worker then left.
 fn has_served<Y: Yard, W: Wait + Drop, R>(
     rt: R,
     desk: &mut CommandLane<Y, W>,
-    cuts: Cuts,
+    run: Run,
 ) -> Option<bool>
 where
     R: Wait
@@ -310,19 +316,14 @@ where
 {
     let listener = TcpListener::bind(&rt, "127.0.0.1:0").ok()?;
     let address = listener.local_addr().ok()?;
-    let worker = cut_worker(rt, address, cuts)?;
+    let worker = worker_of(rt, address, run)?;
     let is_served = desk.serves_all(&rt, &listener);
     drop(listener);
-    Some(cuts.may_end(worker.join(&rt)) && is_served)
+    Some(run.cuts.may_end(worker.join(&rt)) && is_served)
 }
 
-/// What the lane of a new desk has of a command of a worker whose first connections are cut so.
-fn log_at<Y: Yard, W: Wait + Drop, R>(
-    rt: R,
-    mut desk: CommandLane<Y, W>,
-    task: Task,
-    cuts: Cuts,
-) -> Option<Log>
+/// What the lane of a new desk has of the command of a run, once it is settled.
+fn log_at<Y: Yard, W: Wait + Drop, R>(rt: R, mut desk: CommandLane<Y, W>, run: Run) -> Option<Log>
 where
     R: Wait
         + Threads
@@ -337,19 +338,15 @@ where
         + Sync
         + 'static,
 {
-    let is_served = desk.is_ready(task.line()) && has_served(rt, &mut desk, cuts) == Some(true);
-    let log = if is_served { desk.log() } else { None };
-    drop(desk);
-    log
+    if desk.is_ready(run.task.line()) && has_served(rt, &mut desk, run) == Some(true) {
+        desk.log(&rt)
+    } else {
+        None
+    }
 }
 
-/// What a lane has of a command of a worker whose first connections are cut so.
-fn log_over<Y: Yard, W: Wait + Drop, R>(
-    rt: R,
-    blank: Blank<W>,
-    task: Task,
-    cuts: Cuts,
-) -> Option<Log>
+/// What a lane has of the command of a run. Its sessions are resumed where the run's has a name.
+fn log_over<Y: Yard, W: Wait + Drop, R>(rt: R, blank: Blank<W>, run: Run) -> Option<Log>
 where
     R: Wait
         + Threads
@@ -366,11 +363,12 @@ where
     requires { (blank.queue ≡ Y.queue 0) × (blank.copy ≡ Y.copy 0) }
 {
     let ends = blank.ends::<Y>(rt.alloc(), 0).ok()?;
-    log_at(rt, CommandLane::new(rt.alloc(), ends), task, cuts)
+    let desk = CommandLane::new(rt.alloc(), ends, run.session.is_some());
+    log_at(rt, desk, run)
 }
 
-/// What a new lane has of a command of a worker whose first connections are cut so.
-fn log_of<R>(rt: R, task: Task, cuts: Cuts) -> Option<Log>
+/// What a new lane has of the command of a run.
+fn log_of<R>(rt: R, run: Run) -> Option<Log>
 where
     R: Wait
         + Threads
@@ -386,5 +384,5 @@ where
         + 'static,
 {
     let blank = open(rt, rt.alloc(), CAPACITY, 1).ok()?;
-    log_over::<Brand, R, R>(rt, blank, task, cuts)
+    log_over::<Brand, R, R>(rt, blank, run)
 }

@@ -229,6 +229,20 @@ impl Master {
         None
     }
 
+    /// Hears until an order was answered by an exception. None where a command ends before.
+    pub fn hear_refusal(&mut self) -> Option<()> {
+        for _ in 0..MOST_MESSAGES {
+            if self.refused > 0 {
+                return Some(());
+            }
+            if self.ended > 0 {
+                return None;
+            }
+            self.hear()?;
+        }
+        None
+    }
+
     /// Whether this fault alone was told, so many times.
     pub fn has_faults(&self, count: usize, fault: &str) -> bool {
         for told in &self.faults {

@@ -1,25 +1,16 @@
 //! What a worker tells of its commands, and how it ends.
 
 use super::master::Master;
-use super::status_under;
+use super::{FAILING, is_failed, status_under};
 use std::thread;
 use std::time::Duration;
 
 #[test]
 fn a_command_is_told(rt: HostRuntime) {
     let script = |master: &mut Master| {
-        master.start(0, "echo a; echo b >&2; exit 3")?;
+        master.start(0, FAILING)?;
         master.hear_ends(1)?;
-        let is_told = master
-            .said
-            .as_str()
-            .starts_with("hsh -c echo a; echo b >&2; exit 3\n")
-            && master.has_said("oa\n")
-            && master.has_said("eb\n")
-            && master
-                .said
-                .as_str()
-                .ends_with("hprogram finished with exit code 3\n")
+        let is_told = is_failed(master.said.as_str())
             && master.codes.as_slice() == [3].as_slice()
             && master.faults.is_empty();
         if is_told { master.close() } else { None }
@@ -57,11 +48,10 @@ fn a_child_that_gave_no_code_is_told(rt: HostRuntime) {
     let script = |master: &mut Master| {
         master.start(0, "kill -9 $$")?;
         master.hear_ends(1)?;
-        let is_told = master
-            .said
-            .as_str()
-            .ends_with("hprogram finished with exit code -1\n")
-            && master.codes.as_slice() == [-1].as_slice();
+        let is_told = master.said.as_str()
+            == "hsh -c kill -9 $$\nhprogram finished with exit code -1\n"
+            && master.codes.as_slice() == [-1].as_slice()
+            && master.faults.is_empty();
         if is_told { master.close() } else { None }
     };
     assert!(rt; status_under(rt, script) == Some(0));
@@ -95,22 +85,6 @@ fn an_interrupt_is_told_at_once(rt: HostRuntime) {
     assert!(rt; status_under(rt, script) == Some(0));
 }
 
-#[test]
-fn a_fifth_command_is_refused(rt: HostRuntime) {
-    let script = |master: &mut Master| {
-        for command in 0..5 {
-            master.start(command, "sleep 2; echo a")?;
-        }
-        master.hear_ends(4)?;
-        if master.refused == 1 && master.codes.as_slice() == [0, 0, 0, 0].as_slice() {
-            master.close()
-        } else {
-            None
-        }
-    };
-    assert!(rt; status_under(rt, script) == Some(0));
-}
-
 /// Commands that go on until nobody hears them, and what each of them says.
 const LASTING: [(u64, &str, &str); 4] = [
     (0, "while echo 0; do sleep 0.1; done", "o0\n"),
@@ -119,21 +93,46 @@ const LASTING: [(u64, &str, &str); 4] = [
     (3, "while echo 3; do sleep 0.1; done", "o3\n"),
 ];
 
+fn start_lasting(master: &mut Master) -> Option<()> {
+    for (command, line, _) in &LASTING {
+        master.start(*command, line)?;
+    }
+    Some(())
+}
+
+/// Whether none of them had ended, and each ends by its interrupt.
+fn are_interrupted(master: &mut Master) -> Option<bool> {
+    let are_open = master.ended == 0;
+    for command in 0..4 {
+        master.interrupt(command)?;
+    }
+    master.hear_ends(4)?;
+    Some(are_open && master.codes.is_empty() && master.has_faults(4, "interrupted"))
+}
+
 #[test]
 fn four_commands_run_side_by_side(rt: HostRuntime) {
     let script = |master: &mut Master| {
-        for (command, line, _) in &LASTING {
-            master.start(*command, line)?;
-        }
+        start_lasting(master)?;
         for (_, _, said) in &LASTING {
             master.hear_said(said)?;
         }
-        let are_open = master.ended == 0;
-        for command in 0..4 {
-            master.interrupt(command)?;
+        if are_interrupted(master)? && master.refused == 0 {
+            master.close()
+        } else {
+            None
         }
-        master.hear_ends(4)?;
-        if are_open && master.has_faults(4, "interrupted") {
+    };
+    assert!(rt; status_under(rt, script) == Some(0));
+}
+
+#[test]
+fn a_fifth_command_is_refused(rt: HostRuntime) {
+    let script = |master: &mut Master| {
+        start_lasting(master)?;
+        master.start(4, "echo a")?;
+        master.hear_refusal()?;
+        if are_interrupted(master)? && master.refused == 1 && !master.has_said("echo a") {
             master.close()
         } else {
             None

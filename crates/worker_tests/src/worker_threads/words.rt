@@ -53,3 +53,34 @@ fn three_words_are_wanted(rt: HostRuntime) {
             && asks(alloc, &["buildworker", "host:1", "w0", "p", "x"], false)
     );
 }
+
+/// How many bytes a name and a password have, and whether these ask for work.
+static LOGINS: [(usize, usize, bool); 6] = [
+    (900_000, 0, true),
+    (900_000, 1, false),
+    (0, 900_000, true),
+    (0, 900_001, false),
+    (450_000, 450_000, true),
+    (450_001, 450_000, false),
+];
+
+/// Whether it is as wanted whether a name and a password of so many bytes ask for work.
+fn asks_with(alloc: Global, name: usize, password: usize, want: bool) -> bool {
+    match ("x".repeat(alloc, name), "x".repeat(alloc, password)) {
+        (Ok(name), Ok(password)) => {
+            let words = ["buildworker", "host:1", name.as_str(), password.as_str()];
+            asks(alloc, &words, want)
+        }
+        _ => false,
+    }
+}
+
+#[test]
+fn name_and_password_are_short_together(rt: HostRuntime) {
+    for (name, password, want) in &LOGINS {
+        assert!(rt;
+            asks_with(rt.alloc(), *name, *password, *want),
+            "{name} and {password} bytes"
+        );
+    }
+}

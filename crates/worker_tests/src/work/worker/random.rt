@@ -2,7 +2,7 @@
 
 use super::gives::{Act, Gives, Reply};
 use super::rows::started;
-use super::turn::{Given, Turn, say, taken};
+use super::turn::{Given, Turn, is_same, taken};
 use super::{Row, Worker, goes_on, is_played, then_drop};
 use bm_lines::Letter;
 use bm_work::{Sent, WorkRefusal};
@@ -22,10 +22,6 @@ static TEXTS: [&str; 4] = ["a\n", "b", "", "\u{e9}\n"];
 struct Said {
     sent: Sent,
     is_answered: bool,
-}
-
-fn is_same(request: &Sent, sent: &Sent) -> bool {
-    request.seq == sent.seq && request.bytes.as_slice() == sent.bytes.as_slice()
 }
 
 /// Whether the requests are exactly those without an answer, in their order and with their bytes.
@@ -57,15 +53,15 @@ fn awaited(said: &mut [Said], place: u32) -> Act {
 }
 
 /// Whether the worker says the text, which has no answer then.
-fn says(worker: &mut Worker, said: &mut Vec<Said>, text: &'static str) -> bool {
-    match say(worker, 0, Letter::O, text) {
-        Ok(sent) => said
+fn says(alloc: Global, worker: &mut Worker, said: &mut Vec<Said>, text: &'static str) -> bool {
+    match taken(alloc, worker, Turn::Say(0, Letter::O, text)) {
+        Ok(Given::Said(sent)) => said
             .push(Said {
                 sent,
                 is_answered: false,
             })
             .is_ok(),
-        Err(_) => false,
+        _ => false,
     }
 }
 
@@ -81,7 +77,7 @@ fn hears(alloc: Global, worker: &mut Worker, said: &mut [Said], place: u32) -> b
 fn moves(alloc: Global, worker: &mut Worker, random: &mut Pcg32, said: &mut Vec<Said>) -> bool {
     if random.next_word() % 2 == 0 {
         let text = TEXTS[random.next_word() as usize % 4];
-        says(worker, said, text)
+        says(alloc, worker, said, text)
     } else {
         hears(alloc, worker, said.as_mut_slice(), random.next_word() % 24)
     }

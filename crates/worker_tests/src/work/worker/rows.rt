@@ -5,9 +5,9 @@ use super::gives::Gives::*;
 use super::gives::Reply::*;
 use super::turn::Turn::*;
 use super::turn::say;
-use super::{Row, Worker, goes_on, is_first, play, then_drop};
+use super::{Row, Worker, goes_on, is_first, is_numbered, play, then_drop};
 use bm_lines::Letter::{E, O};
-use bm_work::WorkRefusal;
+use bm_work::{Sent, WorkRefusal};
 use std::process::Abort;
 
 /// The first update, of command 0, with standard output `a\n`.
@@ -144,10 +144,42 @@ fn exit_code_and_end_are_two_requests(rt: HostRuntime) {
     play(&rt, &ROWS);
 }
 
+/// What follows the number of an update of command 0 with standard output `x\n`.
+const UPDATE_REST: &[u8] = b"\xa2op\xa6update\xaacommand_id\xa10\xa4args\x91\x92\xa6stdout\xa2x\n";
+
+/// Whether the requests are such updates, numbered from 0 on, so many.
+fn are_updates(requests: &[Sent], count: u64) -> bool {
+    let mut seq = 0u64;
+    for request in requests {
+        if !is_numbered(request, seq, UPDATE_REST) {
+            return false;
+        }
+        seq = seq.saturating_add(1);
+    }
+    seq == count
+}
+
+/// Whether the worker would send so many updates again, and nothing else.
+fn keeps_updates(worker: &Worker, count: u64) -> bool {
+    match worker.resend() {
+        Ok(requests) => then_drop(are_updates(requests.as_slice(), count), requests),
+        Err(_) => false,
+    }
+}
+
+/// Says a text of command 0 behind so many, a second time where memory was refused, since that
+/// changed nothing.
+fn say_behind(worker: &mut Worker, said: u64) -> Result<Sent, WorkRefusal> {
+    match say(worker, 0, O, "x\n") {
+        Err(WorkRefusal::Mem) if keeps_updates(worker, said) => say(worker, 0, O, "x\n"),
+        sent => sent,
+    }
+}
+
 /// Whether a text of command 0 is said with this number.
 fn is_said(worker: &mut Worker, seq: u64) -> bool {
-    match say(worker, 0, O, "x\n") {
-        Ok(sent) => then_drop(sent.seq == seq, sent),
+    match say_behind(worker, seq) {
+        Ok(sent) => then_drop(is_numbered(&sent, seq, UPDATE_REST), sent),
         Err(_) => false,
     }
 }

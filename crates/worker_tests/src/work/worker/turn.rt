@@ -70,6 +70,60 @@ fn response(seq: u32) -> Message {
     })
 }
 
+/// What can be seen of a worker: its requests without an answer, and how many bytes they have.
+#[derive(Drop)]
+struct Look {
+    requests: Vec<Sent>,
+    bytes: usize,
+}
+
+pub fn is_same(request: &Sent, sent: &Sent) -> bool {
+    request.seq == sent.seq && request.bytes.as_slice() == sent.bytes.as_slice()
+}
+
+fn are_same(requests: &[Sent], sent: &[Sent]) -> bool {
+    for (request, sent) in requests.iter().zip(sent) {
+        if !is_same(request, sent) {
+            return false;
+        }
+    }
+    requests.len() == sent.len()
+}
+
+impl Look {
+    /// A look at the worker. None where memory was refused.
+    fn try_at(worker: &Worker) -> Option<Look> {
+        match worker.resend() {
+            Ok(requests) => Some(Look {
+                requests,
+                bytes: worker.unanswered_bytes(),
+            }),
+            Err(_) => None,
+        }
+    }
+
+    /// A look at the worker, a second one where memory was refused.
+    fn at(worker: &Worker) -> Option<Look> {
+        match Look::try_at(worker) {
+            Some(look) => Some(look),
+            None => Look::try_at(worker),
+        }
+    }
+
+    /// Whether another look shows the same.
+    fn is(&self, look: &Look) -> bool {
+        self.bytes == look.bytes && are_same(self.requests.as_slice(), look.requests.as_slice())
+    }
+}
+
+/// Whether a look at the worker shows the same as one before.
+fn is_as_before(worker: &Worker, before: &Option<Look>) -> bool {
+    match (before, Look::at(worker)) {
+        (Some(before), Some(look)) => before.is(&look),
+        _ => false,
+    }
+}
+
 fn hear_again(worker: &mut Worker, message: Message) -> Result<Given, WorkRefusal> {
     match worker.hear(message) {
         Ok((act, bytes)) => Ok(Given::Heard(act, bytes)),
@@ -82,13 +136,23 @@ fn hear_again(worker: &mut Worker, message: Message) -> Result<Given, WorkRefusa
 
 /// Hears the message, a second time where memory was refused, since that changed nothing and gave
 /// it back.
-fn hear(worker: &mut Worker, message: Option<Message>) -> Result<Given, WorkRefusal> {
+fn hear(
+    worker: &mut Worker,
+    message: Option<Message>,
+    before: &Option<Look>,
+) -> Result<Given, WorkRefusal> {
     let Some(message) = message else {
         return Err(WorkRefusal::Mem);
     };
     match worker.hear(message) {
         Ok((act, bytes)) => Ok(Given::Heard(act, bytes)),
-        Err((message, _)) => hear_again(worker, message),
+        Err((message, refusal)) => {
+            if is_as_before(worker, before) {
+                return hear_again(worker, message);
+            }
+            drop(message);
+            Err(refusal)
+        }
     }
 }
 
@@ -139,26 +203,14 @@ fn bad_args(worker: &mut Worker, seq: u32) -> Result<Given, WorkRefusal> {
     }
 }
 
-fn try_say(
-    worker: &mut Worker,
-    command: u64,
-    letter: Letter,
-    text: &'static str,
-) -> Result<Sent, WorkRefusal> {
-    worker.say(command, letter, short(text))
-}
-
-/// Says a text, a second time where memory was refused.
+/// Says a text.
 pub fn say(
     worker: &mut Worker,
     command: u64,
     letter: Letter,
     text: &'static str,
 ) -> Result<Sent, WorkRefusal> {
-    match try_say(worker, command, letter, text) {
-        Err(WorkRefusal::Mem) => try_say(worker, command, letter, text),
-        said => said,
-    }
+    worker.say(command, letter, short(text))
 }
 
 fn said(sent: Result<Sent, WorkRefusal>) -> Result<Given, WorkRefusal> {
@@ -180,11 +232,16 @@ fn lose(worker: &mut Worker) -> Given {
     Given::Nothing
 }
 
-fn try_turn(alloc: Global, worker: &mut Worker, turn: Turn) -> Result<Given, WorkRefusal> {
+fn try_turn(
+    alloc: Global,
+    worker: &mut Worker,
+    turn: Turn,
+    before: &Option<Look>,
+) -> Result<Given, WorkRefusal> {
     match turn {
-        Turn::Hear(bytes) => hear(worker, message(alloc, bytes)),
-        Turn::Start(seq, command, args) => hear(worker, order(alloc, seq, command, args)),
-        Turn::Answer(seq) => hear(worker, Some(response(seq))),
+        Turn::Hear(bytes) => hear(worker, message(alloc, bytes), before),
+        Turn::Start(seq, command, args) => hear(worker, order(alloc, seq, command, args), before),
+        Turn::Answer(seq) => hear(worker, Some(response(seq)), before),
         Turn::BadArgs(seq) => bad_args(worker, seq),
         Turn::Say(command, letter, text) => said(say(worker, command, letter, text)),
         Turn::End(command, code) => end(worker, command, Finish::Rc(code)),
@@ -194,10 +251,14 @@ fn try_turn(alloc: Global, worker: &mut Worker, turn: Turn) -> Result<Given, Wor
     }
 }
 
-/// What the turn gives. After want of memory the worker is as before, and the turn is tried again.
+/// What the turn gives. After want of memory the worker is as before, and the turn is tried again;
+/// where it isn't, memory is still wanting.
 pub fn taken(alloc: Global, worker: &mut Worker, turn: Turn) -> Result<Given, WorkRefusal> {
-    match try_turn(alloc, worker, turn) {
-        Err(WorkRefusal::Mem) => try_turn(alloc, worker, turn),
+    let before = Look::at(worker);
+    match try_turn(alloc, worker, turn, &before) {
+        Err(WorkRefusal::Mem) if is_as_before(worker, &before) => {
+            try_turn(alloc, worker, turn, &before)
+        }
         given => given,
     }
 }
