@@ -7,8 +7,7 @@ ghost use Rattle.bm_msg.specs.Trees.{stream_of};
 ghost use Rattle.bm_work.specs.Stream.{text as text_of, asked_by, request_bytes};
 
 use bm_lines::Letter;
-use bm_value::heads::{array_head, map_head, unsigned};
-use bm_value::put_str;
+use bm_value::{array_head, map_head, put_str, unsigned};
 use std::alloc::{AllocError, Global};
 
 /// The most bytes that stand before the text.
