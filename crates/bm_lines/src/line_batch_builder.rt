@@ -9,7 +9,6 @@ use crate::letter::Letter;
 use crate::line_batch::{LineBatch, LogLines};
 use crate::log_name::LogName;
 use crate::name_table::{FEW_NAMES, NameTable};
-use crate::text::Text;
 use std::alloc::{AllocError, Global};
 use std::marker::Model;
 
@@ -48,14 +47,15 @@ impl LineBatchBuilder {
     }
 
     /// Appends the lines of a text to the part with this name, or to a new part at the end.
-    pub fn add_text(&mut self, name: &LogName, letter: Letter, text: Text) -> Result<(), AllocError>
-        ensures ok { OnOk result (self.new ≡ with_item name.now (lines_of letter text) self.old) }
+    pub fn add_text(&mut self, name: &LogName, letter: Letter, text: &str) -> Result<(), AllocError>
+        ensures ok { OnOk result (self.new
+            ≡ with_item name.now (lines_of letter text.now) self.old) }
         ensures err { OnErr result (self.new ≡ self.old) }
     {
         if self.places.is_none() && self.batch.parts().len() < FEW_NAMES {
-            return self.batch.add(name, letter, text.as_str());
+            return self.batch.add(name, letter, text);
         }
-        self.add_by_table(name, letter, text.as_str())
+        self.add_by_table(name, letter, text)
     }
 
     /// Appends the lines of a text, where a walk over the names would take long.

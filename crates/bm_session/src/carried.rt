@@ -13,8 +13,8 @@ fn add_field(builder: &mut LineBatchBuilder, field: Field) -> Result<(), AllocEr
     ensures { IfOk result (λ u. builder.new ≡ with_field builder.old field) }
 {
     match field {
-        Field::Text(letter, text) => builder.add_text(&LogName::stdio(), letter, text),
-        Field::Named(name, text) => builder.add_text(&name, Letter::O, text),
+        Field::Text(letter, text) => builder.add_text(&LogName::stdio(), letter, text.as_str()),
+        Field::Named(name, text) => builder.add_text(&name, Letter::O, text.as_str()),
         Field::Rc(_) => Ok(()),
     }
 }

@@ -1,6 +1,6 @@
 //! A command of many logs, which has a table of their names.
 
-use bm_lines::{Letter, LineBatchBuilder, LogName, Text};
+use bm_lines::{Letter, LineBatchBuilder, LogName};
 use bm_session::Item;
 use bm_store::*;
 use std::alloc::Global;
@@ -14,18 +14,10 @@ fn name_of(alloc: Global, number: u32) -> Option<LogName> {
     LogName::new(alloc, digits.as_str()).ok()?
 }
 
-/// Whether the builder takes the text under the name.
-fn takes(alloc: Global, builder: &mut LineBatchBuilder, name: &LogName, text: &str) -> bool {
-    match Text::from_str(alloc, text) {
-        Ok(text) => builder.add_text(name, Letter::O, text).is_ok(),
-        Err(_) => false,
-    }
-}
-
 /// Whether the builder takes the text for the log.
 fn takes_for(alloc: Global, builder: &mut LineBatchBuilder, number: u32, text: &str) -> bool {
     match name_of(alloc, number) {
-        Some(name) => takes(alloc, builder, &name, text),
+        Some(name) => builder.add_text(&name, Letter::O, text).is_ok(),
         None => false,
     }
 }
