@@ -50,8 +50,8 @@ fn make_board(alloc: Global, slots: &[u8], lock_max: &[u32]) -> Result<Board, Al
     }
 }
 
-/// What is seen of a board: the results of its first four builds, which build of worker 0 waits
-/// first, and whether one waits and one runs.
+/// What is seen of a board: the results of its first four builds, and which build of worker 0 waits
+/// first. It also says whether one waits, and whether one runs.
 #[derive(Clone, Copy, PartialEq, Eq)]
 struct Seen {
     results: [Gives; 4],

@@ -54,8 +54,9 @@ fn run(
     }
 }
 
-/// What a run leaves: its outcomes and its result, the first letters of the steps that were to be
-/// started, how often each command was polled, the interrupts, and whether a start was refused.
+/// What a run leaves: its outcomes and its result, and what its port saw. The port saw the first
+/// letters of the steps to start, the polls of each command, the interrupts, and whether a start
+/// was refused.
 struct Left {
     outcomes: &'static [Results],
     result: Results,
@@ -108,96 +109,100 @@ fn leave(rt: &(impl AllocGlobal + Abort), rows: &[Row]) {
     }
 }
 
+/// A step that fails, one that is to be tried again, and a build without steps.
+static OUTCOMES: [Row; 3] = [
+    (
+        3,
+        [FAILURE, SUCCESS, RUNNING, RUNNING],
+        9,
+        Left {
+            outcomes: &[Results::Failure, Results::Skipped, Results::Success],
+            result: Results::Failure,
+            letters: b"ha",
+            polls: &[1, 1],
+            interrupts: 0,
+            refused: false,
+        },
+    ),
+    (
+        3,
+        [RETRY, RUNNING, RUNNING, RUNNING],
+        9,
+        Left {
+            outcomes: &[Results::Retry, Results::Skipped, Results::Skipped],
+            result: Results::Retry,
+            letters: b"h",
+            polls: &[1],
+            interrupts: 0,
+            refused: false,
+        },
+    ),
+    (
+        0,
+        [RUNNING; 4],
+        9,
+        Left {
+            outcomes: &[],
+            result: Results::Success,
+            letters: b"",
+            polls: &[],
+            interrupts: 0,
+            refused: false,
+        },
+    ),
+];
+
 #[test]
 fn outcomes_are_those_of_the_port(rt: HostRuntime) {
-    static ROWS: [Row; 3] = [
-        (
-            3,
-            [FAILURE, SUCCESS, RUNNING, RUNNING],
-            9,
-            Left {
-                outcomes: &[Results::Failure, Results::Skipped, Results::Success],
-                result: Results::Failure,
-                letters: b"ha",
-                polls: &[1, 1],
-                interrupts: 0,
-                refused: false,
-            },
-        ),
-        (
-            3,
-            [RETRY, RUNNING, RUNNING, RUNNING],
-            9,
-            Left {
-                outcomes: &[Results::Retry, Results::Skipped, Results::Skipped],
-                result: Results::Retry,
-                letters: b"h",
-                polls: &[1],
-                interrupts: 0,
-                refused: false,
-            },
-        ),
-        (
-            0,
-            [RUNNING; 4],
-            9,
-            Left {
-                outcomes: &[],
-                result: Results::Success,
-                letters: b"",
-                polls: &[],
-                interrupts: 0,
-                refused: false,
-            },
-        ),
-    ];
-    leave(&rt, &ROWS);
+    leave(&rt, &OUTCOMES);
 }
+
+/// A step that is cancelled, one that runs too long, and one whose port says that it was skipped.
+static ENDS_OF_A_STEP: [Row; 3] = [
+    (
+        1,
+        [CANCEL, CANCEL, CANCELLED, RUNNING],
+        9,
+        Left {
+            outcomes: &[Results::Cancelled],
+            result: Results::Cancelled,
+            letters: b"h",
+            polls: &[3],
+            interrupts: 1,
+            refused: false,
+        },
+    ),
+    (
+        1,
+        [RUNNING; 4],
+        3,
+        Left {
+            outcomes: &[Results::Exception],
+            result: Results::Exception,
+            letters: b"h",
+            polls: &[3],
+            interrupts: 1,
+            refused: false,
+        },
+    ),
+    (
+        1,
+        [SKIPPED, RUNNING, RUNNING, RUNNING],
+        9,
+        Left {
+            outcomes: &[Results::Exception],
+            result: Results::Exception,
+            letters: b"h",
+            polls: &[1],
+            interrupts: 0,
+            refused: false,
+        },
+    ),
+];
 
 #[test]
 fn one_step_ends_by_what_its_port_says(rt: HostRuntime) {
-    static ROWS: [Row; 3] = [
-        (
-            1,
-            [CANCEL, CANCEL, CANCELLED, RUNNING],
-            9,
-            Left {
-                outcomes: &[Results::Cancelled],
-                result: Results::Cancelled,
-                letters: b"h",
-                polls: &[3],
-                interrupts: 1,
-                refused: false,
-            },
-        ),
-        (
-            1,
-            [RUNNING; 4],
-            3,
-            Left {
-                outcomes: &[Results::Exception],
-                result: Results::Exception,
-                letters: b"h",
-                polls: &[3],
-                interrupts: 1,
-                refused: false,
-            },
-        ),
-        (
-            1,
-            [SKIPPED, RUNNING, RUNNING, RUNNING],
-            9,
-            Left {
-                outcomes: &[Results::Exception],
-                result: Results::Exception,
-                letters: b"h",
-                polls: &[1],
-                interrupts: 0,
-                refused: false,
-            },
-        ),
-    ];
-    leave(&rt, &ROWS);
+    leave(&rt, &ENDS_OF_A_STEP);
 }
 
 /// In the second row the worker is lost between two steps.
