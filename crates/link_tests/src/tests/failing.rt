@@ -1,5 +1,5 @@
-//! A stream that fails at one of its calls, at each in turn, or ends after one of its bytes; and a
-//! refused request for memory.
+//! A stream that fails at one of its calls, at each in turn, or ends after one of its bytes. A
+//! refused request for memory is tried here too.
 
 use super::calls::{Answer, CLOSED, Call, DROPPED, HEARD, PLAIN};
 use super::linked_lane::{LinkedLane, Outcome, Trial, is_down, tried};
@@ -185,8 +185,8 @@ pub(crate) fn ended_right(watch: Option<Watch>) -> Option<bool> {
     }
 }
 
-/// Whether the end is told as it should be wherever the stream fails, until it has no call more that
-/// could fail.
+/// Whether the end is told as it should be wherever the stream fails, until it has no call more
+/// that could fail.
 fn is_told_at_each_call<R: Wait + Abort>(rt: &R, alloc: Global, resumable: bool) -> bool {
     for calls in 0..400 {
         let ended = ended_right(watched(rt, alloc, resumable, End::Fails(calls)));
@@ -214,7 +214,7 @@ fn an_end_is_told_once(rt: HostRuntime) {
 }
 
 /// Whether the script is played to its end. Where a request for memory is refused, what came before
-/// it is right, nothing but a Down comes after it, and the script is played once more.
+/// it is right, and nothing but a Down comes after it. Then the script is played once more.
 fn is_played_or_ended<R: Wait + Abort>(rt: &R, alloc: Global) -> bool {
     let watch = watched(rt, alloc, false, End::Refused);
     let (is_right, is_played) = match watch {

@@ -1,9 +1,9 @@
 //! Bytes at a live link that no honest worker sends: messages with a byte changed, cut short, or
 //! that claim more than they have.
 //!
-//! Whether bytes are an event is what the readings of `bm_value` and `bm_session` say; all that
-//! comes of it is told here: an event is taken and answered as the protocol has it, and any other
-//! message is a bad one, after which the lane is down and its log is as it was.
+//! The readings of `bm_value` and `bm_session` say whether bytes are an event. What comes of it is
+//! told here: an event is taken, and answered as the protocol has it. Any other message is a bad
+//! one. After it the lane is down, and its log is as it was.
 
 use super::calls::{Answer, BAD, Call, HEARD, NOTED};
 use super::lengths::binary;

@@ -96,7 +96,7 @@ impl Links {
     }
 
     /// A link over a stream that gives the head in pieces of so many bytes, and then these
-    /// messages, takes the place of the one before.
+    /// messages. It takes the place of the one before.
     pub fn accept_from(&mut self, messages: &[&[u8]], piece: usize) -> Answer {
         match script_of(self.alloc, HEAD, messages) {
             Ok(mut stream) => {
@@ -117,7 +117,7 @@ impl Links {
     }
 
     /// A link over a stream that gives the first bytes of the head and these messages, and would
-    /// then block, takes the place of the one before.
+    /// then block. It takes the place of the one before.
     fn accept_waiting(&mut self, first: usize, messages: &[&[u8]]) -> Answer {
         match script_of(self.alloc, HEAD, messages) {
             Ok(mut stream) => {

@@ -1,5 +1,5 @@
-//! Random messages at a live link, with fixed seeds: random bytes, worked messages with some of
-//! their bytes replaced, left out or added, and messages of random keys and values.
+//! Random messages at a live link, with fixed seeds. They are random bytes, worked messages with
+//! some bytes replaced, left out or added, and messages of random keys and values.
 ghost use Rattle.std.specs.Prelude.{◌≤◌, ◌<◌};
 
 use super::hostile::{Tally, WORKED, come, payload};

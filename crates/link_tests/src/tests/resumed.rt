@@ -1,11 +1,11 @@
 //! A session whose links come to an end, each at one of its stream's calls or after one of its
-//! bytes, until one doesn't: nothing is lost, and nothing is doubled.
+//! bytes. This goes on until a link doesn't end. Nothing is lost, and nothing is doubled.
 //!
 //! How the next link takes the lane up follows from how far the one before came:
 //!
 //! - The lane didn't go up by it: it had no event, and the session is new.
-//! - The lane went up, and the answer `new` wasn't heard: the worker's core is new all the same,
-//!   and has nothing to say again, so it goes on where it is told `resumed`.
+//! - The lane went up, and the answer `new` wasn't heard: the worker's core is new all the same. It
+//!   has nothing to say again, so it goes on where it is told `resumed`.
 //! - An order was taken, and sent or not: it is sent by the next link, and answered once.
 //! - A response was taken: its order is not sent again.
 //! - An update was taken, and its answer sent or not: a worker without the answer says it again,
@@ -83,8 +83,8 @@ impl Standing {
         }
     }
 
-    /// What the worker says over a link: it names the session, answers each order that it is given,
-    /// and says each request without an answer, again or for the first time.
+    /// What the worker says over a link. It names the session and answers each order that it is
+    /// given. It says each request without an answer, again or for the first time.
     fn said(self, alloc: Global) -> Result<Vec<u8>, AllocError> {
         let mut said = AUTH_S.to_vec(alloc)?;
         push_all(&mut said, pieces_from(&RESPONSES, self.responded))?;
@@ -98,7 +98,7 @@ impl Standing {
     }
 
     /// All that the link writes behind the handshake: the answer to the login, each order without a
-    /// response, of which those that the lane took before come first, and each answer.
+    /// response, and each answer. Of the orders, those that the lane took before come first.
     fn told(self, alloc: Global) -> Result<Vec<u8>, AllocError> {
         let mut told = self.login().to_vec(alloc)?;
         push_all(&mut told, pieces_from(&ORDERS, self.responded))?;
@@ -238,8 +238,8 @@ impl Links {
         Some(watch)
     }
 
-    /// What is seen of a link that comes to the end, and of the whole one that follows, behind a
-    /// link that comes to the first end where there is one.
+    /// What is seen of a link that comes to the end, and of the whole one that follows. Where there
+    /// is a first end, a link that comes to it goes before.
     fn keep<Y: Yard, R: Wait>(
         &mut self,
         rt: &R,
@@ -295,8 +295,8 @@ fn is_sent(written: &[u8], command: u64) -> bool {
     }
 }
 
-/// How command 0 ends that is given up, where so many commands were started and it ended so before:
-/// it is tried again, unless it had ended.
+/// How command 0 ends that is given up, where so many commands were started and it ended so before.
+/// It is tried again, unless it had ended.
 fn given_up(ended: Option<Results>, commands: u64) -> Option<Results> {
     match (ended, commands) {
         (Some(ended), _) => Some(ended),
@@ -306,8 +306,8 @@ fn given_up(ended: Option<Results>, commands: u64) -> Option<Results> {
 }
 
 impl<Y: Yard, W: Wait + Drop> LinkedLane<Y, W> {
-    /// The log of the command is whole, each line once; it ended as it was told to, once; and the
-    /// session is there to be resumed.
+    /// The log of the command is whole, each line once. The command ended as it was told to, once,
+    /// and the session is there to be resumed.
     fn is_through(&mut self) -> bool {
         let reader = &self.ends.reader;
         !has_down(reader.trace())
@@ -318,7 +318,7 @@ impl<Y: Yard, W: Wait + Drop> LinkedLane<Y, W> {
     }
 
     /// What is seen of a link that comes to this end, and of one over which the worker names
-    /// another session: the first is given up, if it had begun, and none of its orders is sent.
+    /// another session. The first is given up, if it had begun, and none of its orders is sent.
     fn is_followed<R: Wait>(&mut self, rt: &R, alloc: Global, end: End) -> Option<Watch> {
         let reader = &mut self.ends.reader;
         let first = self

@@ -46,8 +46,8 @@ fn an_order_is_sent_again_to_a_resumed_session(rt: HostRuntime) {
     assert!(rt; plays(&rt, rt.alloc(), 8, true, &ROWS));
 }
 
-/// A login of another session on a cut lane: it is told `busy` until the lane has room, and then
-/// the first one is given up.
+/// A login of another session on a cut lane is told `busy` until the lane has room. Then the first
+/// session is given up.
 #[test]
 fn another_session_waits_until_the_first_is_given_up(rt: HostRuntime) {
     static ROWS: [Row; 22] = [
@@ -165,9 +165,9 @@ fn a_cut_session_takes_no_order(rt: HostRuntime) {
     assert!(rt; plays(&rt, rt.alloc(), 8, true, &ROWS));
 }
 
-/// How often the stream of a link is called until a login that names a session is answered: the
-/// head is read, its answer written and flushed, each byte of the login read, and its answer
-/// written and flushed.
+/// How often the stream of a link is called until a login that names a session is answered. The
+/// head is read, and its answer written and flushed. Then each byte of the login is read, and its
+/// answer written and flushed.
 const CALLS_OF_A_LOGIN: u32 = 65;
 
 /// A request that couldn't be sent has used its number up, also for the link that resumes.

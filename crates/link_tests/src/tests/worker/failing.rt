@@ -1,5 +1,5 @@
 //! A worker's stream that fails at one of its calls, at each in turn, or ends after one of its
-//! bytes; and a second link of its core, which a resumed session has.
+//! bytes. A resumed session has a second link of the same core.
 
 use super::super::both::end_of_head;
 use super::super::calls::{Answer, CLOSED, HEARD, NOTED};
@@ -33,8 +33,8 @@ enum Act {
     Strays,
 }
 
-/// What it does over a link, the answer, how many bytes it reads for that, and whether the next
-/// call may tell of a stream that fails: where it has heard an order, or a close.
+/// What it does over a link, the answer, and how many bytes it reads for that. The last says
+/// whether the next call may tell of a stream that fails: where it has heard an order, or a close.
 static ACTS: [(Act, Answer, usize, bool); 9] = [
     (Act::Turn, Answer::Started(0), ORDER.len(), true),
     (Act::SaysFirst, Answer::Done, 0, false),
