@@ -112,8 +112,8 @@ where
         text.len() <= 65_536 && self.core.say(command, letter, text).is_ok()
     }
 
-    /// Logs in again, with the same core, and says again what has no answer. Whether it is answered that the
-    /// session goes on.
+    /// Logs in again, with the same core, and says again what has no answer. Whether it is answered
+    /// that the session goes on.
     pub fn returns(&mut self, name: &str, password: &str, session: &str) -> bool {
         self.logs_in_again(name, password, session) == Some(Attached::Resumed) && self.resends()
     }

@@ -65,8 +65,8 @@ fn a_program_that_is_not_there_costs_the_build(rt: HostRuntime) -> Result<(), Fa
     Ok(())
 }
 
-/// The three steps come to a failure, the logs to what the worker said, and the worker is told to
-/// shut down once it is idle.
+/// The three steps come to a failure, and the logs to what the worker said. Once the worker is
+/// idle, it is told to shut down.
 static STEPPED: [Act; 14] = [
     Act::Runs(0, "echo a; echo b >&2; exit 3"),
     Act::Says(0, Letter::H, "sh -c echo a; echo b >&2; exit 3\n"),

@@ -99,8 +99,8 @@ where
         + Send
         + Sync,
 {
-    /// Whether all comes so, these are the reports once the input has ended, and the master ends with
-    /// this status.
+    /// Whether all comes so, these are the reports once the input has ended, and the master ends
+    /// with this status.
     pub fn goes_through(self, acts: &[Act], last: &[&str], status: u8) -> bool {
         let mut scene = self;
         let is_right = scene.plays(acts);

@@ -36,8 +36,8 @@ fn is_agreed(stream: &TcpStream) -> bool {
         }
 }
 
-/// Whether a second login of `w0` is answered by `already up`, and the connection then ended, while
-/// the worker that is logged in answers what it is asked.
+/// Whether a second login of `w0` is answered by `already up`, and its connection then ended.
+/// Meanwhile the worker that is logged in is to answer what it is asked.
 pub fn is_declined<R>(rt: R, address: SocketAddr, first: &mut Hand<R>) -> bool
 where
     R: RandomSource + AllocGlobal + Net<Stream = TcpStream> + Copy + Drop,

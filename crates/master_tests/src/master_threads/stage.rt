@@ -103,8 +103,8 @@ where
         self.ends.input.send(&self.rt, b'\n').is_ok()
     }
 
-    /// Ends the input, if all was right before. Whether these lines come then, and nothing more, and
-    /// the master ends with this status.
+    /// Ends the input, if all was right before. Whether these lines come then, and nothing more,
+    /// and the master ends with this status.
     pub fn ends(self, was_right: bool, lines: &[&str], status: u8) -> bool {
         if !was_right {
             return false;
@@ -127,8 +127,8 @@ where
         are_right && ended == status && output.try_recv(&rt).is_err()
     }
 
-    // Ends the input, if all was right before. Whether the master ends with this status, whatever it
-    // writes.
+    // Ends the input, if all was right before. Whether the master ends with this status, whatever
+    // it writes.
     fn finishes(self, was_right: bool, status: u8) -> bool {
         if !was_right {
             return false;
@@ -229,8 +229,8 @@ where
         is_right
     }
 
-    /// Ends the input, if all was right before. Whether the master ends with this status, whatever it
-    /// writes.
+    /// Ends the input, if all was right before. Whether the master ends with this status, whatever
+    /// it writes.
     pub fn finishes(self, was_right: bool, status: u8) -> bool {
         let Scene { stage, hand } = self;
         let is_right = stage.finishes(was_right, status);
