@@ -32,8 +32,8 @@ fn stopped(replayed: &Replayed, answers: &str) -> bool {
         && answers.starts_with(replayed.output.as_slice())
 }
 
-/// Whether the replay answers all. Where one of its requests for memory is refused it is to end
-/// with status 1 after its first answers, and to answer all when it is made again.
+/// Whether the replay answers all. Where one of its requests for memory is refused, it is to end
+/// with status 1 after its first answers. Made again, it is to answer all.
 fn is_replayed(rt: &HostRuntime, capacity: u32, texts: &Texts) -> bool
     requires some { 1 ≤ capacity }
     requires few { capacity ≤ 65536 }

@@ -19,8 +19,8 @@ impl Read for PieceReader<'_> {
     }
 }
 
-/// Whether a script of which at the most so many bytes come with one read prints these answers, and
-/// ends at a line that isn't understood.
+/// Whether a script prints these answers, and ends at a line that isn't understood. Each read gives
+/// at the most so many bytes of it.
 fn is_stopped(alloc: Global, most: usize, script: &str, answers: &str, told: &str) -> bool {
     let input = PieceReader {
         bytes: script.as_bytes(),

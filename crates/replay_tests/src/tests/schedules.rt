@@ -1,5 +1,5 @@
-//! What is said is what is logged: random schedules drive a worker and a lane by the bytes that
-//! they send, through losses, repeats, cuts, resendings and full queues, and compare each log with
+//! What is said is what is logged. Random schedules drive a worker and a lane by the bytes that
+//! they send, through losses, repeats, cuts, resendings and full queues. Each log is compared with
 //! what was said.
 
 ghost use Rattle.std.specs.Prelude.{◌≤◌};

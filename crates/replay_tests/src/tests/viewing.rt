@@ -176,49 +176,53 @@ fn busy_lane_takes_after_drain(rt: HostRuntime) {
     assert_answers(&rt, 4, &FULL, &FULL_ANSWERS);
 }
 
+/// A log that is drained before and after its session is resumed.
+static DRAINED: [&str; 15] = [
+    "up",
+    "go",
+    UPDATE_ZERO,
+    UPDATE_ONE,
+    "cut",
+    "up",
+    UPDATE_ONE,
+    "drain",
+    UPDATE_TWO,
+    "log 0",
+    "drain",
+    "drain",
+    "drain",
+    "drain",
+    "look 0 0 9",
+];
+
+/// What it answers.
+static DRAINED_ANSWERS: [&str; 21] = [
+    "ok",
+    "start 0 0",
+    "answer 0 nil",
+    "answer 1 nil",
+    "ok",
+    "ok",
+    "answer 1 nil",
+    "took",
+    "answer 2 nil",
+    "log 0 3 open",
+    "oa",
+    "ob",
+    "oc",
+    "took",
+    "took",
+    "took",
+    "empty",
+    "chunk 0 3",
+    "oa",
+    "ob",
+    "oc",
+];
+
 #[test]
 fn resumed_log_is_drained_whole(rt: HostRuntime) {
-    static SCRIPT: [&str; 15] = [
-        "up",
-        "go",
-        UPDATE_ZERO,
-        UPDATE_ONE,
-        "cut",
-        "up",
-        UPDATE_ONE,
-        "drain",
-        UPDATE_TWO,
-        "log 0",
-        "drain",
-        "drain",
-        "drain",
-        "drain",
-        "look 0 0 9",
-    ];
-    static ANSWERS: [&str; 21] = [
-        "ok",
-        "start 0 0",
-        "answer 0 nil",
-        "answer 1 nil",
-        "ok",
-        "ok",
-        "answer 1 nil",
-        "took",
-        "answer 2 nil",
-        "log 0 3 open",
-        "oa",
-        "ob",
-        "oc",
-        "took",
-        "took",
-        "took",
-        "empty",
-        "chunk 0 3",
-        "oa",
-        "ob",
-        "oc",
-    ];
-    assert_answers(&rt, 8, &SCRIPT, &ANSWERS);
+    assert_answers(&rt, 8, &DRAINED, &DRAINED_ANSWERS);
 }
 
 /// A log with a name.

@@ -49,9 +49,9 @@ impl Schedule {
         }
     }
 
-    /// Once all has arrived and is drained, each log of the last session, and of the earlier ones
-    /// of which every request was taken, is all that was said; viewers see it whole, and each
-    /// command of the last session ended as the worker told.
+    /// Once all has arrived and is drained, each log of the last session is all that was said. So
+    /// is each log of an earlier session of which every request was taken. Viewers see it whole,
+    /// and each command of the last session ended as the worker told.
     pub fn compare_whole(&mut self) -> Result<(), Wrong> {
         self.compare()?;
         let is_up = self.connection == Connection::Up;

@@ -7,8 +7,8 @@ use bm_session::Session;
 use bm_store::Chunk;
 
 impl Ledger {
-    /// The log is what was said for the command as far as it was taken, there is none of another
-    /// name, and the command ended as the master heard.
+    /// The log is what was said for the command as far as it was taken, and there is none of
+    /// another name. The command ended as the master heard.
     pub fn compare(&self, session: &Session, place: usize) -> Result<(), Wrong> {
         let Some(command) = self.commands.get(place) else {
             return Ok(());
