@@ -1,5 +1,5 @@
-//! Tests of a lane, from its session to its ends, each library in a module of its own: what no clause
-//! says.
+//! Tests of a lane, from its session to its ends, each library in a module of its own: what no
+//! clause says.
 #![tactic(auto)]
 
 #[cfg(test)]

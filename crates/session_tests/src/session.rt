@@ -50,8 +50,8 @@ fn planned_again(session: &mut Session, event: Event) -> Result<Plan, Refusal>
     }
 }
 
-/// What a session tells at no cost: its events, its state, the numbers of its next order and
-/// command, the last range of numbers that it had, and how command 0 ended.
+/// What a session tells at no cost: its events, its state, and the numbers of its next order and
+/// command. It also tells the last range of numbers that it had, and how command 0 ended.
 #[derive(Clone, Copy, PartialEq)]
 struct Snapshot {
     events: usize,
@@ -310,7 +310,8 @@ fn is_copied_item(item: &Item, lines: &str) -> bool {
     }
 }
 
-/// Whether a run made a silent reply and an item with these lines of command 0, as has a copy of it.
+/// Whether a run made a silent reply and an item with these lines of command 0, as has a copy of
+/// it.
 fn is_ran(ran: &Ran, lines: &str) -> bool {
     match ran {
         Ran::Done(Reply::Silent, Some(item)) => is_copied_item(item, lines),

@@ -278,8 +278,8 @@ fn drain_and_visit<Y: Yard + Send + Sync, W: Wait + Drop + Send + Sync, R: Threa
     is_right && has_all(report)
 }
 
-// Whether a lane was heard, drained by a pool and looked at, each at once, where nothing was lost,
-// and each item but the first found the queue full.
+// Whether a lane was heard, drained by a pool and looked at, all at once, where nothing was lost.
+// Each item but the first is to find the queue full.
 fn is_done<Y: Yard + Send + Sync, W: Wait + Drop + Send + Sync, R: Threads + Wait + Sync>(
     rt: &R,
     alloc: Global,

@@ -3,8 +3,8 @@
 use bm_lane::*;
 use bm_store::{Chunk, LogState, ViewRefusal};
 
-/// What a reader's end tells of its lane: how many events were taken, whether it is up, whether it
-/// is cut, and the numbers of the next order and the next command.
+/// What a reader's end tells of its lane: how many events were taken, whether it is up, and whether
+/// it is cut. The last two are the numbers of the next order and the next command.
 pub type Snapshot = (usize, bool, bool, u64, u64);
 
 pub fn snapshot_of<Y: Yard>(reader: &ReaderEnd<Y>) -> Snapshot {

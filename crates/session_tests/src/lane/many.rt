@@ -115,8 +115,8 @@ fn hear_once<Y: Yard, R: Wait>(
     }
 }
 
-/// Hears the event, again after Busy and after nothing else. It takes each call from the rounds that
-/// are left.
+/// Hears the event, again after Busy and after nothing else. It takes each call from the rounds
+/// that are left.
 pub fn hear_at_last<Y: Yard, R: Wait>(
     rt: &R,
     reader: &mut ReaderEnd<Y>,

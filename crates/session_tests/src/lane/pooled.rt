@@ -11,8 +11,8 @@ use std::test::Fail;
 use std::thread;
 use std::thread::Threads;
 
-/// What a gate was asked and told: how many passes, how many drains there were, how many of them
-/// took an item, and how many met want of memory.
+/// What a gate was asked and told: how many passes, and how many drains there were. Of the drains,
+/// it counts those that took an item, and those that met want of memory.
 #[derive(Clone, Copy)]
 struct Told {
     asked: u64,
@@ -261,8 +261,9 @@ fn pool_drains_the_lanes_that_its_gate_lets_it(rt: HostRuntime) {
     }
 }
 
-/// The report of a pool that ran to its end, and what its gate was told before: by the workers of a
-/// call that was refused a thread. What those drained stays drained, and no report counts it.
+/// The report of a pool that ran to its end, and what its gate was told before. That came from the
+/// workers of a call that was refused a thread. What those drained stays drained, and no report
+/// counts it.
 #[derive(Clone, Copy)]
 struct Ran {
     report: PoolReport,
