@@ -87,7 +87,7 @@ fn hears_all<Y: Yard, R: Wait>(
         && hears(rt, reader, complete(2, 0))
 }
 
-/// The ends of a lane that showed two commands: the first has ended with the line `a`, the second
+/// The ends of a lane that showed two commands. The first has ended with the line `a`. The second
 /// is open, with a text in its log of this name.
 pub fn shown<Y: Yard, W: Wait + Drop, R: Wait>(
     rt: &R,
