@@ -180,7 +180,7 @@ fn ends_at_once(alloc: Global, worker: &mut Worker, outbox: &mut Outbox) -> bool
         && outbox.is_empty()
 }
 
-/// Whether a text of a command that has ended is passed over; and its end is sent again where the
+/// Whether a text of a command that has ended is passed over. Its end is to be sent again where the
 /// session goes on, and nothing where another one begins.
 fn has_ended(alloc: Global, worker: &mut Worker, outbox: &mut Outbox) -> bool {
     pushes(alloc, outbox)

@@ -1,8 +1,8 @@
 //! What waits and is told where a request for memory is refused.
 //!
-//! These are made for `tests/refused_memory`, which refuses each request in turn: nothing is lost
-//! then and nothing told twice, and where an end can't be told its fault is. In the gate no request
-//! is refused, and no call is made twice.
+//! These are made for `tests/refused_memory`, which refuses each request in turn. Nothing is lost
+//! then, and nothing told twice. Where an end can't be told, its fault is told. In the gate no
+//! request is refused, and no call is made twice.
 
 use super::pipe_texts::{says, says_last};
 use super::{INTERRUPTED, begins, exit_code, opens, pushes, tells, worker_of};

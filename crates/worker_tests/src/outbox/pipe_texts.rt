@@ -82,8 +82,8 @@ fn leaves(texts: &mut PipeTexts, shown: char, count: usize) -> bool {
     }
 }
 
-/// A byte that a pipe gives so many times, the character that is shown of it, and how often each
-/// text has that, and then the last text.
+/// A byte that a pipe gives so many times, and the character that is shown of it. The last two are
+/// how often each text has that character, and how often the last text has it.
 type Row = (u8, usize, char, &'static [usize], usize);
 
 static ROWS: [Row; 4] = [

@@ -86,8 +86,8 @@ impl Cuts {
         }
     }
 
-    /// Whether a worker may end with this status: one that is cut after it was told to leave finds no
-    /// master any more, and gives up.
+    /// Whether a worker may end with this status. One that is cut after it was told to leave finds
+    /// no master any more, and gives up.
     fn may_end(self, status: u8) -> bool {
         status == 0 || status == 1 && self.early != UNCUT
     }

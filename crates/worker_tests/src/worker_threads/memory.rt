@@ -1,8 +1,8 @@
 //! What the worker asks for where a request for memory is refused.
 //!
-//! These are made for `tests/refused_memory`, which refuses each request in turn: memory is wanting
-//! then, and nothing else is told; and the same call again does as ever. In the gate no request is
-//! refused, and no call is made twice.
+//! These are made for `tests/refused_memory`, which refuses each request in turn. The call then
+//! tells that memory is wanting, and nothing else. The same call, made again, answers as usual. In
+//! the gate no request is refused, and no call is made twice.
 
 use bm_lines::Letter;
 use bm_worker_threads::{PipeEvent, PipeReader, ProcessEvent, WorkerMail, new_session, words};
@@ -70,8 +70,8 @@ enum Outcome {
     Wrongly,
 }
 
-/// How a pipe was told to its end by this event, after so many of its texts. None where the event is
-/// the next of them.
+/// How a pipe was told to its end by this event, after so many of its texts. None where the event
+/// is the next of them.
 fn outcome_by(told_of: &ProcessEvent, told: usize) -> Option<Outcome> {
     match &told_of.event {
         PipeEvent::Text(said) if TEXTS.get(told) == Some(&said.text.as_str()) => None,
