@@ -1,15 +1,15 @@
 -- Lemmas on the builds that wait for each worker, as one build of a board changes.
-use Rattle.std.proofs.Common.{◌≡◌, ℕ, zero, suc, ◌+◌, ◌<◌, ◌≤◌, ◌^◌, ◌==◌, Bool, true, false, cond, ◌&&◌, ◌||◌, nat_lt, List, [], ◌∷◌, ◌++◌, length, get_or, set, slice_index, count_by, replicate, All, IsTrue, refl, sym, ap, ◌∙◌, arith}
+use Rattle.std.proofs.Common.{◌≡◌, ℕ, zero, suc, ◌+◌, ◌<◌, ◌≤◌, ◌^◌, ◌==◌, Bool, true, false, cond, ◌&&◌, ◌||◌, nat_lt, List, [], ◌∷◌, ◌++◌, length, get_or, set, slice_index, count_by, replicate, All, refl, sym, ap, ◌∙◌, arith}
 use Rattle.std.specs.List.{list_any}
-use Rattle.std.proofs.lemmas.Bool.{and_parts, or_from, ltb-true, lt-ltb, eq-eqb, cond-true, false_from_ne_true, eqb-true}
-use Rattle.std.proofs.lemmas.List.{length-set, length-replicate, get_or-replicate}
+use Rattle.std.proofs.lemmas.Bool.{and_parts, or_from, ltb-true, lt-ltb, eq-eqb, false_from_ne_true, eqb-true}
+use Rattle.std.proofs.lemmas.List.{length-set, length-replicate}
 use Rattle.std.proofs.lemmas.List.Sums.{count_by-le-length, sum_by-cons, sum_by-append}
 use Rattle.bm_board.specs.declared.plan.Build.{Build}
 use Rattle.bm_board.specs.declared.worker_slots.WorkerSlots.{WorkerSlots}
 use Rattle.bm_board.specs.Locks.{are_good}
 use Rattle.bm_board.specs.ScheduledBuild.{BuildState, is_waiting, is_holding, waiting, waits_for}
-use Rattle.bm_board.specs.Board.{BoardState, most_builds, occupied, occupies, has_build}
-use Rattle.bm_board.specs.Kept.{AreWaiting, HeldCounts, IsOneMore, IsKept, is_known}
+use Rattle.bm_board.specs.Board.{BoardState, most_builds, occupies, has_build}
+use Rattle.bm_board.specs.Kept.{AreWaiting, HeldCounts, IsOneMore, IsKept}
 use Rattle.bm_board.proofs.Places.{with_job}
 use Rattle.bm_board.proofs.Keeping.{count_stays, count_falls, known_at}
 

@@ -1,5 +1,5 @@
 -- Each build on the board of a queue stays one step, and ends with what its runner reports.
-use Rattle.std.proofs.Common.{◌≡◌, ◌⊎◌, ℕ, zero, suc, ◌+◌, ◌<◌, Bool, true, false, cond, ◌&&◌, ◌==◌, nat_lt, List, [], ◌∷◌, ◌++◌, length, take, replicate, slice_set, All, Option, Some, None, Result, Ok, Err, IsOk, refl, sym, ap, subst, ◌∙◌, arith, inl, inr}
+use Rattle.std.proofs.Common.{◌≡◌, ◌⊎◌, ℕ, zero, suc, ◌+◌, ◌<◌, Bool, true, false, cond, ◌==◌, nat_lt, List, [], ◌∷◌, length, take, replicate, slice_set, Option, Some, None, Ok, Err, IsOk, refl, sym, ap, subst, ◌∙◌, arith, inl, inr}
 use Rattle.std.specs.List.{slice_get}
 use Rattle.std.specs.Option.{option_map, option_map_or, is_some}
 use Rattle.std.specs.Result.{is_ok}
@@ -14,8 +14,7 @@ use Rattle.bm_board.specs.declared.scheduled_build.Phase.{Phase}
 use Rattle.bm_board.specs.declared.scheduled_build.Phase.TheVariants.{Waiting, Running, Over}
 use Rattle.bm_board.specs.declared.refusal.BoardRefusal.{BoardRefusal}
 use Rattle.bm_board.specs.declared.refusal.BoardRefusal.TheVariants.{NoBuild, Mem}
-use Rattle.bm_board.specs.declared.steps.Next.{Next}
-use Rattle.bm_board.specs.declared.steps.Next.TheVariants.{Step, Ended}
+use Rattle.bm_board.specs.declared.steps.Next.TheVariants.{Ended}
 use Rattle.bm_board.specs.Steps.{next_of, worse}
 use Rattle.bm_board.specs.ScheduledBuild.{BuildState, Outcome, cancel, cancel_in, done, finish, finish_in, give_up, give_up_in, in_phase, is_sound, is_waiting, job_after, phase_of, release, release_in, started, waiting}
 use Rattle.bm_board.specs.Board.{BoardState, board_after, has_place, on_build, start, with_build}

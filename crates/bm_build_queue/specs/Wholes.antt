@@ -1,5 +1,5 @@
 -- Each build on the board of a queue is one step.
-use Rattle.std.specs.Prelude.{◌≡◌, Bool, true, All, List, [], ◌∷◌, length}
+use Rattle.std.specs.Prelude.{◌≡◌, true, All, [], ◌∷◌, length}
 use Rattle.bm_board.specs.ScheduledBuild.{BuildState, is_sound}
 use Rattle.bm_board.specs.Board.{BoardState}
 use Rattle.bm_build_queue.specs.BuildQueue.{whole}

@@ -5,7 +5,6 @@ use Rattle.bm_session.proofs.Pushed.{is_cut-push}
 use Rattle.bm_session.proofs.Taken.{and-left, and-right, was_taken-push}
 use Rattle.bm_session.specs.declared.event.Event.{Event}
 use Rattle.bm_session.specs.declared.event.Event.TheVariants.{Up, In, Go, Stop, Cut, Down}
-use Rattle.bm_session.specs.declared.event.Body.TheVariants.{Auth, Update, Complete, BadArgs, NoSuchOp, Answered}
 use Rattle.bm_session.specs.declared.refusal.Refusal.TheVariants.{AlreadyUp}
 use Rattle.bm_session.specs.declared.reply.Reply.{Reply}
 use Rattle.bm_session.specs.declared.reply.Reply.TheVariants.{Silent, Answer}
@@ -23,7 +22,7 @@ use Rattle.bm_link.specs.declared.parts.Turn.{Turn}
 use Rattle.bm_link.specs.declared.parts.Turn.TheVariants as turn
 use Rattle.bm_link.specs.Asking.{AsksFor}
 use Rattle.bm_link.specs.Attaching.{TakesUpFor, AttachesAs, Declined, cleared, taken_up, resumes}
-use Rattle.bm_link.specs.Carries.{Carried, begun, carried_after, carried_with, has_asked, is_same, new_carried, with_order}
+use Rattle.bm_link.specs.Carries.{Carried, begun, carried_after, carried_with, has_asked, is_same, new_carried}
 use Rattle.bm_link.specs.Endings.{Ends, Falls}
 use Rattle.bm_link.specs.Laws.{CarriesPending}
 use Rattle.bm_link.specs.Link.{LinkState, Turned, TurnedUp, TurnedFalling, TookAtMost}

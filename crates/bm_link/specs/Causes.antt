@@ -6,7 +6,6 @@ use Rattle.tungstenite.specs.Socket.{Flushed, Socket, Reads, Writes, content_of}
 use Rattle.tungstenite.specs.declared.error.Error.{Error}
 use Rattle.tungstenite.specs.declared.message.Message.{Message}
 use Rattle.tungstenite.specs.declared.message.Message.TheVariants as message
-use Rattle.bm_session.specs.declared.event.Event.{Event}
 use Rattle.bm_link.specs.declared.fault.LinkFault.{LinkFault}
 use Rattle.bm_link.specs.declared.fault.LinkFault.TheVariants.{Closed, Stream, BadMessage, Arena, Mem}
 use Rattle.bm_link.specs.Faults.{fault_of, is_quiet}

@@ -10,7 +10,7 @@ use Rattle.hyper.specs.Message.{Whole}
 use Rattle.hyper.specs.Served.{Words, IsBodiless, IsGiven, frames_of as pieces_as_frames}
 use Rattle.bm_http.specs.declared.long_answer.PieceError.{PieceError}
 use Rattle.bm_web_server.specs.Tells.{Tells}
-use Rattle.bm_web_server.specs.Laws.{PiecesAreTheText, frames_of}
+use Rattle.bm_web_server.specs.Laws.{PiecesAreTheText}
 
 ended : (E : Type 0) (text : List ℕ) (pieces : List (List ℕ)) → Tells {E = E} text (pieces_as_frames pieces) None → concat pieces ≡ text
 ended E text [] h = sym h

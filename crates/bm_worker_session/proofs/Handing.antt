@@ -1,5 +1,5 @@
 -- Requests that are handed to a link, one after the other.
-use Rattle.std.proofs.Common.{◌≡◌, ◌∙◌, refl, sym, ap, subst, inl, inr, ℕ, ◌+◌, ◌<◌, Bool, true, false, true≢false, List, [], ◌∷◌, ◌++◌, length, take, drop, take-append-drop, get_or, Option, Result, Ok, Err}
+use Rattle.std.proofs.Common.{◌≡◌, ◌∙◌, refl, sym, ap, subst, inl, inr, ℕ, ◌+◌, ◌<◌, true, false, true≢false, List, [], ◌∷◌, ◌++◌, length, take, drop, take-append-drop, get_or, Option, Ok, Err}
 use Rattle.std.proofs.lemmas.List.{take_more}
 use Rattle.bm_work.specs.declared.sent.Sent.{Sent}
 use Rattle.bm_link.specs.Working.{SendsAt, WorkState}

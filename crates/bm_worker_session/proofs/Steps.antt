@@ -11,7 +11,6 @@ use Rattle.bm_outbox.specs.declared.progress.Progress.TheVariants as progress
 use Rattle.bm_link.specs.Working.{WorkState}
 use Rattle.bm_worker_session.specs.Sessions.{HandsOver, HearsBy, SendsNext, SessionState, answer_of, answer_of_sending, requests_of}
 use Rattle.bm_worker_session.specs.Laws.{BeginsAnewInStep, BeginsInStep, HearsInStep, InStep, SendsInStep}
-use Rattle.bm_worker_session.specs.declared.session_fault.SessionFault.{SessionFault}
 use Rattle.bm_worker_session.proofs.Growing.{Grows, length-stream, next_grows, streams_join, turn_same}
 
 -- nothing was reported since

@@ -1,4 +1,3 @@
-use Rattle.std.proofs.Common.{rules}
 use Rattle.bm_web_server.proofs.page_body.PageBodyBody.poll_frame.Goals as goal
 
 pub returns-in-Some-Ok-clause-value : goal.returns-in-Some-Ok-clause-value
