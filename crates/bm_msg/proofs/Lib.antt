@@ -3,7 +3,7 @@ pub mod ItemTrees
 pub mod FieldLists
 pub mod Numerals
 pub mod KeyValues
-pub mod KindNames
+pub mod Operations
 pub mod Readings
 pub mod Heard
 pub mod TreeLists

@@ -1,5 +1,5 @@
 -- Reading key by key finds the message that a tree is, or the first reason why it is none.
-use Rattle.std.proofs.Common.{◌≡◌, ◌≢◌, refl, sym, ◌∙◌, ap, subst, ℕ, pos, false, cond, List, Option, Some, None, Result, Ok, Err}
+use Rattle.std.proofs.Common.{◌≡◌, ◌≢◌, refl, sym, ◌∙◌, ap, subst, ℕ, pos, true, false, cond, List, Option, Some, None, Result, Ok, Err}
 use Rattle.std.specs.Prelude.{codes, IfOk, IfErr, IsErrOf, is_ok, bytes_eq}
 use Rattle.std.specs.Option.{option_map, option_and_then}
 use Rattle.std.proofs.lemmas.Slice.Eq.{bytes_eq-Decides}
@@ -9,14 +9,12 @@ use Rattle.bm_msg.specs.declared.field.Field.{Field}
 use Rattle.bm_msg.specs.declared.fault.MsgError.{MsgError}
 use Rattle.bm_msg.specs.declared.fault.MsgError.TheVariants.{NotMap, NoSeq, NoOp, BadArgs, Mem}
 use Rattle.bm_msg.specs.declared.message.Message.{Message}
-use Rattle.bm_msg.specs.declared.kind.Kind.{Kind}
-use Rattle.bm_msg.specs.declared.kind.Kind.TheVariants as kind
 use Rattle.bm_msg.specs.Meaning.{Asked, auth, print, keepalive, get_worker_info, start_command, interrupt_command, shutdown, update, complete, unknown, Meaning, meaning, request, response}
 use Rattle.bm_msg.specs.Answers.{Reads}
 use Rattle.bm_msg.specs.Messages.{HasNumber, HasOp, IsRequest, IsMessage, IsFaulty, session_of, result_of}
-use Rattle.bm_msg.specs.Reading.{kind_of, text_at, number_at, command_at, items_at, fault_at, auth_at, update_at, complete_at, print_at, start_at, interrupt_at, asked_at, response_at, asked_or, op_read, with_number, reading}
+use Rattle.bm_msg.specs.Reading.{text_at, number_at, command_at, items_at, fault_at, auth_at, update_at, complete_at, print_at, start_at, interrupt_at, asked_at, response_at, asked_or, op_read, with_number, reading}
 use Rattle.bm_msg.proofs.KeyValues.{IsMap, map_from_field, text_to, text_from, number_to, number_from, command_to, command_from, items_to, items_from, fault_to, fault_from}
-use Rattle.bm_msg.proofs.KindNames.{IsNamed, is_named, other_kind, choice}
+use Rattle.bm_msg.proofs.Operations.{same, choice, none_named, unknown_asked}
 
 -- ---- what is read of a request is what the tree asks
 
@@ -73,18 +71,21 @@ interrupt_is t a op h =
 some_is : {X : Type 0} (a b : X) → Some a ≡ Some b → a ≡ b
 some_is a b h = cc
 
-asked_is : (k : Kind) (t : Tree) (op : List ℕ) (a : Asked) → IsNamed k op → HasOp t op → bytes_eq op (codes "response") ≡ false → asked_at k op t ≡ Some a → IsRequest t a
+asked_is : (t : Tree) (op : List ℕ) (a : Asked) → HasOp t op → bytes_eq op (codes "response") ≡ false → asked_at op t ≡ Some a → IsRequest t a
 unfolding asked_at
-asked_is kind.Auth t op a named has other h = auth_is t a (op_along t op _ named has) h
-asked_is kind.Update t op a named has other h = update_is t a (op_along t op _ named has) h
-asked_is kind.Complete t op a named has other h = complete_is t a (op_along t op _ named has) h
-asked_is kind.Print t op a named has other h = print_is t a (op_along t op _ named has) h
-asked_is kind.Keepalive t op a named has other h = asks_along t keepalive a (some_is _ _ h) (op_along t op _ named has)
-asked_is kind.GetWorkerInfo t op a named has other h = asks_along t get_worker_info a (some_is _ _ h) (op_along t op _ named has)
-asked_is kind.Shutdown t op a named has other h = asks_along t shutdown a (some_is _ _ h) (op_along t op _ named has)
-asked_is kind.StartCommand t op a named has other h = start_is t a (op_along t op _ named has) h
-asked_is kind.InterruptCommand t op a named has other h = interrupt_is t a (op_along t op _ named has) h
-asked_is kind.Other t op a named has other h = asks_along t (unknown op) a (some_is _ _ h) (has, named other)
+asked_is t op a has other =
+    let P : Option Asked → Type 0 = λ o. o ≡ Some a → IsRequest t a in
+    let named : (name : List ℕ) → bytes_eq op name ≡ true → HasOp t name = λ name e. op_along t op name (same op name e) has in
+    choice P (bytes_eq op (codes "auth")) (auth_at t) _ (λ e h. auth_is t a (named (codes "auth") e) h) (λ p1.
+    choice P (bytes_eq op (codes "update")) (update_at t) _ (λ e h. update_is t a (named (codes "update") e) h) (λ p2.
+    choice P (bytes_eq op (codes "complete")) (complete_at t) _ (λ e h. complete_is t a (named (codes "complete") e) h) (λ p3.
+    choice P (bytes_eq op (codes "print")) (print_at t) _ (λ e h. print_is t a (named (codes "print") e) h) (λ p4.
+    choice P (bytes_eq op (codes "keepalive")) (Some keepalive) _ (λ e h. asks_along t keepalive a (some_is _ _ h) (named (codes "keepalive") e)) (λ p5.
+    choice P (bytes_eq op (codes "get_worker_info")) (Some get_worker_info) _ (λ e h. asks_along t get_worker_info a (some_is _ _ h) (named (codes "get_worker_info") e)) (λ p6.
+    choice P (bytes_eq op (codes "shutdown")) (Some shutdown) _ (λ e h. asks_along t shutdown a (some_is _ _ h) (named (codes "shutdown") e)) (λ p7.
+    choice P (bytes_eq op (codes "start_command")) (start_at t) _ (λ e h. start_is t a (named (codes "start_command") e) h) (λ p8.
+    choice P (bytes_eq op (codes "interrupt_command")) (interrupt_at t) (Some (unknown op)) (λ e h. interrupt_is t a (named (codes "interrupt_command") e) h) (λ p9 h.
+    asks_along t (unknown op) a (some_is _ _ h) (has, none_named op p1 p2 p3 p4 p5 p6 p7 p8 p9 other))))))))))
 
 -- ---- what a tree asks is read
 
@@ -140,8 +141,8 @@ request_read t n shutdown has h = begins t n _ has h
 request_read t n (start_command k name args) has h = begins t n _ has h.0 ∙ ap (asked_or n) (start_read t k name args h)
 request_read t n (interrupt_command k w) has h = begins t n _ has h.0 ∙ ap (asked_or n) (interrupt_read t k w h)
 request_read t n (unknown op) has h =
-    let other = other_kind op h.1 in
-    begins t n op has h.0 ∙ ap (λ b. cond b (Ok (response_at n t)) (asked_or n (asked_at (kind_of op) op t))) other.1 ∙ ap (λ k. asked_or n (asked_at k op t)) other.0
+    let other = unknown_asked op t h.1 in
+    begins t n op has h.0 ∙ ap (λ b. cond b (Ok (response_at n t)) (asked_or n (asked_at op t))) other.1 ∙ ap (asked_or n) other.0
 
 pub message_read : (t : Tree) (m : Meaning) → IsMessage t m → reading t ≡ Ok m
 message_read t (request n a) h = request_read t n a h.0 h.1
@@ -163,9 +164,9 @@ asked_or_is t n op None m has asks h = absurd cc
 op_is : (t : Tree) (n : ℕ) (op : List ℕ) (m : Meaning) → HasNumber t n → HasOp t op → op_read n op t ≡ Ok m → IsMessage t m
 op_is t n op m has named =
     let P : Result Meaning MsgError → Type 0 = λ r. r ≡ Ok m → IsMessage t m in
-    choice P (bytes_eq op (codes "response")) (Ok (response_at n t)) (asked_or n (asked_at (kind_of op) op t))
+    choice P (bytes_eq op (codes "response")) (Ok (response_at n t)) (asked_or n (asked_at op t))
     (λ e h. message_along t (response_at n t) m (ok_is _ _ h) (has, op_along t op (codes "response") ((bytes_eq-Decides op (codes "response")).0 e) named, refl, refl))
-    (λ e h. asked_or_is t n op (asked_at (kind_of op) op t) m has (λ a g. asked_is (kind_of op) t op a (is_named op) named e g) h)
+    (λ e h. asked_or_is t n op (asked_at op t) m has (λ a g. asked_is t op a named e g) h)
 
 with_number_is : (t : Tree) (o : Option ℕ) (p : Option (List ℕ)) (m : Meaning) → ((n : ℕ) → o ≡ Some n → HasNumber t n) → ((op : List ℕ) → p ≡ Some op → HasOp t op) → with_number t o p ≡ Ok m → IsMessage t m
 with_number_is t None p m has named h = absurd cc
@@ -202,9 +203,9 @@ asked_or_faulty t n op None e has named never h = faulty_along t (BadArgs n) e (
 op_faulty : (t : Tree) (n : ℕ) (op : List ℕ) (e : MsgError) → HasNumber t n → HasOp t op → ((m : Meaning) → IsMessage t m → ⊥) → op_read n op t ≡ Err e → IsFaulty t e
 op_faulty t n op e has named never =
     let P : Result Meaning MsgError → Type 0 = λ r. r ≡ Err e → IsFaulty t e in
-    choice P (bytes_eq op (codes "response")) (Ok (response_at n t)) (asked_or n (asked_at (kind_of op) op t))
+    choice P (bytes_eq op (codes "response")) (Ok (response_at n t)) (asked_or n (asked_at op t))
     (λ _ h. absurd cc)
-    (λ _ h. asked_or_faulty t n op (asked_at (kind_of op) op t) e has named never h)
+    (λ _ h. asked_or_faulty t n op (asked_at op t) e has named never h)
 
 no_number : (t : Tree) → number_at t ≡ None → (n : ℕ) → HasNumber t n → ⊥
 no_number t h n has = let some = number_from t n has in cc

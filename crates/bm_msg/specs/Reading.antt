@@ -8,8 +8,6 @@ use Rattle.bm_value.specs.Field.{field}
 use Rattle.bm_msg.specs.declared.field.Field.{Field}
 use Rattle.bm_msg.specs.declared.fault.MsgError.{MsgError}
 use Rattle.bm_msg.specs.declared.fault.MsgError.TheVariants.{NotMap, NoSeq, NoOp, BadArgs}
-use Rattle.bm_msg.specs.declared.kind.Kind.{Kind}
-use Rattle.bm_msg.specs.declared.kind.Kind.TheVariants as kind
 use Rattle.bm_msg.specs.declared.items.ReadItem.{ReadItem}
 use Rattle.bm_msg.specs.declared.field.Field.TheVariants.{Text, Named, Rc}
 use Rattle.bm_msg.specs.Items.{text_of, is_log_name, carried_by, fields_of}
@@ -32,19 +30,6 @@ seen (ReadItem.Named name s) = named_field name.now s.now
 seen (ReadItem.Rc z) = Some (Rc z ∷ [])
 seen ReadItem.Nothing = Some []
 seen ReadItem.Wrong = None
-
-abbrev pub kind_of : List ℕ → Kind
-kind_of op =
-    if bytes_eq op (codes "auth") then kind.Auth else
-    if bytes_eq op (codes "update") then kind.Update else
-    if bytes_eq op (codes "complete") then kind.Complete else
-    if bytes_eq op (codes "print") then kind.Print else
-    if bytes_eq op (codes "keepalive") then kind.Keepalive else
-    if bytes_eq op (codes "get_worker_info") then kind.GetWorkerInfo else
-    if bytes_eq op (codes "shutdown") then kind.Shutdown else
-    if bytes_eq op (codes "start_command") then kind.StartCommand else
-    if bytes_eq op (codes "interrupt_command") then kind.InterruptCommand else
-    kind.Other
 
 abbrev pub str_of : Tree → Option (List ℕ)
 str_of (str s) = Some s
@@ -127,18 +112,19 @@ interrupt_at t =
     option_and_then (λ command. option_map (interrupt_command command) (text_at t (codes "why")))
     (command_at t)
 
--- what a request of this kind asks, or None where a key is missing or of another kind
-unfoldable pub asked_at : Kind → List ℕ → Tree → Option Asked
-asked_at kind.Auth op t = auth_at t
-asked_at kind.Update op t = update_at t
-asked_at kind.Complete op t = complete_at t
-asked_at kind.Print op t = print_at t
-asked_at kind.Keepalive op t = Some keepalive
-asked_at kind.GetWorkerInfo op t = Some get_worker_info
-asked_at kind.Shutdown op t = Some shutdown
-asked_at kind.StartCommand op t = start_at t
-asked_at kind.InterruptCommand op t = interrupt_at t
-asked_at kind.Other op t = Some (unknown op)
+-- what a request with this operation asks, or None where a key is missing or of another kind
+unfoldable pub asked_at : List ℕ → Tree → Option Asked
+asked_at op t =
+    if bytes_eq op (codes "auth") then auth_at t else
+    if bytes_eq op (codes "update") then update_at t else
+    if bytes_eq op (codes "complete") then complete_at t else
+    if bytes_eq op (codes "print") then print_at t else
+    if bytes_eq op (codes "keepalive") then Some keepalive else
+    if bytes_eq op (codes "get_worker_info") then Some get_worker_info else
+    if bytes_eq op (codes "shutdown") then Some shutdown else
+    if bytes_eq op (codes "start_command") then start_at t else
+    if bytes_eq op (codes "interrupt_command") then interrupt_at t else
+    Some (unknown op)
 
 abbrev pub response_at : ℕ → Tree → Meaning
 response_at n t =
@@ -152,7 +138,7 @@ asked_or n None = Err (BadArgs n)
 abbrev pub op_read : ℕ → List ℕ → Tree → Result Meaning MsgError
 op_read n op t =
     if bytes_eq op (codes "response") then Ok (response_at n t)
-    else asked_or n (asked_at (kind_of op) op t)
+    else asked_or n (asked_at op t)
 
 abbrev pub with_number : Tree → Option ℕ → Option (List ℕ) → Result Meaning MsgError
 with_number t None op = Err NoSeq

@@ -15,7 +15,6 @@ mod incoming;
 mod item_writing;
 mod items;
 mod keys;
-mod kind;
 pub mod laws;
 mod limits;
 mod message;

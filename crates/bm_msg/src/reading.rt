@@ -14,7 +14,6 @@ use crate::fault::MsgError;
 use crate::field::Fields;
 use crate::items::fields;
 use crate::keys::{command_at, is_exception, number_at, session, str_of, text_at};
-use crate::kind::{Kind, kind_of};
 use crate::message::{Message, Numbered, Response};
 use crate::request::Request;
 use bm_lines::Text;
@@ -144,29 +143,28 @@ fn interrupt_command<A: Allocator>(
     }
 }
 
-/// What a request of this kind asks, or None where a key is missing or of another kind.
+/// What a request with this operation asks, by the operations of the Buildbot manual's protocol.
+/// None where a key is missing or of another kind.
 #[tactic(auto, unfolding(crate::specs::Reading::asked_at))]
 fn request<A: Allocator>(
     alloc: Global,
-    kind: Kind,
     op: &str,
     message: &Value<A>,
 ) -> Result<Option<Request>, AllocError>
-    ensures found { IfOk result (λ r. option_map asked r
-        ≡ asked_at kind op.now (tree message.now)) }
-    ensures told { OnErr result (IsSome (asked_at kind op.now (tree message.now))) }
+    ensures found { IfOk result (λ r. option_map asked r ≡ asked_at op.now (tree message.now)) }
+    ensures told { OnErr result (IsSome (asked_at op.now (tree message.now))) }
 {
-    match kind {
-        Kind::Auth => auth(alloc, message),
-        Kind::Update => update(alloc, message),
-        Kind::Complete => complete(alloc, message),
-        Kind::Print => print(alloc, message),
-        Kind::Keepalive => Ok(Some(Request::Keepalive)),
-        Kind::GetWorkerInfo => Ok(Some(Request::GetWorkerInfo)),
-        Kind::Shutdown => Ok(Some(Request::Shutdown)),
-        Kind::StartCommand => start_command(alloc, message),
-        Kind::InterruptCommand => interrupt_command(alloc, message),
-        Kind::Other => Ok(Some(Request::Unknown {
+    match op {
+        "auth" => auth(alloc, message),
+        "update" => update(alloc, message),
+        "complete" => complete(alloc, message),
+        "print" => print(alloc, message),
+        "keepalive" => Ok(Some(Request::Keepalive)),
+        "get_worker_info" => Ok(Some(Request::GetWorkerInfo)),
+        "shutdown" => Ok(Some(Request::Shutdown)),
+        "start_command" => start_command(alloc, message),
+        "interrupt_command" => interrupt_command(alloc, message),
+        _ => Ok(Some(Request::Unknown {
             op: Text::from_str(alloc, op)?,
         })),
     }
@@ -229,7 +227,7 @@ fn with_op<A: Allocator>(
     if op == "response" {
         return Ok(Message::Response(response(alloc, seq, message)?));
     }
-    match request(alloc, kind_of(op), op, message)? {
+    match request(alloc, op, message)? {
         Some(request) => Ok(Message::Request(Numbered { seq, request })),
         None => Err(MsgError::BadArgs(seq)),
     }
