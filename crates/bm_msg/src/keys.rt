@@ -15,7 +15,7 @@ use std::alloc::{AllocError, Allocator, Global};
 pub const NUMBER_LIMIT: u64 = 1 << 63;
 
 /// The longest session, in bytes (this project's profile).
-pub const LONGEST_SESSION: usize = 64;
+pub(crate) const LONGEST_SESSION: usize = 64;
 
 /// What a str says.
 pub fn str_of<A: Allocator>(value: &Value<A>) -> Option<&str>

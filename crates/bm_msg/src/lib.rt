@@ -26,7 +26,7 @@ mod writing;
 pub use fault::MsgError;
 pub use field::{Field, Fields};
 pub use incoming::Incoming;
-pub use keys::{LONGEST_SESSION, NUMBER_LIMIT};
+pub use keys::NUMBER_LIMIT;
 pub use message::{Message, Numbered, Response};
 pub use reading::read;
 pub use request::Request;

@@ -34,4 +34,3 @@ pub use results::Results;
 pub use run::Ran;
 pub use seen::Seen;
 pub use session::Session;
-pub use table::{MOST_EVENTS, MOST_OPEN};

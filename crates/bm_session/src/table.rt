@@ -15,10 +15,10 @@ use crate::results::Results;
 use std::alloc::{AllocError, Global};
 
 /// So many commands of a lane may be open.
-pub const MOST_OPEN: usize = 4;
+pub(crate) const MOST_OPEN: usize = 4;
 
 /// So many events a lane may have, and one more that gives its session up.
-pub const MOST_EVENTS: usize = 999_999;
+pub(crate) const MOST_EVENTS: usize = 999_999;
 
 /// Whether a lane's worker is there.
 #[derive(Clone, Copy, PartialEq, Eq)]
