@@ -1,14 +1,26 @@
-//! The items of an update as trees.
+//! The items of an update as trees, and the names of the streams.
 
-ghost use Rattle.std.specs.Prelude.{◌≡◌, ◌∷◌, [], map, IfOk};
+ghost use Rattle.std.specs.Prelude.{◌≡◌, ◌<◌, ◌^◌, ◌∷◌, [], map, length, IfOk};
 ghost use Rattle.bm_value.specs.Tree.{array};
 ghost use Rattle.bm_value.specs.View.{tree, trees_of};
-ghost use Rattle.bm_msg.specs.Trees.{two, item_of};
+ghost use Rattle.bm_msg.specs.Trees.{two, item_of, stream_of};
 
 use crate::field::{Field, Fields};
 use bm_lines::Letter;
 use bm_value::{Items, Value};
 use std::alloc::{AllocError, Global};
+
+/// The name of a letter's stream, as the Buildbot manual has it in the items of an update.
+pub fn stream_name(letter: Letter) -> &'static str
+    ensures name { result.now ≡ stream_of letter }
+    ensures short { length result.now < 2 ^ 32 }
+{
+    match letter {
+        Letter::O => "stdout",
+        Letter::E => "stderr",
+        Letter::H => "header",
+    }
+}
 
 /// An array of two.
 fn two(
@@ -28,18 +40,11 @@ fn item(alloc: Global, field: &Field) -> Result<Value<Global>, AllocError>
     ensures { IfOk result (λ v. tree v ≡ item_of field.now) }
 {
     match field {
-        Field::Text(letter, said) => {
-            let name = match letter {
-                Letter::O => "stdout",
-                Letter::E => "stderr",
-                Letter::H => "header",
-            };
-            two(
-                alloc,
-                Value::from_str(alloc, name)?,
-                Value::from_str(alloc, said.as_str())?,
-            )
-        }
+        Field::Text(letter, said) => two(
+            alloc,
+            Value::from_str(alloc, stream_name(*letter))?,
+            Value::from_str(alloc, said.as_str())?,
+        ),
         Field::Named(name, said) => {
             let named = two(
                 alloc,

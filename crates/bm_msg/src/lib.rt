@@ -26,6 +26,7 @@ mod writing;
 pub use fault::MsgError;
 pub use field::{Field, Fields};
 pub use incoming::Incoming;
+pub use item_writing::stream_name;
 pub use keys::NUMBER_LIMIT;
 pub use message::{Message, Numbered, Response};
 pub use reading::read;

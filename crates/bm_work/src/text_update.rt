@@ -7,23 +7,12 @@ ghost use Rattle.bm_msg.specs.Trees.{stream_of};
 ghost use Rattle.bm_work.specs.Stream.{text as text_of, asked_by, request_bytes};
 
 use bm_lines::Letter;
+use bm_msg::stream_name;
 use bm_value::{array_head, map_head, put_str, unsigned};
 use std::alloc::{AllocError, Global};
 
 /// The most bytes that stand before the text.
 const FRONT: usize = 82;
-
-/// The name of the item that carries a letter's texts.
-fn name_of(letter: Letter) -> &'static str
-    ensures name { result.now ≡ stream_of letter }
-    ensures short { length result.now < 2 ^ 32 }
-{
-    match letter {
-        Letter::O => "stdout",
-        Letter::E => "stderr",
-        Letter::H => "header",
-    }
-}
 
 /// Appends the keys before the items, and their values. After want of memory a part may stand
 /// there.
@@ -53,7 +42,7 @@ fn put_items(out: &mut Vec<u8>, letter: Letter, text: &str) -> Result<(), AllocE
     put_str(out, "args")?;
     array_head(out, 1)?;
     array_head(out, 2)?;
-    put_str(out, name_of(letter))?;
+    put_str(out, stream_name(letter))?;
     put_str(out, text)
 }
 
