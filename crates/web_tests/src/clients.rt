@@ -124,7 +124,7 @@ pub fn is_over(stream: &TcpStream) -> bool {
         && ends(stream)
 }
 
-// Whether the next read meets the end, or a fault that isn't that nothing came.
+// Whether the next read meets the end or a fault, other than that its time is over.
 fn ends(stream: &TcpStream) -> bool {
     let mut bytes = [0; 512];
     let mut stream = stream;

@@ -323,7 +323,8 @@ fn try_settled<Y: Yard, W: Wait + Drop, R: Wait>(
     }
 }
 
-/// What is left of a lane whose ends are all there, or none where they aren't or memory is wanting.
+/// What is left of a lane whose ends are all there. None where one is missing,
+/// or memory is wanting.
 pub fn left<Y: Yard, W: Wait + Drop, R: Wait>(
     rt: &R,
     alloc: Global,

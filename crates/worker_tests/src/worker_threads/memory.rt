@@ -16,7 +16,7 @@ use std::test::Fail;
 /// How often a call is made where one request for memory is refused.
 const CALLS: u32 = 2;
 
-/// Without memory there are no words, and these aren't wrong words.
+/// Want of memory is told as such, and not taken for wrong words.
 #[test]
 fn refused_words_are_collected_again(rt: HostRuntime) {
     let words = match words(&rt) {
