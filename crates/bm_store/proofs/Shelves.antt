@@ -1,6 +1,6 @@
 -- The logs of one command as a list, and as a map from names.
-use Rattle.std.proofs.Common.{◌≡◌, refl, sym, ◌∙◌, ap, ℕ, zero, suc, ◌+◌, ◌-◌, ◌≤◌, ◌<◌, Bool, true, false, cond, not, ◌&&◌, List, [], ◌∷◌, ◌++◌, length, take, Some, None, arith, set, get_or, append_assoc, length-append}
-use Rattle.std.specs.Prelude.{bytes_eq, slice_get, remove, position, nat_lt, nat_le, map, filter}
+use Rattle.std.proofs.Common.{◌≡◌, refl, sym, ◌∙◌, ap, ℕ, zero, suc, ◌+◌, ◌-◌, ◌≤◌, ◌<◌, Bool, true, false, cond, not, ◌&&◌, List, [], ◌∷◌, ◌++◌, length, take, Some, arith, set, get_or, append_assoc, length-append}
+use Rattle.std.specs.Prelude.{bytes_eq, slice_get, remove, nat_le, map, filter}
 use Rattle.std.specs.Prelude.{Result, Ok, Err, OnOk, OnErr}
 use Rattle.std.specs.List.{position_or_len}
 use Rattle.std.proofs.Math.Seq.{take-suc}

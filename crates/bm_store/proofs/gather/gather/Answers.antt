@@ -1,9 +1,9 @@
-use Rattle.std.proofs.Common.{◌≡◌, ◌++◌, ◌-◌, ◌∙◌, ap, arith, get_or, Some, take, drop}
+use Rattle.std.proofs.Common.{◌≡◌, ◌++◌, ◌-◌, ◌∙◌, ap, arith, get_or, Some}
 use Rattle.std.specs.Prelude.{string_bytes, slice_get}
 use Rattle.bm_lines.specs.Lines.{content_of}
 use Rattle.bm_session.specs.Trace.{slice}
 use Rattle.bm_store.specs.declared.placed.Placed.{Placed}
-use Rattle.bm_store.proofs.Gathering.{get-or-some, gathering-next, gathering-end}
+use Rattle.bm_store.proofs.Gathering.{get-or-some, gathering-next}
 use Rattle.bm_store.proofs.gather.gather.Goals as goal
 
 pub loop-at-preserved : goal.loop-at-preserved

@@ -1,4 +1,4 @@
-use Rattle.std.proofs.Common.{rules, ◌≡◌, ◌++◌, ◌-◌, ◌≤◌, ◌<◌, ◌⊎◌, ◌∙◌, ℕ, List, [], length, ap, arith, get_or, Some, None, take, drop, inl, inr}
+use Rattle.std.proofs.Common.{rules, ◌≡◌, ◌++◌, ◌-◌, ◌≤◌, ◌<◌, ◌⊎◌, ◌∙◌, ℕ, List, [], length, ap, arith, get_or, Some, None, drop, inl, inr}
 use Rattle.std.specs.Prelude.{string_bytes, slice_get}
 use Rattle.bm_lines.specs.Lines.{content_of}
 use Rattle.bm_session.specs.Trace.{slice}
