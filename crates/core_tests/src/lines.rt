@@ -18,20 +18,6 @@ fn has_one(batch: &LineBatch, want: &str) -> bool {
     }
 }
 
-/// Whether a builder takes the text under the name.
-fn takes(
-    alloc: Global,
-    builder: &mut LineBatchBuilder,
-    name: &LogName,
-    letter: Letter,
-    text: &str,
-) -> bool {
-    match Text::from_str(alloc, text) {
-        Ok(text) => builder.add_text(name, letter, text).is_ok(),
-        Err(_) => false,
-    }
-}
-
 fn is_cut_alone(alloc: Global, letter: Letter, text: &str, want: &str) -> bool {
     match cut(alloc, letter, text) {
         Ok(block) => block.content() == want,
@@ -46,7 +32,7 @@ fn is_added(alloc: Global, letter: Letter, text: &str, want: &str) -> bool {
 
 fn is_built(alloc: Global, letter: Letter, text: &str, want: &str) -> bool {
     let mut builder = LineBatchBuilder::new(alloc);
-    let is_taken = takes(alloc, &mut builder, &LogName::stdio(), letter, text);
+    let is_taken = builder.add_text(&LogName::stdio(), letter, text).is_ok();
     is_taken && has_one(&builder.into_batch(), want)
 }
 
@@ -268,7 +254,7 @@ fn items_join_under_their_names(rt: HostRuntime) -> Result<(), Fail> {
 
 fn builds(alloc: Global, builder: &mut LineBatchBuilder, (name, letter, text): &Item) -> bool {
     match LogName::new(alloc, name) {
-        Ok(Some(name)) => takes(alloc, builder, &name, *letter, text),
+        Ok(Some(name)) => builder.add_text(&name, *letter, text).is_ok(),
         _ => false,
     }
 }

@@ -1,6 +1,6 @@
 //! A batch of many names, put together with a table of them.
 
-use super::{has_part, takes};
+use super::has_part;
 use bm_lines::{Letter, LineBatch, LineBatchBuilder, LogName};
 use std::alloc::Global;
 
@@ -50,7 +50,7 @@ fn is_whole(alloc: Global, batch: &LineBatch, said: &str) -> bool {
 /// Whether the builder takes a line under the name at the place.
 fn takes_at(alloc: Global, builder: &mut LineBatchBuilder, place: u32) -> bool {
     match numbered(alloc, number_at(place)) {
-        Some(name) => takes(alloc, builder, &name, Letter::O, "a"),
+        Some(name) => builder.add_text(&name, Letter::O, "a").is_ok(),
         None => false,
     }
 }

@@ -148,18 +148,12 @@ fn refused_text_leaves_the_parts(rt: HostRuntime) {
     assert!(rt; has(&batch, "l", "oa\nod\n") && has(&batch, "stdio", "ob\noc\n"));
 }
 
-fn is_built(alloc: Global, builder: &mut LineBatchBuilder, name: &LogName, text: &str) -> bool {
-    match again(|| Text::from_str(alloc, text)) {
-        Ok(text) => builder.add_text(name, Letter::O, text).is_ok(),
-        Err(_) => false,
-    }
-}
-
 /// Whether the builder takes the text, at the second time where memory was refused.
 fn builds(alloc: Global, builder: &mut LineBatchBuilder, name: &str, text: &str) -> bool {
     match name_of(alloc, name) {
         Some(name) => {
-            is_built(alloc, builder, &name, text) || is_built(alloc, builder, &name, text)
+            builder.add_text(&name, Letter::O, text).is_ok()
+                || builder.add_text(&name, Letter::O, text).is_ok()
         }
         None => false,
     }
