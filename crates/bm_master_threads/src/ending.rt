@@ -129,7 +129,7 @@ fn close<Y: Yard, R: Wait + Drop, O: Write + Drop>(
                 let lane = OutputLine::Lane {
                     name: worker.name.as_str(),
                     commands: total.commands,
-                    lines: u128::from(total.lines),
+                    lines: total.lines,
                 };
                 is_good = write_line(alloc, lane, &mut output) && is_good;
             }

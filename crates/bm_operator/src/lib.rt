@@ -6,7 +6,7 @@
 //! second are let through.
 //!
 //! Promised: each text, byte for byte, and that a name never ends a line or moves a cursor
-//! ([`one_line`]). A body could still want memory. `Remark::write` and `OutputLine::write` have no
+//! (`one_line`). A body could still want memory. `Remark::write` and `OutputLine::write` have no
 //! clause: a body could write another line there, and only tests would see it.
 #![tactic(auto)]
 
@@ -24,7 +24,6 @@ mod step_event;
 pub use cancel::read_cancel;
 pub use exit::{REFUSED, status};
 pub use log_id::LogId;
-pub use names::one_line;
 pub use output_line::OutputLine;
 pub use program_words::place_master;
 pub use rate_limit::RateLimit;

@@ -27,7 +27,7 @@ pub enum OutputLine<'a> {
     Lane {
         name: &'a str,
         commands: u64,
-        lines: u128,
+        lines: u64,
     },
 }
 
