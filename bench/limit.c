@@ -1,11 +1,13 @@
 /* The least that any system does for bench/live: plain code without a protocol, for the same bytes.
 
-       limit move          reads standard input, passes it on over a loopback connection to a thread that keeps it in
-                           memory, and prints how many bytes that thread had in the end
-       limit lag COUNT     sends so many lines the same way, one at a time, and prints the median and the worst of 99 in
-                           100 of the times until the other thread had one, in microseconds
-       limit serve BYTES   answers each request of HTTP with a body of so many bytes; prints its port, and ends with its
-                           standard input
+       limit move          reads standard input, and passes it on over a loopback connection to a
+                           thread that keeps it in memory. Prints how many bytes that thread had
+                           in the end
+       limit lag COUNT     sends so many lines the same way, one at a time. Prints the median and
+                           the worst of 99 in 100 of the times until the other thread had one, in
+                           microseconds
+       limit serve BYTES   answers each request of HTTP with a body of so many bytes. Prints its
+                           port, and ends with its standard input
 
    cc -O2 -pthread -o limit limit.c */
 

@@ -1,6 +1,8 @@
-"""A master of bench/worker that answers each request, and the little of WebSocket and MessagePack that it needs.
+"""A master of bench/worker that answers each request,
+and the little of WebSocket and MessagePack that it needs.
 
-It looks at the head of each update alone, so that it isn't what is timed; one run that isn't timed compares each byte.
+It looks at the head of each update alone, so that its own work isn't what is timed. One more run,
+untimed, compares each byte.
 """
 
 import base64
@@ -123,7 +125,8 @@ class Sink:
         self.end += count
 
     def next_frame(self):
-        """The place of the next whole message's bytes and of their end, and its mask; or None, where it isn't there yet."""
+        """The place of the next whole message's bytes and of their end, and its mask; or None,
+        where it isn't there yet."""
         room, begin = self.room, self.begin
         if self.end - begin < 14:
             return None
@@ -138,7 +141,8 @@ class Sink:
         return at + 4, self.begin, bytes(room[at : at + 4])
 
     def messages(self, least):
-        """At least so many messages: of each what its head tells, and its place. Places hold until more is read."""
+        """At least so many messages: of each what its head tells, and its place.
+        Places hold until more is read."""
         found = []
         while len(found) < least:
             place = self.next_frame()
@@ -163,8 +167,9 @@ class Sink:
         ))
 
     def run(self, words, take=None, pause=0):
-        """The seconds until a command has ended, and how many bytes of standard output it said. `take` is given each text. The first
-        update of standard output isn't answered before a pause, nor what follows."""
+        """The seconds until a command has ended, and how many bytes of standard output it said.
+        `take` is given each text. The first update of standard output isn't answered before a
+        pause, nor what follows."""
         begun = time.perf_counter()
         self.start(words)
         said, ended = 0, False
@@ -175,10 +180,11 @@ class Sink:
                     continue
                 ended = ended or update.op == b"complete"
                 answers.append(answer(update.seq, b"\xc0"))
-                if update.item == b"stdout":
-                    said += update.count
-                    if take:
-                        take(unmasked(self.room[begin:end], mask)[update.begin :])
+                if update.item != b"stdout":
+                    continue
+                said += update.count
+                if take:
+                    take(unmasked(self.room[begin:end], mask)[update.begin :])
             if pause and said:
                 time.sleep(pause)
                 pause = 0
@@ -198,7 +204,8 @@ class Sink:
         return (int(fields[11]) + int(fields[12])) / TICKS
 
     def spent_by_threads(self):
-        """The seconds of processor time of the worker's threads that run, so far, to the nanosecond."""
+        """The seconds of processor time of the worker's threads that run, so far,
+        to the nanosecond."""
         threads = os.listdir(f"/proc/{self.worker.pid}/task")
         return sum(int(open(f"/proc/{self.worker.pid}/task/{thread}/schedstat", encoding="ascii").read().split()[0]) for thread in threads) / 1e9
 

@@ -1,7 +1,8 @@
 """The two systems that `bench/live` compares: ours, and Debian's buildbot where it is installed.
 
-Each runs builds on workers of its own on this machine: a build is a worker's number and a list of commands, each of them
-a text for the shell. What is asked of both is the same, and so is what is asked of their web.
+Each runs builds on workers of its own on this machine. A build is a worker's number and a list of
+commands, each of them a text for the shell. What is asked of both is the same, and so is what is
+asked of their web.
 """
 
 import base64
@@ -180,7 +181,8 @@ from buildbot.worker.protocols import msgpack
 from buildbot.worker.protocols.manager.msgpack import BuildbotWebSocketServerProtocol
 from buildbot.www.service import WWWService
 
-# What a worker prints is flushed after 0.1 s in place of 5, and its messages aren't written into the master's own log.
+# What a worker prints is flushed after 0.1 s in place of 5,
+# and its messages aren't written into the master's own log.
 BuildbotWebSocketServerProtocol.debug = False
 SETTINGS = {"newline_re": "\\r\\n", "max_line_length": 4096, "buffer_timeout": 0.1, "buffer_size": 65536}
 
