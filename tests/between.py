@@ -1,4 +1,5 @@
-"""What lies between a worker and its master in a script of this folder: it may be down for a while."""
+"""What lies between a worker and its master in a script of this folder:
+it may be down for a while."""
 
 import asyncio
 import contextlib

@@ -80,7 +80,8 @@ LINKED, NARROW, STRANGER = WORKERS[:5], WORKERS[5], WORKERS[6]
 
 
 class Step:
-    """A step of a build: the command that prints so many lines, or is silent where these are 0, and what becomes of it."""
+    """A step of a build: the command that prints so many lines, or is silent where these are 0,
+    and what becomes of it."""
 
     def __init__(self, worker, kind, lines, seconds):
         self.build, self.worker, self.kind = None, worker, kind
@@ -150,7 +151,8 @@ class Builds:
             self.say(f"cancel {build}\n")
 
     def between(self, build):
-        """A count that grows by each cut and login of a build's worker, and each time that nobody reads the remarks."""
+        """A count that grows by each cut and login of a build's worker,
+        and each time that nobody reads the remarks."""
         return sum(self.builds[build][0].worker.told.values()) + self.blocks
 
     def hear(self, line):

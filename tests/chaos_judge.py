@@ -1,4 +1,5 @@
-"""Compares what `tests/chaos` found with what has to be: each line of each log, results, sessions, and least numbers."""
+"""Compares what `tests/chaos` found with what has to be: each line of each log, results, sessions,
+and least numbers."""
 
 import collections
 
@@ -7,12 +8,13 @@ from chaos_builds import WORKERS
 from chaos_parts import FIGURES, IS_LONG, LINES, fault
 
 LETTERS = {numbered_lines.OUTPUT: "o", numbered_lines.ERRORS: "e"}
-# The end of a short command is told soon beside a noisy one, which is the promise itself. So many seconds are its own two,
-# what is on its way on the narrow link, and as long as the master is stopped or its standard error is left unread. Where a
-# busy machine makes the link narrower, it is a third of what the noisy one takes.
+# The end of a short command is told soon beside a noisy one, which is the promise itself. So many
+# seconds are its own two, and what is on its way on the narrow link. The others are as long as the
+# master is stopped or its standard error is left unread. Where a busy machine makes the link
+# narrower, it is a third of what the noisy one takes.
 MOST_SECONDS = 2 + 5 + 4
-# A step ends after the cancel of its build, where its worker isn't cut meanwhile: so many seconds are a bound for a hang.
-# A silent command would take more than an hour.
+# A step ends after the cancel of its build, where its worker isn't cut meanwhile: so many seconds
+# are a bound for a hang. A silent command would take more than an hour.
 SECONDS_TO_CANCEL = 30
 # How often each thing has to happen at least, in a run of 30,000 lines and in one of 500,000.
 LEAST = {
@@ -42,8 +44,8 @@ LEAST = {
 
 
 def judged(found, printed, is_whole):
-    """How many lines are lost, doubled, moved or were never printed, where a pipe's lines in a log had to be those that
-    were printed, or a beginning of them."""
+    """How many lines are lost, doubled, moved or were never printed. A pipe's lines in a log had to
+    be those that were printed, or a beginning of them."""
     if found == (printed if is_whole else printed[: len(found)]):
         return {}
     had, all_due = collections.Counter(found), collections.Counter(printed)

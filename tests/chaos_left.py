@@ -1,4 +1,5 @@
-"""What `tests/chaos` looks for once all is over: processes, threads and descriptors that were left behind."""
+"""What `tests/chaos` looks for once all is over: processes,
+threads and descriptors that were left behind."""
 
 import asyncio
 import os
@@ -8,7 +9,8 @@ from chaos_builds import STRANGER, WORKERS
 from chaos_parts import fault
 from processes import held, marked, name_of
 
-# Strangers have so many seconds to log in, and a command that outlived its worker ends at its next line.
+# Strangers have so many seconds to log in,
+# and a command that outlived its worker ends at its next line.
 MOST_SECONDS = 30
 
 

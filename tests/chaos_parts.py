@@ -1,4 +1,5 @@
-"""What the parts of `tests/chaos` share: its words, its chance, its figures and faults, and what readers have seen."""
+"""What the parts of `tests/chaos` share: its words, its chance, its figures and faults,
+and what readers have seen."""
 
 import collections
 import os
@@ -11,7 +12,8 @@ import threading
 HERE = os.path.dirname(os.path.abspath(__file__))
 SEED = int(sys.argv[1]) if len(sys.argv) > 1 else 1
 LINES = int(sys.argv[2]) if len(sys.argv) > 2 else 1_000_000
-# Only a long run takes the minute in which a dark connection is noticed, and the half one of a reader that stopped.
+# Only a long run takes the minute in which a dark connection is noticed,
+# and the half one of a reader that stopped.
 IS_LONG = LINES >= 500_000
 MOST_SECONDS = 240 + LINES // 1_500
 CHANCE = random.Random(SEED)

@@ -1,4 +1,5 @@
-"""The readers of `tests/chaos`: those that compare every chunk, and beside them those that read slowly, or not at all."""
+"""The readers of `tests/chaos`: those that compare every chunk,
+and beside them those that read slowly, or not at all."""
 
 import asyncio
 import contextlib
@@ -13,7 +14,8 @@ import time
 from chaos_parts import CHANCE, FIGURES, fault, reset
 
 MOST_AT_ONCE = 4_000
-# A reader that takes nothing for 30 seconds is cut. More than so many bytes of an answer lie in no buffers.
+# A reader that takes nothing for 30 seconds is cut.
+# More than so many bytes of an answer lie in no buffers.
 SECONDS_WITHOUT_READING = 45
 MOST_BUFFERED = 8_000_000
 

@@ -12,15 +12,17 @@ from chaos_builds import LINKED, STRANGER, WORKERS
 from chaos_parts import CHANCE, FIGURES, fault, reset
 
 MOST_GUESTS = 256
-# A connection that doesn't log in is closed after so many seconds, as is promised; a busy machine has some more.
+# A connection that doesn't log in is closed after so many seconds, as is promised;
+# a busy machine has some more.
 SECONDS_TO_LOG_IN = 10
 SLACK = 15
 SECONDS_TO_CONNECT = 10
 TOO_MANY = "connection refused, too many connections"
-# A second login is answered within so many seconds: a bound for a hang. It is far below the 60 after which a connection
-# that is silent ends by itself.
+# A second login is answered within so many seconds: a bound for a hang. It is far below the 60
+# after which a connection that is silent ends by itself.
 SECONDS_TO_ANSWER = 20
-# It takes a connection for dead that is silent for one and a half; a busy machine may have a part of that.
+# It takes a connection for dead that is silent for one and a half;
+# a busy machine may have a part of that.
 LEAST_SECONDS_OF_SILENCE = 1
 REQUEST = wire.request_head("master")
 FRAME_OF_A_MILLION = bytes([0x82, 0xFF]) + struct.pack(">Q", 1_000_000) + bytes(4)
@@ -45,7 +47,8 @@ class Strangers:
 
     @staticmethod
     def chosen(workers):
-        """One of these workers; rather one whose way nobody has calm just now, which may be for long."""
+        """One of these workers; rather one whose way nobody has calm just now,
+        which may be for long."""
         return CHANCE.choice([worker for worker in workers if not worker.way.calm.locked()] or workers)
 
     async def connected(self):

@@ -1,4 +1,5 @@
-"""The troubles of `tests/chaos`: what is done to a master, its workers and the ways between them while builds run."""
+"""The troubles of `tests/chaos`: what is done to a master,
+its workers and the ways between them while builds run."""
 
 import asyncio
 import fcntl
@@ -17,7 +18,8 @@ from chaos_strangers import SECONDS_TO_ANSWER, TOO_MANY, Strangers
 from processes import children_of
 
 MOST_SECONDS_AWAY = 5
-# After a minute of silence a worker and a master take each other for dead, as is promised; a busy machine has some more.
+# After a minute of silence a worker and a master take each other for dead, as is promised;
+# a busy machine has some more.
 SECONDS_TO_NOTICE = 60 + 30
 SET_PIPE_SIZE, PIPE_SIZE = 1031, 4_096
 

@@ -1,4 +1,5 @@
-"""What lies between a worker and the master of `tests/chaos`: it cuts connections, lets them go dark, and goes away."""
+"""What lies between a worker and the master of `tests/chaos`: it cuts connections,
+lets them go dark, and goes away."""
 
 import asyncio
 import contextlib
@@ -8,9 +9,10 @@ from chaos_parts import CHANCE, FIGURES, MOST_SECONDS, reset
 
 
 class Ride:
-    """A connection on its way: after how many bytes of both directions it is cut, and how many are carried at once. Each
-    third is cut only after so many of the master's bytes that the worker has sent again all that wasn't answered, and has
-    heard an answer: one that is cut sooner brings a worker no further, however slow the machine is."""
+    """A connection on its way: after how many bytes of both directions it is cut, and how many are
+    carried at once. Each third is cut only after more of the master's bytes. By then the worker has
+    sent again all that wasn't answered, and has heard an answer. One that is cut sooner brings a
+    worker no further, however slow the machine is."""
 
     def __init__(self, near, far, number, is_whole):
         self.near, self.far, self.ends = near, far, (near, far)
@@ -34,9 +36,9 @@ class Ride:
 
 
 class Way:
-    """It cuts each connection after random bytes, some of which are the handshake's and the login's, or after a while, and
-    carries some in small pieces. One of so many bytes a second cuts none. While somebody has its `calm` it goes on to carry,
-    and cuts nothing."""
+    """It cuts each connection after random bytes, some of which are the handshake's and the
+    login's, or after a while. It carries some in small pieces. One of so many bytes a second cuts
+    none. While somebody has its `calm` it goes on to carry, and cuts nothing."""
 
     def __init__(self, bytes_a_second=None):
         self.master, self.count, self.port = None, 0, 0

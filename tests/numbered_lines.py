@@ -1,11 +1,13 @@
 #!/usr/bin/python3
-"""Prints numbered lines to standard output and standard error: what a command of `tests/chaos` does.
+"""Prints numbered lines to standard output and standard error:
+what a command of `tests/chaos` does.
 
     numbered_lines.py SEED LINES SECONDS
 
-The same words print the same lines, so that a log can be compared with them. Most are short; some are empty, some longer
-than a worker says at once; some have bytes that aren't UTF-8. They are written in pieces that end anywhere in a line, with
-pauses of some SECONDS in all, twice as many at most.
+The same words print the same lines, so that a log can be compared with them. Most are short; some
+are empty, some longer than a worker says at once; some have bytes that aren't UTF-8. They are
+written in pieces that end anywhere in a line, with pauses of some SECONDS in all, twice as many at
+most.
 """
 
 import os

@@ -1,4 +1,5 @@
-"""A worker of another hand, for `tests/outside_workers`: it keeps all that it says, and does what a worker may do."""
+"""A worker of another hand, for `tests/outside_workers`: it keeps all that it says,
+and does what a worker may do."""
 
 import asyncio
 import contextlib

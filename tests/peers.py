@@ -1,4 +1,5 @@
-"""A master of two workers among which `tests/bad_peers` puts bad ones, and workers written in Python."""
+"""A master of two workers among which `tests/bad_peers` puts bad ones,
+and workers written in Python."""
 
 import asyncio
 import contextlib
@@ -9,8 +10,9 @@ import wire
 
 HERE = os.path.dirname(os.path.abspath(__file__))
 PROGRAMS = os.environ.get("PROGRAMS", os.path.join(HERE, "..", "dist"))
-# What comes at once from a master that is well is waited for so many seconds: a bound for a hang. It is far below the 60
-# seconds after which a silent connection ends by itself. So it tells what doesn't come before that end.
+# What comes at once from a master that is well is waited for so many seconds: a bound for a hang.
+# It is far below the 60 seconds after which a silent connection ends by itself. So it tells what
+# doesn't come before that end.
 SOON = 20
 
 CONFIGURATION = """
@@ -47,7 +49,8 @@ async def within(seconds, coming, what):
 
 
 class Master:
-    """A master with two workers, and a build for each worker that is named: of one step, or of so many as are named."""
+    """A master with two workers, and a build for each worker that is named: of one step,
+    or of so many as are named."""
 
     def __init__(self, builds, steps=()):
         self.builds = "".join(build_of(worker, names) for worker, names in zip(builds, steps or [["step"]] * len(builds)))

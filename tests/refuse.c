@@ -1,5 +1,5 @@
-// Refuses one request for memory: the one with the number REFUSE, counted from 1. Where no request had that number it says so
-// by the file REFUSE_SPARE, which it then makes.
+// Refuses one request for memory: the one with the number REFUSE, counted from 1. Where no request
+// had that number it says so by the file REFUSE_SPARE, which it then makes.
 #define _GNU_SOURCE
 #include <dlfcn.h>
 #include <errno.h>

@@ -1,6 +1,7 @@
-// Refuses one start of a thread: the one with the number REFUSE_THREAD, counted from 1 among those of one thread. That is the main
-// thread where REFUSE_OF is 0, and else the one that the main thread started as its first, second and so on. What was refused is
-// told by the file REFUSE_TOLD, which it makes.
+// Refuses one start of a thread: the one with the number REFUSE_THREAD, counted from 1 among those
+// of one thread. That is the main thread where REFUSE_OF is 0, and else the one that the main
+// thread started as its first, second and so on. What was refused is told by the file REFUSE_TOLD,
+// which it makes.
 #define _GNU_SOURCE
 #include <dlfcn.h>
 #include <errno.h>

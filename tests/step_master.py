@@ -20,7 +20,8 @@ LISTEN = 'listen = "127.0.0.1:0"\nweb = "127.0.0.1:0"\n'
 
 
 class Master:
-    """A master of this configuration. Its lines are read by threads, but for a standard error that is given."""
+    """A master of this configuration. Its lines are read by threads,
+    but for a standard error that is given."""
 
     def __init__(self, text, errors=None):
         self.file = tempfile.NamedTemporaryFile("w", suffix=".toml")
@@ -110,5 +111,6 @@ def run(parts, names):
             print(f"FAILED  {part.__name__}: {fault!r}", flush=True)
             failed += 1
         else:
-            print(f"holds   {part.__doc__} ({time.monotonic() - begun:.0f} s)", flush=True)
+            shows = " ".join(part.__doc__.split())
+            print(f"holds   {shows} ({time.monotonic() - begun:.0f} s)", flush=True)
     return 1 if failed else 0

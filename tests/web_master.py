@@ -1,4 +1,5 @@
-"""A master whose chunk server scripts of this folder ask: both programs, over commands that print what the scripts know."""
+"""A master whose chunk server scripts of this folder ask: both programs,
+over commands that print what the scripts know."""
 
 import http.client
 import json
@@ -27,7 +28,8 @@ def chunk_of(log, first, content):
 
 
 def parsed(body):
-    """The value of a JSON text in UTF-8. A key that stands twice is an error, as a number that JSON doesn't have is."""
+    """The value of a JSON text in UTF-8. A key that stands twice is an error,
+    as a number that JSON doesn't have is."""
 
     def once(pairs):
         keys = [key for key, _ in pairs]
@@ -38,8 +40,8 @@ def parsed(body):
 
 
 class Master:
-    """A master with a build for each command, each for a worker of its own, which run until the `with` ends. Where it isn't
-    staffed a script has to log in as these workers."""
+    """A master with a build for each command, each for a worker of its own, which run until the
+    `with` ends. Where it isn't staffed a script has to log in as these workers."""
 
     def __init__(self, commands, is_staffed=True):
         self.commands, self.is_staffed = commands, is_staffed

@@ -1,7 +1,8 @@
-"""The wire between a master and a worker, in Python's own library alone: MessagePack and WebSockets.
+"""The wire between a master and a worker, in Python's own library alone:
+MessagePack and WebSockets.
 
-It is written from the MessagePack specification and RFC 6455 and shares nothing with the product, so that a script which
-speaks by it is a peer of another hand.
+It is written from the MessagePack specification and RFC 6455, and shares nothing with the product.
+So a script which speaks by it is a peer of another hand.
 """
 
 import asyncio

@@ -74,7 +74,8 @@ def runs_to_its_end(root):
 
 
 def ends_with(master, wanted):
-    """The builds have these results, a log of a step that can't be started has headers alone, and the status is 1."""
+    """The builds have these results, a log of a step that can't be started has headers alone,
+    and the status is 1."""
     results = master.results(len(wanted))
     drive.check(results == wanted, f"results {results}, not {wanted}")
     number = 0
@@ -102,7 +103,8 @@ def libc():
 
 
 def libc_worker():
-    """the C library and echo, without a null device: a worker that connects by itself can't start a step"""
+    """the C library and echo, without a null device:
+    a worker that connects by itself can't start a step"""
     with Root(is_whole=False) as root:
         root.add(shutil.which("echo"), "/usr/bin/echo")
         shutil.move(drive.configuration(None, [[["echo", "one"]]]), root.path + "/build.toml")

@@ -1,9 +1,11 @@
 #!/usr/bin/env python3
-"""The units under a running systemd: a master that takes lines and is stopped, a worker that is killed and comes back.
+"""The units under a running systemd: a master that takes lines and is stopped,
+a worker that is killed and comes back.
 
     in_systemd ROOT ./by_service.py [NAME ..]        (all where none is named)
 
-ROOT has the Debian package and python3 beside what in_systemd wants. It writes to the root's folders.
+ROOT has the Debian package and python3 beside what in_systemd wants.
+It writes to the root's folders.
 """
 
 import contextlib
@@ -69,7 +71,8 @@ def configure(commands, name="main", worker="w0", listen=LISTEN, web=WEB):
 
 @contextlib.contextmanager
 def units(*commands):
-    """Both units, in which each build runs a step or has run it. They are stopped at the end, and nothing is to stay."""
+    """Both units, in which each build runs a step or has run it. They are stopped at the end,
+    and nothing is to stay."""
     configure(commands)
     before = drive.Before()
     try:
@@ -84,7 +87,8 @@ def units(*commands):
 
 
 def stop():
-    """a build is cancelled by the pipe, all others by the stop of the master's unit, and lanes are settled"""
+    """a build is cancelled by the pipe, all others by the stop of the master's unit,
+    and lanes are settled"""
     with units(SHOWN, BELOW, BELOW):
         wait_until("the first build", lambda: "build 0 ended FAILURE" in told())
         drive.compare(log(0), SHOWN)

@@ -1,10 +1,12 @@
 #!/usr/bin/env python3
-"""A latent worker that is a Slurm job, started by srun: its builds, and what each kind of end leaves behind.
+"""A latent worker that is a Slurm job, started by srun: its builds,
+and what each kind of end leaves behind.
 
     in_root ROOT ./slurm_here builder ./by_slurm.py [NAME ..]        (all where none is named)
 
-ROOT has the Debian package, slurm-wlm, munge, iproute2 and python3. The worker runs in a process namespace (bolgrudi-alone), and
-its job is cancelled by what outlives srun (bolgrudi-tidy), so that nothing stays whatever ends it.
+ROOT has the Debian package, slurm-wlm, munge, iproute2 and python3. The worker runs in a process
+namespace (bolgrudi-alone), and its job is cancelled by what outlives srun (bolgrudi-tidy), so that
+nothing stays whatever ends it.
 """
 
 import os
@@ -19,7 +21,8 @@ EXAMPLE = "/usr/share/doc/bolgrudi/examples/first-build.toml"
 SILENT = [["sleep", "4321"]]
 BELOW = [["sh", "-c", "echo begun; sleep 4322; echo not reached"]]
 SHORT = [["echo", "done"]]
-# These don't hear SIGTERM, which scancel sends to each process by itself: what ends them is the end of their worker.
+# These don't hear SIGTERM, which scancel sends to each process by itself:
+# what ends them is the end of their worker.
 DEAF = [["sh", "-c", "trap '' TERM; exec sleep 4321"]]
 DEAF_BELOW = [["sh", "-c", "trap '' TERM; echo begun; sleep 4322; echo not reached"]]
 PROCESSORS = 4
@@ -83,7 +86,8 @@ def cancel():
 
 
 def scancel():
-    """the job is cancelled by scancel while two builds run and a third waits, which runs in a new job"""
+    """the job is cancelled by scancel while two builds run and a third waits,
+    which runs in a new job"""
     with master_of([DEAF, DEAF_BELOW, SHORT], resume_ticks=200) as master:
         master.begin(2)
         subprocess.run(["scancel", job_of_worker()], check=True)

@@ -1,10 +1,12 @@
 #!/usr/bin/env python3
-"""A latent worker that is started by ssh on another machine: its builds, and what each kind of end leaves behind.
+"""A latent worker that is started by ssh on another machine: its builds,
+and what each kind of end leaves behind.
 
     in_root ROOT ./by_ssh.py [WAY ..]        (plain, tty, tunnel, alone; all where none is named)
 
-ROOT has the Debian package, openssh-server, openssh-client, iproute2 and python3. The other machine is a network namespace with
-an sshd, keys made for the run and a user `builder`: 10.98.0.2; the master is 10.98.0.1. It writes to the root's folders.
+ROOT has the Debian package, openssh-server, openssh-client, iproute2 and python3. The other machine
+is a network namespace with an sshd, keys made for the run and a user `builder`: 10.98.0.2; the
+master is 10.98.0.1. It writes to the root's folders.
 """
 
 import os
@@ -18,8 +20,8 @@ import drive
 
 EXAMPLE = "/usr/share/doc/bolgrudi/examples/first-build.toml"
 NEAR, FAR, PORT = "10.98.0.1", "10.98.0.2", 2222
-# ssh, and sshd likewise, give up five seconds after the last sign of the other: a cable that is out for a second costs up to
-# three until the last lost packet is sent again.
+# ssh, and sshd likewise, give up five seconds after the last sign of the other. A cable that is out
+# for a second costs up to three until the last lost packet is sent again.
 ALIVE = "{0}AliveInterval 1\n{0}AliveCountMax 4\n"
 FILE = "/etc/bolgrudi/w0.password"
 NUMBERS = [["sh", "-c", "i=0; while [ $i -lt 60 ]; do echo line $i; i=$((i + 1)); sleep 0.1; done"]]
@@ -54,7 +56,8 @@ ALONE = Way(
 
 
 class Machine:
-    """Another machine: a network namespace, held by a process, with a cable to it and an sshd that takes our key."""
+    """Another machine: a network namespace, held by a process,
+    with a cable to it and an sshd that takes our key."""
 
     def __init__(self):
         self.holder = subprocess.Popen(["unshare", "--net", "sleep", "infinity"])
@@ -212,7 +215,8 @@ def master_killed(way, before, machine):
         before.leaves_nothing("the master's kill")
 
 
-# What leaves nothing behind in each way. In the ways but the last a step may outlive its worker: OPERATING says when.
+# What leaves nothing behind in each way. In the ways but the last a step may outlive its worker:
+# OPERATING says when.
 EVENTS = {
     PLAIN: (builds, unplugged, input_ends),
     TTY: (builds, unplugged, input_ends, master_killed),

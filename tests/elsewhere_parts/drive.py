@@ -1,4 +1,5 @@
-"""Drives a build master from a trial: starts it, follows what it tells, gives it lines, and looks at what is left of it.
+"""Drives a build master from a trial: starts it, follows what it tells, gives it lines,
+and looks at what is left of it.
 
     import drive
     with drive.Master(["buildmaster"], drive.configuration(latent, builds)) as master:
@@ -43,10 +44,12 @@ def run(*words, **keys):
 
 
 class Master:
-    """A running `buildmaster serve`. What it prints and tells is kept, and shown where TELL is set."""
+    """A running `buildmaster serve`. What it prints and tells is kept,
+    and shown where TELL is set."""
 
     def __init__(self, words, config, env=None, is_serve=True):
-        """`words` is the program and what stands before `serve FILE`. Without `is_serve` they are all the words there are."""
+        """`words` is the program and what stands before `serve FILE`.
+        Without `is_serve` they are all the words there are."""
         words = [*words, "serve", config] if is_serve else words
         self.begun, self.told, self._fresh = time.monotonic(), [], queue.Queue()
         pipe = subprocess.PIPE
@@ -136,7 +139,8 @@ class Master:
             raise
 
     def log(self, number):
-        """The lines of a log, each with its letter, and whether it is complete. None where it isn't there."""
+        """The lines of a log, each with its letter, and whether it is complete.
+        None where it isn't there."""
         state = self._get(number)
         if state is None:
             return None
@@ -154,7 +158,8 @@ class Master:
 
 
 def reference(command):
-    """What the log of a step with these words has to be: its header, its output, its errors, its last line."""
+    """What the log of a step with these words has to be: its header, its output, its errors,
+    its last line."""
     key = tuple(command)
     if key not in _references:
         done = subprocess.run(command, stdin=subprocess.DEVNULL, capture_output=True, text=True)
@@ -171,7 +176,8 @@ _references = {}
 
 
 def compare(lines, command):
-    """Faults where a log isn't, line by line, what the command prints here. Between the two pipes no order is kept."""
+    """Faults where a log isn't, line by line, what the command prints here.
+    Between the two pipes no order is kept."""
     first, out, err, last = reference(command)
     parts = (
         ("first line", [lines[0]], [first]),
@@ -186,9 +192,11 @@ def compare(lines, command):
 
 
 def compare_all(master, commands):
-    """Compares a master's first logs, line by line, with what these commands print here, each to be there once.
+    """Compares a master's first logs, line by line, with what these commands print here,
+    each to be there once.
 
-    Builds run beside each other, so it is the first line of a log that says whose it is. Answers what was compared.
+    Builds run beside each other, so it is the first line of a log that says whose it is.
+    Answers what was compared.
     """
     wanted = {reference(command)[0]: command for command in commands}
     lines = 0
@@ -201,9 +209,11 @@ def compare_all(master, commands):
 
 
 def configuration(latent, builds, idle_ticks=100, resume_ticks=500, slots=2, listen="127.0.0.1:0"):
-    """Writes a configuration of one worker, w0, whose password is `secret`; answers the file's path.
+    """Writes a configuration of one worker, w0, whose password is `secret`;
+    answers the file's path.
 
-    `builds` are lists of steps, each a list of words; `latent` is None where the worker connects by itself.
+    `builds` are lists of steps, each a list of words;
+    `latent` is None where the worker connects by itself.
     """
     quoted = json.dumps  # a JSON text, or list of texts, of printable characters is one of TOML too
     lines = [f"listen = {quoted(listen)}", 'web = "127.0.0.1:0"']
@@ -228,7 +238,8 @@ def steps_of(config):
 
 
 def processes():
-    """Each process of this namespace but this one, and what has ended: its id, and its command line."""
+    """Each process of this namespace but this one, and what has ended: its id,
+    and its command line."""
     found = {}
     for entry in filter(str.isdigit, os.listdir("/proc")):
         try:
@@ -243,7 +254,8 @@ def processes():
 
 
 class Before:
-    """The processes that are there before a trial: each other one that is there after it was left behind by it."""
+    """The processes that are there before a trial:
+    each other one that is there after it was left behind by it."""
 
     def __init__(self):
         self.processes = processes()
@@ -252,7 +264,8 @@ class Before:
         return {number: words for number, words in processes().items() if number not in self.processes}
 
     def leaves_nothing(self, what, but=(), seconds=MOST_SECONDS_TO_END, jobs=list):
-        """Faults where some process, or one of `jobs()`, is there for so long. `but` are processes that are to be there."""
+        """Faults where some process, or one of `jobs()`, is there for so long.
+        `but` are processes that are to be there."""
         begun = time.monotonic()
         rest = True
         while rest and time.monotonic() - begun < seconds:
@@ -265,11 +278,12 @@ class Before:
 
 
 def main(trials):
-    """Runs the trials, or those that the command line names. The last line is `N passed, M failed`."""
+    """Runs the trials, or those that the command line names.
+    The last line is `N passed, M failed`."""
     names = sys.argv[1:] or list(trials)
     failed = 0
     for name in names:
-        print(f"-- {name}: {(trials[name].__doc__ or '').strip()}", flush=True)
+        print(f"-- {name}: {' '.join((trials[name].__doc__ or '').split())}", flush=True)
         try:
             trials[name]()
         except Fault as fault:

@@ -1,9 +1,11 @@
 #!/usr/bin/env python3
-"""Makes the packages, installs each in a fresh root, runs the example from it, looks at its units, and removes it.
+"""Makes the packages, installs each in a fresh root, runs the example from it, looks at its units,
+and removes it.
 
     PROGRAMS=DIR ROOT=DIR in_root / ./in_package.py [NAME ..]
 
-ROOT is one that make_root made, and is only copied. It needs root's rights, for chroot, and systemd-analyze.
+ROOT is one that make_root made, and is only copied. It needs root's rights, for chroot,
+and systemd-analyze.
 """
 
 import glob
@@ -22,7 +24,8 @@ UNITS = ("bolgrudi-master@main.service", "bolgrudi-worker@w0.service")
 MOST_EXPOSED = 2.0
 ENVIRONMENT = {"PATH": "/usr/sbin:/usr/bin", "LC_ALL": "C"}
 EXAMPLE = "/usr/share/doc/bolgrudi/examples/first-build.toml"
-# Steps that outlast the trial, and then end by themselves: what stays of one that was cancelled is systemd's to end (KillMode).
+# Steps that outlast the trial, and then end by themselves:
+# what stays of one that was cancelled is systemd's to end (KillMode).
 LONG = [["sleep", "15"]]
 BELOW = [["sh", "-c", "echo begun; sleep 16; echo not reached"]]
 
@@ -77,7 +80,8 @@ def same():
 
 
 def debian():
-    """the Debian package, installed in a fresh root, runs the example, and once purged has left no file"""
+    """the Debian package, installed in a fresh root, runs the example,
+    and once purged has left no file"""
     with Packages() as packages:
         before = files(packages.root)
         packages.install()
@@ -96,16 +100,20 @@ def tar():
         packages.runs_the_example()
 
 
+def copy_system_units(folder):
+    """The targets, slices and sockets that units refer to without saying so."""
+    for kind in ("target", "slice", "socket"):
+        for file in glob.glob(f"/usr/lib/systemd/system/*.{kind}"):
+            if not os.path.exists(f"{folder}/{os.path.basename(file)}"):
+                shutil.copy(file, folder)
+
+
 def units():
     """the units are well-formed, and by systemd's own measure little exposed"""
     with Packages() as packages:
         packages.install()
         folder = f"{packages.root}/usr/lib/systemd/system"
-        # the targets, slices and sockets that units refer to without saying so
-        for kind in ("target", "slice", "socket"):
-            for file in glob.glob(f"/usr/lib/systemd/system/*.{kind}"):
-                if not os.path.exists(f"{folder}/{os.path.basename(file)}"):
-                    shutil.copy(file, folder)
+        copy_system_units(folder)
         for unit in UNITS:
             name, _, instance = unit.partition("@")
             shutil.copy(f"{folder}/{name}@.{instance.split('.')[1]}", f"{folder}/{unit}")
@@ -117,7 +125,8 @@ def units():
 
 
 def service():
-    """the master's service cancels a build by its pipe; on SIGTERM all other builds, and it settles the lanes"""
+    """the master's service cancels a build by its pipe; on SIGTERM all other builds,
+    and it settles the lanes"""
     with Packages() as packages:
         packages.install()
         latent = ["buildworker", "{master}", "w0", "secret"]
@@ -170,7 +179,8 @@ def usages():
 
 
 def examples():
-    """the master takes each configuration of the examples, but for addresses that are no machine's here"""
+    """the master takes each configuration of the examples,
+    but for addresses that are no machine's here"""
     with Packages() as packages:
         packages.install()
         folder = f"{packages.root}{os.path.dirname(EXAMPLE)}"
