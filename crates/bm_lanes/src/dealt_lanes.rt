@@ -2,6 +2,7 @@
 
 ghost use Rattle.std.specs.Prelude.{◌≡◌, IfSome, length, map, true};
 ghost use Rattle.bm_session.specs.Trace.{below};
+ghost use Rattle.bm_lanes.specs.Dealt.{AreDealt, DealsToo};
 
 use bm_build_queue::ViewerPool;
 use bm_config::WorkerConfig;
@@ -44,6 +45,7 @@ pub fn deal<Y: Yard, W: Wait + Drop, S: Drop>(
 ) -> Option<DealtLanes<Y, W, S>>
     ensures web_viewers { IfSome result
         (λ lanes. map (λ v. v.lane) lanes.web_viewers.items ≡ below (length lanes.web_viewers.items)) }
+    ensures dealt { IfSome result (λ lanes. AreDealt all.items lanes) }
 {
     let mut lanes = DealtLanes {
         states: Vec::new(alloc),
@@ -64,8 +66,9 @@ pub fn deal<Y: Yard, W: Wait + Drop, S: Drop>(
 impl<Y: Yard, W: Wait + Drop, S: Drop> DealtLanes<Y, W, S> {
     // These lanes, where the web's viewer of each lane stands at its place.
     fn in_order(self) -> Option<DealtLanes<Y, W, S>>
-        ensures { IfSome result
+        ensures web_viewers { IfSome result
             (λ lanes. map (λ v. v.lane) lanes.web_viewers.items ≡ below (length lanes.web_viewers.items)) }
+        ensures same { IfSome result (λ lanes. lanes ≡ self) }
     {
         if is_in_order(self.web_viewers.as_slice()) {
             Some(self)
@@ -75,7 +78,9 @@ impl<Y: Yard, W: Wait + Drop, S: Drop> DealtLanes<Y, W, S> {
     }
 
     // Adds the ends of a lane. The answer is whether that could be done.
-    fn add(&mut self, alloc: Global, resume_ticks: u32, ends: Ends<Y, W>) -> bool {
+    fn add(&mut self, alloc: Global, resume_ticks: u32, ends: Ends<Y, W>) -> bool
+        ensures { result ≡ true → DealsToo ends self.old self.new }
+    {
         let Ends {
             reader,
             writer,
@@ -93,9 +98,15 @@ impl<Y: Yard, W: Wait + Drop, S: Drop> DealtLanes<Y, W, S> {
             return false;
         };
         let state = LaneState::new(alloc, reader, resume_ticks);
-        self.states.push(state).is_ok()
-            && self.writers.push(Mutex::new(writer)).is_ok()
-            && self.pools.push(pool).is_ok()
-            && self.web_viewers.push(viewer).is_ok()
+        if self.states.push(state).is_err() {
+            return false;
+        }
+        if self.writers.push(Mutex::new(writer)).is_err() {
+            return false;
+        }
+        if self.pools.push(pool).is_err() {
+            return false;
+        }
+        self.web_viewers.push(viewer).is_ok()
     }
 }

@@ -4,11 +4,11 @@
 //! [`settle_all`] closes the lanes once every end is back. Nothing here knows threads or
 //! processes.
 //!
-//! Promised: how many viewers a lane is opened with, and that the web's viewers stand in the
-//! lanes' order. A settled lane's logs, and what is told of it, are those of all that was heard.
+//! Promised: how many viewers a lane is opened with, and who has which of its ends, in the lanes'
+//! order. A settled lane's logs, and what is told of it, are those of all that was heard.
 //!
-//! How many of a lane's viewers `deal` gives to the builds has no clause: a body could still give
-//! them fewer.
+//! Of writers' ends `deal` says only how many there are, since they lie under locks: a body could
+//! still give one the place of another.
 #![tactic(auto)]
 
 mod all_ends;
