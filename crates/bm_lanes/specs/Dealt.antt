@@ -1,5 +1,5 @@
--- Who has which end of a lane, once the ends are dealt.
-use Rattle.std.specs.Prelude.{◌≡◌, ◌-◌, List, [], ◌∷◌, ◌++◌, length, map, take, Option, Some, slice_get, vec_capacity}
+-- Who has which end of a lane, once the ends are dealt; and a lane's viewers, once they are back.
+use Rattle.std.specs.Prelude.{◌≡◌, ◌-◌, List, [], ◌∷◌, ◌++◌, length, map, take, Option, Some, None, slice_get, vec_capacity}
 use Rattle.bm_lane.specs.Ends.{Watched}
 use Rattle.bm_lane.specs.declared.blank.Ends.{Ends}
 use Rattle.bm_build_queue.specs.ViewerPool.{PoolState}
@@ -30,3 +30,8 @@ module _ {Y W S : Type 0} where
   -- where the old lanes have some ends, the new ones have these as well
   abbrev pub DealsToo : Ends Y W → DealtLanes Y W S → DealtLanes Y W S → Type 0
   DealsToo e old new = (all : List (Ends Y W)) → AreDealt all old → AreDealt (all ++ e ∷ []) new
+
+-- the viewers of a lane: those of its pool, and then the web's
+abbrev pub given_back : Option PoolState → Option Watched → Option (List Watched)
+given_back (Some pool) (Some viewer) = Some (pool.viewers ++ viewer ∷ [])
+given_back pool viewer = None

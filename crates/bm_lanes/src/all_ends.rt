@@ -1,8 +1,9 @@
 //! The end of all lanes.
-ghost use Rattle.std.specs.Prelude.{◌≡◌, IfOk};
+ghost use Rattle.std.specs.Prelude.{◌≡◌, IfOk, Some};
 ghost use Rattle.bm_session.specs.Trace.{was_taken};
 ghost use Rattle.bm_store.specs.Book.{logs};
 ghost use Rattle.bm_store.specs.Kept.{logs_in};
+ghost use Rattle.bm_lanes.specs.Dealt.{given_back};
 ghost use Rattle.bm_lanes.specs.Totals.{totals, AreTotals};
 
 use bm_build_queue::ViewerPool;
@@ -52,7 +53,9 @@ pub fn settle_lane<Y: Yard, W: Wait + Drop, R: Wait>(
 fn whole<Y: Yard>(
     pool: Option<ViewerPool<Y>>,
     web_viewer: Option<Viewer<Y>>,
-) -> Result<Vec<Viewer<Y>>, SettleError> {
+) -> Result<Vec<Viewer<Y>>, SettleError>
+    ensures { IfOk result (λ viewers. given_back pool web_viewer ≡ Some viewers.items) }
+{
     let (Some(pool), Some(viewer)) = (pool, web_viewer) else {
         return Err(SettleError::Mixed);
     };
