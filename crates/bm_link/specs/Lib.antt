@@ -34,6 +34,7 @@ pub mod Frames
 pub mod Laws
 pub mod LawsOfFaults
 pub mod LawsOfTexts
--- This one only helps proofs, as do definitions of the others that no public contract leads to:
--- what a part of a call does.
+-- This one only helps proofs: what a part of a call does. So do, of the others, `IsLimited`,
+-- `Clears`, `unread_fault`, `is_login`, `IsLogin`, `AdmitsOrFails`, `IsKeptAs`, `ReadsNext`,
+-- `GivesNext`, `HasNumber`, `items_of`, `Hears`, `ReadsMessage`, `HearsMessage` and `Responds`.
 pub mod Steps
