@@ -23,11 +23,13 @@ pub enum ConfigFault {
 }
 
 /// Why a part of a table isn't taken.
-#[derive(Clone, Copy, PartialEq, Eq)]
+#[derive(Clone, Copy, Debug, PartialEq, Eq, Error)]
 pub enum Fault {
     /// The key's value is at fault.
+    #[error("a key is at fault")]
     At(Key),
     /// Memory is wanting.
+    #[error("out of memory")]
     Mem,
 }
 
