@@ -1,6 +1,6 @@
 //! A recorded message of the worker, from hex digits to an event.
 
-ghost use Rattle.std.specs.Prelude.{◌≡◌, ◌⊎◌, ℕ, List, IfOk, IfErr};
+ghost use Rattle.std.specs.Prelude.{◌≡◌, ◌⊎◌, ℕ, List, Ok, IfOk, IfErr};
 ghost use Rattle.bm_replay.specs.Hex.{Write};
 ghost use Rattle.bm_replay.specs.Wire.{HearsRequests};
 ghost use Rattle.bm_replay.specs.declared.incoming.Unread.TheVariants.{Hex, OutOfMemory};
@@ -61,7 +61,10 @@ fn read_hex<A: Allocator + Copy>(alloc: A, text: &[u8]) -> Result<Vec<u8, A>, Un
 
 /// Reads the event that hex digits record. The bytes and the tree of the message lie in the arena,
 /// and are gone when the call returns. What stays is copied out of it.
-pub fn read_event(alloc: Global, arena: &Bump, digits: &[u8]) -> Result<Event, Unread> {
+pub fn read_event(alloc: Global, arena: &Bump, digits: &[u8]) -> Result<Event, Unread>
+    ensures { IfOk result
+        (λ event. (bytes : List ℕ) × Write digits.now bytes × HearsRequests bytes (Ok event)) }
+{
     let bytes = read_hex(arena, digits)?;
     event_of(alloc, arena, bytes.as_slice())
 }
