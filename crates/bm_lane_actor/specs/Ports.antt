@@ -1,7 +1,7 @@
 -- What a build's port to a lane is.
-use Rattle.std.specs.Prelude.{◌≡◌, ℕ, Bool, true, false, not, ◌&&◌, List, [], ◌∷◌, ◌++◌, if◌then◌else◌, Option, Some, None, Result, Ok, Err}
+use Rattle.std.specs.Prelude.{◌≡◌, ◌⊎◌, ℕ, ◌-◌, ◌^◌, Bool, true, false, not, ◌&&◌, List, [], ◌∷◌, ◌++◌, if◌then◌else◌, Option, Some, None, Result, Ok, Err}
 use Rattle.bm_session.specs.declared.results.Results.{Results}
-use Rattle.bm_session.specs.declared.results.Results.TheVariants.{Retry}
+use Rattle.bm_session.specs.declared.results.Results.TheVariants.{Retry, Exception, Cancelled}
 use Rattle.bm_operator.specs.declared.reasons.StartRefusal.{StartRefusal}
 use Rattle.bm_operator.specs.declared.reasons.StartRefusal.TheVariants as why
 use Rattle.bm_lane_actor.specs.declared.order_outcome.OrderOutcome.{OrderOutcome}
@@ -15,11 +15,13 @@ use Rattle.bm_runner.specs.Port.{first_entry}
 use Rattle.bm_lines.specs.Names.{stdio}
 use Rattle.bm_lane.specs.Ends.{Watched}
 use Rattle.bm_lane.specs.Looks.{GivesState}
+use Rattle.bm_lane_actor.specs.StepMeter.{MeterView, fresh, is_given_up, meter_after, outcome_of}
 
--- what its viewer has seen of the lane, an entry for each command that it started, and whether a
--- start was refused
+-- What its viewer has seen of the lane, and the limits of the last step that was started. Then an
+-- entry for each command that it started, and whether a start was refused.
 pub record PortView : Type 0 where
   pub viewer : Watched
+  pub meter : MeterView
   pub told : List Told
   pub refused : Bool
 
@@ -51,16 +53,48 @@ start_refusal outcome.Full = why.Full
 start_refusal outcome.TooLong = why.TooLong
 start_refusal _ = why.Lost
 
--- a command was started and has its entry; or none was
-abbrev pub Begins : PortView → Result ℕ StartRefusal → PortView → Type 0
-Begins old (Ok k) new =
+-- a command of a step with these limits was started and has its entry; or none was
+abbrev pub Begins : PortView → MeterView → Result ℕ StartRefusal → PortView → Type 0
+Begins old limits (Ok k) new =
     (new.told ≡ old.told ++ first_entry k ∷ []) × (new.refused ≡ old.refused)
-    × (new.viewer ≡ old.viewer)
-Begins old (Err e) new = new ≡ old
+    × (new.viewer ≡ old.viewer) × (new.meter ≡ limits)
+Begins old limits (Err e) new = new ≡ old
 
 -- the viewer looks for the state of the log of command k
 abbrev pub Looks : PortView → ℕ → Polled → PortView → Type 0
 Looks old k said new =
     (state : Result LogState ViewRefusal) × (cancelled : Bool)
     × GivesState old.viewer new.viewer k stdio state
-    × (said ≡ polled cancelled state) × (new.told ≡ old.told) × (new.refused ≡ old.refused)
+    × (said ≡ polled cancelled state) × (new.meter ≡ old.meter) × (new.told ≡ old.told)
+    × (new.refused ≡ old.refused)
+
+-- What its step's limits make of how a command is seen to do, whose updates have carried so many
+-- bytes. One that has reached a limit ends EXCEPTION, also where its end is awaited for too long.
+abbrev pub at_limits : MeterView → ℕ → Polled → Polled
+at_limits m bytes (Ended result) = Ended (outcome_of m result)
+at_limits m bytes seen = if is_given_up (meter_after m bytes) then Ended Exception else seen
+
+-- a tick of its step is over, but for one that has ended
+abbrev pub ticked : MeterView → ℕ → Polled → MeterView
+ticked m bytes (Ended result) = m
+ticked m bytes seen = meter_after m bytes
+
+abbrev pub with_meter : PortView → MeterView → PortView
+with_meter p m =
+    record { viewer = p.viewer; meter = m; told = p.told; refused = p.refused }
+
+-- how a command does, by the state of its own log and by its step's limits
+abbrev pub Sees : PortView → ℕ → Polled → PortView → Type 0
+Sees old k said new =
+    (seen : Polled) × (bytes : ℕ) × (between : PortView)
+    × Looks old k seen between × (said ≡ at_limits old.meter bytes seen)
+    × (new ≡ with_meter between (ticked old.meter bytes seen))
+
+-- the number of no command
+abbrev pub no_command : ℕ
+no_command = 2 ^ 64 - 1
+
+-- what a build is told of its command; of none, that it was cancelled
+abbrev pub Polls : PortView → ℕ → Polled → Type 0
+Polls old k said =
+    ((k ≡ no_command) × (said ≡ Ended Cancelled)) ⊎ ((new : PortView) × Sees old k said new)

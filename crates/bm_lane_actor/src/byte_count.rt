@@ -1,8 +1,9 @@
 //! How many bytes the updates of commands carried.
 
-ghost use Rattle.std.specs.Prelude.{◌≡◌, ◌+◌, ◌-◌, ◌^◌, fold, min, length};
+ghost use Rattle.std.specs.Prelude.{◌≡◌, ◌+◌, ◌-◌, ◌^◌, ◌++◌, ◌∷◌, [], ◌==◌, filter, fold, min, length, nat_lt, not, OnOk, OnErr};
 ghost use Rattle.bm_lines.specs.Lines.{content_of};
 ghost use Rattle.bm_lane_actor.specs.ByteCount.{carried};
+ghost use Rattle.bm_lane_actor.specs.declared.byte_count.CountedCommand.{CountedCommand};
 
 use bm_lines::LogLines;
 use bm_session::{Body, Event};
@@ -46,34 +47,46 @@ fn add_bytes(sum: u64, bytes: u64) -> u64
 
 impl ByteCounts {
     /// No command.
-    pub fn new(alloc: Global) -> ByteCounts {
+    pub fn new(alloc: Global) -> ByteCounts
+        ensures { result.commands.items ≡ [] }
+    {
         ByteCounts {
             commands: Vec::new(alloc),
         }
     }
 
     /// Whether there is no such command.
-    pub fn is_empty(&self) -> bool {
+    pub fn is_empty(&self) -> bool
+        ensures { result ≡ not (nat_lt 0 (length self.now.commands.items)) }
+    {
         self.commands.is_empty()
     }
 
     /// Makes room for one command more. Want of memory changes nothing.
-    pub fn reserve(&mut self) -> Result<(), AllocError> {
+    pub fn reserve(&mut self) -> Result<(), AllocError>
+        ensures { self.new.commands.items ≡ self.old.commands.items }
+    {
         self.commands.reserve(1)
     }
 
     /// A command was started, whose build asks by this count.
-    pub fn begin(&mut self, command: u64, bytes: ByteCount) -> Result<(), AllocError> {
-        self.commands.push(CountedCommand { command, bytes })?;
-        Ok(())
+    pub fn begin(&mut self, command: u64, bytes: ByteCount) -> Result<(), AllocError>
+        ensures ok { OnOk result (self.new.commands.items
+            ≡ self.old.commands.items ++ record { command = command; bytes = bytes } ∷ []) }
+        ensures err { OnErr result (self.new.commands.items ≡ self.old.commands.items) }
+    {
+        match self.commands.push(CountedCommand { command, bytes }) {
+            Ok(()) => Ok(()),
+            Err(_) => Err(AllocError),
+        }
     }
 
     /// The build of a command asks no more.
-    pub fn end(&mut self, command: u64) {
-        let place = self.commands.iter().position(|one| one.command == command);
-        if let Some(place) = place {
-            drop(self.commands.swap_remove(place));
-        }
+    pub fn end(&mut self, command: u64)
+        ensures { self.new.commands.items
+            ≡ filter (λ (c : CountedCommand). not (command == c.command)) self.old.commands.items }
+    {
+        self.commands.retain(|counted| command != counted.command);
     }
 
     /// The worker said this.

@@ -65,7 +65,11 @@ fn try_interrupt<S: Drop, R: Wait + Clock>(
 
 /// Waits until the actor has told all that happened to the lane so far, or has left. Where memory
 /// is wanting the actor is given a tick for it.
-pub(crate) fn settle<S: Drop, R: Wait + Clock>(rt: &R, alloc: Global, handle: &LaneHandle<S>) {
+pub(crate) fn wait_until_told<S: Drop, R: Wait + Clock>(
+    rt: &R,
+    alloc: Global,
+    handle: &LaneHandle<S>,
+) {
     let Ok((answer, answers)) = bounded(alloc, 1) else {
         thread::sleep(rt, Duration::from_millis(TICK_MS));
         return;

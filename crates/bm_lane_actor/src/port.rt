@@ -1,13 +1,16 @@
 //! A build's port to its worker's lane: it sends requests by the lane's handle, and looks through a
 //! viewer of its own.
 
-ghost use Rattle.std.specs.Prelude.{◌≡◌, ◌≤◌, ◌++◌, false, codes, length, IfSome};
-ghost use Rattle.bm_lane_actor.specs.Ports.{Begins, Looks, is_lost, polled};
+ghost use Rattle.std.specs.Prelude.{◌≡◌, ◌≤◌, ◌++◌, ◌∷◌, [], List, false, codes, length, IfSome};
+ghost use Rattle.bm_runner.specs.declared.port.Told.{Told};
+ghost use Rattle.bm_runner.specs.Port.{IsAsking, asked};
+ghost use Rattle.bm_lane_actor.specs.Ports.{Begins, Looks, Polls, Sees, at_limits, is_lost, polled, ticked, with_meter};
+ghost use Rattle.bm_lane_actor.specs.StepMeter.{fresh};
 
 use crate::byte_count::ByteCount;
 use crate::lane_request::LaneRequest;
 use crate::mailbox::LaneHandle;
-use crate::orders::{interrupt, is_left_out, settle, start};
+use crate::orders::{interrupt, is_left_out, start, wait_until_told};
 use crate::step_meter::StepMeter;
 use bm_board::StepPlan;
 use bm_lane::{Viewer, Yard};
@@ -75,7 +78,12 @@ impl<'a, Y: Yard, S, R, W> Model for LanePort<'a, Y, S, R, W> {
 
     ghost Value = { PortView };
 
-    ghost view = { λ p. record { viewer = p.viewer; told = p.entries.told; refused = p.refused } };
+    ghost view = { λ p. record {
+      viewer = p.viewer;
+      meter = p.meter;
+      told = p.entries.told;
+      refused = p.refused;
+    } };
 
     ghost invariant = { λ p. p.viewer.lane ≡ p.handle };
 }
@@ -170,20 +178,25 @@ impl<'a, Y: Yard, S: Drop, R: Wait + Clock, W: Watch + Drop> Port for LanePort<'
         None
     }
 
-    fn poll(&mut self, k: u64) -> Polled {
+    fn poll(&mut self, k: u64) -> Polled
+        requires { IsAsking self.old.told k }
+        ensures told { (before : List Told) (entry : Told) → self.old.told ≡ before ++ entry ∷ []
+            → self.new.told ≡ before ++ asked entry result ∷ [] }
+        ensures refused { self.new.refused ≡ self.old.refused }
+        ensures answer { Polls self.old k result }
+    {
         if k == NO_COMMAND {
             let said = Polled::Ended(Results::Cancelled);
             self.entries.note(k, said);
             return said;
         }
         thread::sleep(self.rt, Duration::from_millis(TICK_MS));
-        let seen = self.look(k);
-        let said = self.limited(k, seen);
+        let said = self.see(k);
         self.entries.note(k, said);
         if let Polled::Ended(outcome) = said {
             self.handle.tell(self.rt, LaneRequest::Seen(k));
             if is_lost(outcome) {
-                settle(self.rt, self.alloc, &self.handle);
+                wait_until_told(self.rt, self.alloc, &self.handle);
             }
             let said = self.said(k, outcome);
             self.watch.ended(k, outcome, said);
@@ -204,7 +217,7 @@ impl<'a, Y: Yard, S: Drop, R: Wait + Clock, W: Watch + Drop> LanePort<'a, Y, S, 
     ///
     /// Why it isn't started; nothing has changed then.
     fn begin(&mut self, step: &StepPlan) -> Result<u64, StartRefusal>
-        ensures { Begins self.old result self.new }
+        ensures { Begins self.old (fresh step.now.max_bytes step.now.timeout_ticks) result self.new }
     {
         if self.entries.reserve().is_err() {
             return Err(StartRefusal::Memory);
@@ -233,6 +246,23 @@ impl<'a, Y: Yard, S: Drop, R: Wait + Clock, W: Watch + Drop> LanePort<'a, Y, S, 
         Ok(command)
     }
 
+    // How the command does, by what the viewer sees and by the limits of its step.
+    fn see(&mut self, k: u64) -> Polled
+        ensures { Sees self.old k result self.new }
+    {
+        let seen = self.look(k);
+        let bytes = self.carried();
+        self.limited(k, seen, bytes)
+    }
+
+    // How many bytes the updates of its command have carried.
+    fn carried(&self) -> u64 {
+        match &self.bytes {
+            Some(bytes) => bytes.load(Ordering::SeqCst),
+            None => 0,
+        }
+    }
+
     /// How the command does, by what the viewer sees.
     fn look(&mut self, k: u64) -> Polled
         ensures { Looks self.old k result self.new }
@@ -259,18 +289,16 @@ impl<'a, Y: Yard, S: Drop, R: Wait + Clock, W: Watch + Drop> LanePort<'a, Y, S, 
         }
     }
 
-    /// What is to be said of a command that was seen so, a tick later. Where it has reached a
-    /// limit of its step it is interrupted, and its end is waited for, but not for ever.
-    fn limited(&mut self, k: u64, seen: Polled) -> Polled
-        ensures { self.new ≡ self.old }
+    /// What is to be said of a command that was seen so, a tick later, when its updates have
+    /// carried so many bytes. Where it has reached a limit of its step it is interrupted, and its
+    /// end is waited for, but not for ever.
+    fn limited(&mut self, k: u64, seen: Polled, bytes: u64) -> Polled
+        ensures said { result ≡ at_limits self.old.meter bytes seen }
+        ensures meter { self.new ≡ with_meter self.old (ticked self.old.meter bytes seen) }
     {
         if let Polled::Ended(outcome) = seen {
             return Polled::Ended(self.meter.outcome(outcome));
         }
-        let bytes = match &self.bytes {
-            Some(bytes) => bytes.load(Ordering::SeqCst),
-            None => 0,
-        };
         if let Some(limit) = self.meter.tick(bytes) {
             self.watch.stopped(k, limit);
             interrupt(self.rt, self.alloc, &self.handle, k);

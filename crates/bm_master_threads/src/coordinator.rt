@@ -22,6 +22,9 @@ use std::time::{Clock, Duration, Instant};
 /// How many refused connections are told one by one in a second.
 const MOST_REFUSALS: u32 = 10;
 
+/// How long refused connections that are not told one by one are counted, before they are told.
+const COUNTED_SECONDS: u64 = 1;
+
 /// What the coordinator's thread owns from its start on.
 #[derive(Drop)]
 pub struct CoordinatorOwned<Y: Yard, O> {
@@ -123,7 +126,7 @@ where
         } else if self.is_timed() {
             events.wait_for(rt, Duration::from_millis(TICK_MS))
         } else if self.refusals.is_left_out() {
-            events.wait_for(rt, Duration::from_secs(1))
+            events.wait_for(rt, Duration::from_secs(COUNTED_SECONDS))
         } else {
             events.wait(rt)
         }

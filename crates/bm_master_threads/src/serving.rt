@@ -33,9 +33,10 @@ fn refuse<F: Write>(faults: &mut F, key: &str) -> u8 {
 /// after a failed write to `output`, want of memory and where no thread could be started. Where it
 /// can't be written where the master listens, no build is run.
 ///
-/// A line `cancel I` of the input cancels build I. On `output` stand `listening ADDR ADDR` (for
-/// workers, for the web), once every build is over `build I RESULT` for each, and at the end `lane
-/// NAME COMMANDS LINES` for each worker. On `faults` stand remarks for an operator.
+/// A line `cancel I` of the input cancels build I. On `output` stands `listening ADDR ADDR` first,
+/// for workers and for the web. Once every build is over, `build I RESULT` stands there for each. At
+/// the end it is `lane NAME COMMANDS LINES` for each worker. On `faults` stand remarks for an
+/// operator.
 pub fn serve<R, I, O, F>(rt: &R, config: Config, input: I, output: O, faults: F) -> u8
 where
     R: MasterHost + 'static,

@@ -23,7 +23,7 @@ pub enum OutputLine<'a> {
         result: Results,
     },
     /// A worker's lane had so many commands, and so many lines in their logs: `lane NAME COMMANDS
-    /// LINES`, with the name as the configuration has it.
+    /// LINES`. The name stands as the configuration has it.
     Lane {
         name: &'a str,
         commands: u64,

@@ -3,6 +3,7 @@
 ghost use Rattle.std.specs.Prelude.{◌↔◌, ◌∷◌, [], IfSome, IsTrue};
 ghost use Rattle.bm_link.specs.Texts.{AreShort};
 
+use bm_decimal::read_number;
 use std::alloc::{AllocError, AllocGlobal};
 use std::rt::Env;
 use std::{env, io};
@@ -60,12 +61,9 @@ fn is_address(address: &str) -> bool {
 
 /// Whether the text is a number from 1 to 65,535, written by decimal digits alone.
 fn is_port(text: &str) -> bool {
-    if !text.as_bytes().iter().all(|byte| byte.is_ascii_digit()) {
-        return false;
-    }
-    match text.parse::<u16>() {
-        Ok(port) => port > 0,
-        Err(_) => false,
+    match read_number(text) {
+        Some(port) => port > 0 && port <= u64::from(u16::MAX),
+        None => false,
     }
 }
 
