@@ -1,6 +1,6 @@
 //! The mailbox of a lane's actor: the requests that wait in it, and the signals beside them.
 
-ghost use Rattle.std.specs.Prelude.{◌≡◌, IfOk, IfSome};
+ghost use Rattle.std.specs.Prelude.{◌≡◌, ◌==◌, false, All, IfOk, IfSome, IfNone};
 ghost use Rattle.bm_session.specs.Trace.{below};
 
 use crate::lane_request::{LaneRequest, LaneSignal};
@@ -140,7 +140,8 @@ pub fn open_mailboxes<S: Drop>(alloc: Global, lanes: usize) -> Result<Mailboxes<
 
 /// The handle of the lane of this number. None where there is none.
 pub fn handle_of<S: Drop>(handles: &[LaneHandle<S>], lane: usize) -> Option<&LaneHandle<S>>
-    ensures { IfSome result (λ handle. handle.now ≡ lane) }
+    ensures found { IfSome result (λ handle. handle.now ≡ lane) }
+    ensures none { IfNone result (All (λ handle. (handle == lane) ≡ false) handles.now) }
 {
     handles.iter().find(|handle| handle.lane() == lane as u64)
 }
