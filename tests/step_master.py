@@ -15,7 +15,8 @@ import wire
 HERE = os.path.dirname(os.path.abspath(__file__))
 PROGRAMS = os.environ.get("PROGRAMS", os.path.join(HERE, "..", "dist"))
 MASTER, WORKER = os.path.join(PROGRAMS, "buildmaster"), os.path.join(PROGRAMS, "buildworker")
-MOST_SECONDS = 20
+# A bound for a hang: nothing that is waited for takes as long.
+MOST_SECONDS = 60
 LISTEN = 'listen = "127.0.0.1:0"\nweb = "127.0.0.1:0"\n'
 
 
