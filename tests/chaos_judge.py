@@ -8,14 +8,9 @@ from chaos_builds import WORKERS
 from chaos_parts import FIGURES, IS_LONG, LINES, fault
 
 LETTERS = {numbered_lines.OUTPUT: "o", numbered_lines.ERRORS: "e"}
-# The end of a short command is told soon beside a noisy one, which is the promise itself. So many
-# seconds are its own two, and what is on its way on the narrow link. The others are as long as the
-# master is stopped or its standard error is left unread. Where a busy machine makes the link
-# narrower, it is a third of what the noisy one takes.
-MOST_SECONDS = 2 + 5 + 4
-# A step ends after the cancel of its build, where its worker isn't cut meanwhile: so many seconds
-# are a bound for a hang. A silent command would take more than an hour.
-SECONDS_TO_CANCEL = 30
+# A bound for a hang, of a short command beside a noisy one and of a step whose build was cancelled.
+# How long the slowest of each took is a figure. A silent command would take more than an hour.
+HANG_SECONDS = 120
 # How often each thing has to happen at least, in a run of 30,000 lines and in one of 500,000.
 LEAST = {
     "cuts": (8, 80),
@@ -118,18 +113,29 @@ def compare_build(builds, number, steps):
     FIGURES["steps that a cancel between steps " + ("interrupted" if len(results) > 1 else "kept from a start")] += 1
 
 
+def keep_slowest(what, took):
+    """Keeps the slowest of a kind as a figure."""
+    name = f"milliseconds of the slowest {what}"
+    FIGURES[name] = max(FIGURES[name], int(1_000 * took))
+
+
 def compare_cancels(builds):
     """No step goes on after the cancel of its build, where nothing came between."""
     for step in builds.steps.values():
         if step.build not in builds.cancels or step.over is None:
             continue
         told, between = builds.cancels[step.build]
-        if step.over > told + SECONDS_TO_CANCEL and step.between == between:
-            fault(f"log {step.log} ended {step.result} {step.over - told:.1f} s after the cancel of build {step.build}")
+        if step.between != between:
+            continue
+        took = step.over - told
+        keep_slowest("cancel", took)
+        if took > HANG_SECONDS:
+            fault(f"log {step.log} ended {step.result} {took:.1f} s after the cancel of build {step.build}")
 
 
 def compare_shorts(builds):
-    """The end of a short command doesn't wait for a noisy one."""
+    """The end of a short command doesn't wait for a noisy one: those that run at once make room for
+    the next ones, so that many begin beside it (LEAST)."""
     (noisy,) = builds.of_kind("noisy")
     if noisy.over is None or noisy.began is None:
         return
@@ -138,8 +144,8 @@ def compare_shorts(builds):
             continue
         FIGURES["short commands beside a noisy one"] += 1
         took = step.over - step.began
-        FIGURES["milliseconds of the slowest short command"] = max(FIGURES["milliseconds of the slowest short command"], int(1_000 * took))
-        if took > max(MOST_SECONDS, (noisy.over - noisy.began) / 3):
+        keep_slowest("short command", took)
+        if took > HANG_SECONDS:
             fault(f"the end of {step.name} was told after {took:.1f} s beside a noisy command of {noisy.over - noisy.began:.1f} s")
 
 
