@@ -24,10 +24,7 @@ pub fn begin(
     ensures { Begins resumed worker.old outbox.old result worker.new outbox.new }
 {
     if resumed {
-        return match worker.resend() {
-            Ok(requests) => Ok(requests),
-            Err(error) => Err(error),
-        };
+        return worker.resend();
     }
     worker.lost();
     outbox.clear();
