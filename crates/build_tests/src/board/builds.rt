@@ -14,6 +14,12 @@ pub const EXCLUSIVE: LockUse = LockUse {
     mode: Mode::Exclusive,
 };
 
+/// A use of a lock that no board of these tests has, since they have one at most.
+pub const NOT_THERE: LockUse = LockUse {
+    lock: 1,
+    mode: Mode::Counting,
+};
+
 /// A step's name, its words, and whether it halts or fails its build by a failure and always runs.
 pub type Plan = (&'static str, &'static [&'static str], bool, bool, bool);
 

@@ -2,7 +2,7 @@
 
 ghost use Rattle.std.specs.Prelude.{◌≤◌, All};
 
-use super::builds::{COUNTING, EXCLUSIVE, PLAIN, Plan, make_build};
+use super::builds::{COUNTING, EXCLUSIVE, NOT_THERE, PLAIN, Plan, make_build};
 use bm_board::*;
 use bm_session::Results;
 use std::alloc::{AllocError, Global};
@@ -222,7 +222,7 @@ fn locks_and_slots_are_held_from_start_to_release(rt: HostRuntime) -> Result<(),
 
 #[test]
 fn builds_are_cancelled_and_given_up(rt: HostRuntime) -> Result<(), Fail> {
-    static ROWS: [Row; 18] = [
+    static ROWS: [Row; 19] = [
         (Ready(0, true), Nothing),
         (Add(0, &[], &[PLAIN]), Added(0)),
         (Add(0, &[], &[PLAIN]), Added(1)),
@@ -242,6 +242,10 @@ fn builds_are_cancelled_and_given_up(rt: HostRuntime) -> Result<(), Fail> {
         (Start(2), Refused(BoardRefusal::NotWaiting)),
         (
             Add(0, &[COUNTING, EXCLUSIVE], &[PLAIN]),
+            Refused(BoardRefusal::BadLock),
+        ),
+        (
+            Add(0, &[NOT_THERE], &[PLAIN]),
             Refused(BoardRefusal::BadLock),
         ),
         (Release(1), Nothing),

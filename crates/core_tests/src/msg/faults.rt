@@ -6,7 +6,7 @@ use bm_value::{Value, decode_whole};
 use std::alloc::{AllocError, Global};
 
 /// Values that are no message, and why.
-const NO_MESSAGES: [(&[u8], MsgError); 21] = [
+const NO_MESSAGES: [(&[u8], MsgError); 27] = [
     (b"\x91\xc0", MsgError::NotMap),
     (b"\x80", MsgError::NoSeq),
     (b"\x81\xaaseq_number\xff", MsgError::NoSeq),
@@ -72,6 +72,31 @@ const NO_MESSAGES: [(&[u8], MsgError); 21] = [
     (
         b"\x84\xaaseq_number\x00\xa2op\xadstart_command\xaacommand_id\xa10\xaccommand_name\xa5shell",
         MsgError::BadArgs(0),
+    ),
+    // Keys that are missing or of another kind, of each further message that has some.
+    (
+        b"\x85\xaaseq_number\x05\xa2op\xadstart_command\xaacommand_id\xa10\xaccommand_name\xc0\xa4args\xc0",
+        MsgError::BadArgs(5),
+    ),
+    (
+        b"\x83\xaaseq_number\x05\xa2op\xb1interrupt_command\xaacommand_id\xa10",
+        MsgError::BadArgs(5),
+    ),
+    (
+        b"\x84\xaaseq_number\x05\xa2op\xb1interrupt_command\xaacommand_id\xa10\xa3why\x01",
+        MsgError::BadArgs(5),
+    ),
+    (
+        b"\x83\xaaseq_number\x05\xa2op\xa5print\xa7message\xc4\x02hi",
+        MsgError::BadArgs(5),
+    ),
+    (
+        b"\x83\xaaseq_number\x05\xa2op\xa4auth\xa8username\xa2w0",
+        MsgError::BadArgs(5),
+    ),
+    (
+        b"\x84\xaaseq_number\x05\xa2op\xa4auth\xa8username\xc0\xa8password\xa1p",
+        MsgError::BadArgs(5),
     ),
 ];
 

@@ -6,7 +6,7 @@ use super::{
 };
 
 /// Messages in their written forms.
-const WRITTEN: [&[u8]; 14] = [
+const WRITTEN: [&[u8]; 15] = [
     UPDATE_ZERO,
     COMPLETE_ONE,
     RESPONSE_ZERO,
@@ -21,6 +21,8 @@ const WRITTEN: [&[u8]; 14] = [
     b"\x84\xaaseq_number\x02\xa2op\xb1interrupt_command\xaacommand_id\xb39223372036854775807\xa3why\xa4stop",
     b"\x84\xaaseq_number\x01\xa2op\xa8complete\xaacommand_id\xa210\xa4args\xaccannot start",
     b"\x82\xaaseq_number\x06\xa2op\xa6upload",
+    // A session of 64 bytes, the most that one may have.
+    b"\x85\xaaseq_number\x00\xa2op\xa4auth\xa8username\xa2w0\xa8password\xa1p\xa7session\xd9\x40ssssssssssssssssssssssssssssssssssssssssssssssssssssssssssssssss",
 ];
 
 #[test]
@@ -31,7 +33,7 @@ fn written_forms_are_read_and_written_back(rt: HostRuntime) {
 }
 
 /// Messages in other spellings, and their written forms.
-const OTHER_SPELLINGS: [(&[u8], &[u8]); 9] = [
+const OTHER_SPELLINGS: [(&[u8], &[u8]); 10] = [
     // The first of a list of line ends counts.
     (
         UPDATE_WITH_A_FLOAT,
@@ -52,13 +54,17 @@ const OTHER_SPELLINGS: [(&[u8], &[u8]); 9] = [
         b"\x85\xa1x\xc0\xaaseq_number\x05\xa2op\xa5print\xaaseq_number\x06\xa2op\xa8shutdown",
         b"\x82\xaaseq_number\x06\xa2op\xa8shutdown",
     ),
-    // A session that is no str is none.
+    // A session that is no str, or of no byte or more than 64, is none.
     (
         b"\x85\xaaseq_number\x00\xa2op\xa4auth\xa8username\xa2w0\xa8password\xa1p\xa7session\x01",
         AUTH_ZERO,
     ),
     (
         b"\x85\xaaseq_number\x00\xa2op\xa4auth\xa8username\xa2w0\xa8password\xa1p\xa7session\xa0",
+        AUTH_ZERO,
+    ),
+    (
+        b"\x85\xaaseq_number\x00\xa2op\xa4auth\xa8username\xa2w0\xa8password\xa1p\xa7session\xd9\x41sssssssssssssssssssssssssssssssssssssssssssssssssssssssssssssssss",
         AUTH_ZERO,
     ),
     // A missing result is nil; is_exception counts only where it is true.
