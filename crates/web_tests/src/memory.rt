@@ -5,6 +5,8 @@ use crate::lanes::shown;
 use crate::rows::{Row, SOME, WIRE};
 use bm_http::Routes;
 use bm_lane::{Blank, Viewer, Yard, open};
+use bm_lines::STDIO;
+use bm_session::Results;
 use std::alloc::{AllocGlobal, Global};
 use std::marker::Brand;
 use std::sync::Wait;
@@ -17,7 +19,8 @@ const TRIES: u32 = 2;
 #[derive(Clone, Copy, PartialEq)]
 enum Outcome {
     AtOnce,
-    /// First it was unavailable, with an empty body; and then as the row says.
+    /// First it was unavailable, with an empty body; and then as the row says. What is seen of the
+    /// lane didn't change.
     AtLast,
     /// Otherwise.
     Wrongly,
@@ -31,6 +34,43 @@ impl Outcome {
             (Outcome::Wrongly, _) | (_, Outcome::Wrongly) => Outcome::Wrongly,
             _ => Outcome::AtLast,
         }
+    }
+}
+
+/// How many lines a log has, and how it ended.
+type State = (u64, Option<Results>);
+
+/// What is seen of the first viewer's lane without memory: the logs of its two commands, and how
+/// many items the viewer has seen then.
+#[derive(Clone, Copy, PartialEq)]
+struct Look {
+    states: [Option<State>; 3],
+    count: u64,
+}
+
+fn state_of<Y: Yard>(viewer: &mut Viewer<Y>, command: u64, name: &str) -> Option<State> {
+    match viewer.state(command, name) {
+        Ok(state) => Some((state.lines, state.ended)),
+        Err(_) => None,
+    }
+}
+
+fn look_by<Y: Yard>(viewer: &mut Viewer<Y>) -> Look {
+    let states = [
+        state_of(viewer, 0, STDIO),
+        state_of(viewer, 1, STDIO),
+        state_of(viewer, 1, "a b"),
+    ];
+    Look {
+        states,
+        count: viewer.count(),
+    }
+}
+
+fn look_at<Y: Yard>(viewers: &mut [Viewer<Y>]) -> Option<Look> {
+    match viewers.first_mut() {
+        Some(viewer) => Some(look_by(viewer)),
+        None => None,
     }
 }
 
@@ -58,7 +98,12 @@ fn outcome_of<Y: Yard>(
 ) -> Outcome
     requires { 0 < length viewers.old }
 {
-    match tried(routes, alloc, viewers, row) {
+    let before = look_at(viewers);
+    let first = tried(routes, alloc, viewers, row);
+    if look_at(viewers) != before {
+        return Outcome::Wrongly;
+    }
+    match first {
         Some(true) => Outcome::AtOnce,
         None if tried(routes, alloc, viewers, row) == Some(true) => Outcome::AtLast,
         _ => Outcome::Wrongly,

@@ -10,6 +10,12 @@ use tokio::sync::oneshot;
 /// How many connections the server has open at most.
 pub const PLACES: usize = 40;
 
+/// Half a head.
+const HALF: &str = "GET /";
+
+/// How often a request is said in two parts at most.
+const TRIES: u32 = 10;
+
 /// How many bytes a slow client says at most.
 const MOST_BYTES: u32 = 300;
 
@@ -145,11 +151,40 @@ impl<R: Net<Stream = TcpStream> + Clock + AllocGlobal + Copy> Client<R> {
     }
 
     // One that says a byte now and then, and one that has asked and is idle, are cut off. Others
-    // are answered meanwhile.
+    // are answered meanwhile, and so is one that says half a head, and the rest in time.
     fn slow(self) -> bool {
         match self.connect() {
-            Ok(idle) => self.asks(&idle) && self.slow_beside(&idle),
+            Ok(idle) => self.asks(&idle) && self.in_time() && self.slow_beside(&idle),
             Err(_) => false,
+        }
+    }
+
+    // Whether a request in two parts is answered. Where a part was held up for so long that the
+    // server ended its connection, it is tried again.
+    fn in_time(self) -> bool {
+        for _ in 0..TRIES {
+            if self.is_in_time() {
+                return true;
+            }
+        }
+        false
+    }
+
+    fn is_in_time(self) -> bool {
+        match (self.half(), self.words_for_lines(true)) {
+            (Some(half), Ok(words)) => self.is_completed(&half, &words),
+            _ => false,
+        }
+    }
+
+    // Whether the rest of the request is answered on a connection that has said half a head. An
+    // answer to another one gives the server time to read that half before.
+    fn is_completed(self, half: &TcpStream, words: &str) -> bool {
+        match words.strip_prefix(HALF) {
+            Some(rest) => {
+                self.is_answered(&LINES) && says(half, rest) && self.ends_with(half, LINES.2.1)
+            }
+            None => false,
         }
     }
 
@@ -270,7 +305,7 @@ impl<R: Net<Stream = TcpStream> + Clock + AllocGlobal + Copy> Client<R> {
     // A connection that has said half a head.
     fn half(self) -> Option<TcpStream> {
         let stream = self.connect().ok()?;
-        says(&stream, "GET /").then_some(stream)
+        says(&stream, HALF).then_some(stream)
     }
 
     /// Says half a head, pays the visit beside that, and tells the server to stop.

@@ -49,7 +49,7 @@ const WANTING: Answer = Answer::Fault(LinkFault::Lane(HearRefusal::Session(Refus
 
 impl Links {
     /// The answer to a call. One that has changed nothing for want of memory is made again.
-    fn answer<Y: Yard, R: Wait>(
+    pub fn answer<Y: Yard, R: Wait>(
         &mut self,
         rt: &R,
         reader: &mut ReaderEnd<Y>,
@@ -213,15 +213,23 @@ fn an_end_is_told_once(rt: HostRuntime) {
     }
 }
 
+/// Whether a refused request for memory came to be seen, where each answer was right. Where there
+/// was none for the test itself, it has.
+pub(crate) fn refused_right(watch: Option<Watch>) -> Option<bool> {
+    match watch {
+        Some(_) => ended_right(watch),
+        None => Some(true),
+    }
+}
+
 /// Whether the script is played to its end. Where a request for memory is refused, what came before
 /// it is right, and nothing but a Down comes after it. Then the script is played once more.
 fn is_played_or_ended<R: Wait + Abort>(rt: &R, alloc: Global) -> bool {
-    let watch = watched(rt, alloc, false, End::Refused);
-    let (is_right, is_played) = match watch {
-        Some(watch) => (watch.is_right, !watch.has_ended),
-        None => (true, false),
-    };
-    is_right && (is_played || ended_right(watched(rt, alloc, false, End::Refused)) == Some(false))
+    match refused_right(watched(rt, alloc, false, End::Refused)) {
+        Some(true) => ended_right(watched(rt, alloc, false, End::Whole)) == Some(false),
+        Some(false) => true,
+        None => false,
+    }
 }
 
 #[test]

@@ -5,6 +5,8 @@
 //! told here: an event is taken, and answered as the protocol has it. Any other message is a bad
 //! one. After it the lane is down, and its log is as it was.
 
+pub(crate) mod verdicts;
+
 use super::calls::{Answer, BAD, Call, HEARD, NOTED};
 use super::lengths::binary;
 use super::linked_lane::{LinkedLane, Outcome, Trial, tried};

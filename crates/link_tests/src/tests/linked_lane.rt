@@ -3,6 +3,7 @@ ghost use Rattle.std.specs.Prelude.{◌≡◌, ◌<◌, ◌≤◌};
 
 use super::calls::{Answer, Call};
 use super::hostile::Came;
+use super::hostile::verdicts::Verdict;
 use super::lengths::Long;
 use super::links::{Links, goes_down};
 use super::resumed::Case;
@@ -203,6 +204,8 @@ impl<Y: Yard, W: Wait + Drop> LinkedLane<Y, W> {
         match trial {
             Trial::Plays(rows) => Outcome::Played(self.plays(rt, rows)),
             Trial::Ends(end) => Outcome::Seen(self.ends(rt, end)),
+            Trial::Outlives(end) => Outcome::Seen(self.outlives(rt, end)),
+            Trial::Tells(bytes, verdict) => Outcome::Played(self.tells(rt, alloc, bytes, verdict)),
             Trial::Goes(case) => Outcome::Seen(self.goes_through(rt, alloc, case)),
             Trial::Comes(bytes) => Outcome::Came(self.comes(rt, alloc, bytes)),
         }
@@ -216,6 +219,10 @@ pub(crate) enum Trial<'a> {
     Plays(&'a [Row]),
     /// The stream of a link comes to this end.
     Ends(End),
+    /// The links of a session are cut and resumed, where memory is refused or not.
+    Outlives(End),
+    /// A message with these bytes comes, and this is to come of it.
+    Tells(&'a [u8], Verdict),
     /// The links of a session come and go.
     Goes(Case),
     /// A message with these bytes comes.

@@ -69,6 +69,24 @@ fn a_busy_lane_is_heard_after_a_drain(rt: HostRuntime) {
     assert!(rt; plays(&rt, rt.alloc(), 1, false, &ROWS));
 }
 
+/// The start's own item fills the lane's queue, so the loss waits until it is drained.
+#[test]
+fn a_loss_waits_for_a_drain(rt: HostRuntime) {
+    static ROWS: [Row; 10] = [
+        Row::Calls(Call::Accept(&[AUTH]), Answer::Done),
+        Row::Calls(Call::Login, Answer::Place(1)),
+        Row::Calls(Call::Attach, PLAIN),
+        Row::Calls(Call::Start, Answer::Started(0)),
+        Row::Calls(Call::Turn, CLOSED),
+        Row::Calls(Call::Turn, WAITS),
+        Row::Drains,
+        Row::Calls(Call::Turn, CLOSED),
+        Row::IsDown,
+        Row::Had(3),
+    ];
+    assert!(rt; plays(&rt, rt.alloc(), 1, false, &ROWS));
+}
+
 /// What a link writes when it is accepted ends so.
 const ACCEPTED: &[u8] = b"\r\n\r\n";
 

@@ -45,6 +45,8 @@ pub(crate) struct Step {
 pub(crate) struct Watch {
     end: End,
     place: usize,
+    /// The last answer was as it should be, and the next one may tell of the end.
+    is_late: bool,
     pub has_link: bool,
     pub has_ended: bool,
     pub is_right: bool,
@@ -56,9 +58,18 @@ impl Watch {
         Watch {
             end,
             place: 0,
+            is_late: false,
             has_link: false,
             has_ended: false,
             is_right: true,
+        }
+    }
+
+    /// No request for memory is refused any more.
+    pub fn may_go_on(&self) -> bool {
+        match self.end {
+            End::Refused => self.has_ended,
+            End::Fails(_) | End::Cut(_) | End::Whole => true,
         }
     }
 
@@ -74,6 +85,7 @@ impl Watch {
             answer == step.right
         };
         self.has_ended |= ends;
+        self.is_late = step.is_late && answer == step.right;
     }
 
     /// Whether the stream came to its end by now.
@@ -81,14 +93,19 @@ impl Watch {
         match self.end {
             End::Fails(_) => has_failed,
             End::Cut(bytes) => self.place > bytes,
-            End::Refused => {
-                answer != step.right
-                    && matches!(
-                        answer,
-                        Answer::Fault(LinkFault::Mem | LinkFault::Closed | LinkFault::BadMessage)
-                    )
-            }
+            End::Refused => answer != step.right && self.may_be_refused(step, answer),
             End::Whole => false,
+        }
+    }
+
+    /// Whether this may come of a refused request for memory. It is want of memory. In a handshake
+    /// or a read it may also be what the pack makes of that. A link that has failed asks for none.
+    fn may_be_refused(&self, step: Step, answer: Answer) -> bool {
+        match answer {
+            Answer::Fault(LinkFault::Mem) => step.bytes > 0 || step.right != CLOSED,
+            Answer::Fault(LinkFault::Closed) => step.bytes > 0 || self.is_late,
+            Answer::Fault(LinkFault::BadMessage) => step.bytes > 0,
+            _ => false,
         }
     }
 

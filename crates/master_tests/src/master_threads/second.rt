@@ -22,8 +22,8 @@ const LOGIN: &[u8] = b"\x82\xac\x00\x00\x00\x00\x84\xaaseq_number\x00\xa2op\xa4a
 const ANSWER: &[u8] =
     b"\x829\x84\xaaseq_number\x00\xa2op\xa8response\xa6result\xaaalready up\xacis_exception\xc3";
 
-/// How long an answer is waited for, in seconds.
-const PATIENCE: u64 = 5;
+/// How long an answer is waited for, in seconds: it ends a test that would hang.
+const PATIENCE: u64 = 60;
 
 // Asks for a WebSocket, and reads that it is agreed.
 fn is_agreed(stream: &TcpStream) -> bool {

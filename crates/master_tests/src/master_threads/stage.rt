@@ -24,6 +24,15 @@ pub struct Stage<R> {
     pub web: SocketAddr,
 }
 
+/// How long the web is waited for, in seconds: it ends a test that would hang.
+const HANG_SECONDS: u64 = 60;
+
+/// For how many milliseconds the web is let alone after an answer that isn't the one waited for.
+const PAUSE_MILLIS: u64 = 20;
+
+/// How many such pauses there are at most. Together they are as long.
+const PAUSES: u64 = 3_000;
+
 // A stream to the web, whose reads wait for some seconds.
 fn reach<R>(rt: &R, web: SocketAddr) -> Option<TcpStream>
 where
@@ -32,7 +41,7 @@ where
     match TcpStream::connect(rt, web) {
         Ok(stream)
             if stream
-                .set_read_timeout(Some(Duration::from_secs(5)))
+                .set_read_timeout(Some(Duration::from_secs(HANG_SECONDS)))
                 .is_ok() => Some(stream),
         _ => None,
     }
@@ -188,10 +197,10 @@ where
 
     /// Whether the web answers this, within some time.
     pub fn shows(&self, target: &str, body: &str) -> bool {
-        for _ in 0..200 {
+        for _ in 0..PAUSES {
             match self.is_shown(target, body) {
                 Some(true) => return true,
-                Some(false) => thread::sleep(&self.rt, Duration::from_millis(20)),
+                Some(false) => thread::sleep(&self.rt, Duration::from_millis(PAUSE_MILLIS)),
                 None => return false,
             }
         }

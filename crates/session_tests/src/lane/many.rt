@@ -7,7 +7,7 @@ use super::script::Call::{Drain, Hear, Update};
 use super::script::{Order, Row, play};
 use bm_lane::*;
 use bm_session::Event;
-use bm_store::{Book, Chunk, ViewRefusal};
+use bm_store::{Book, Chunk, LogState, ViewRefusal};
 use std::alloc::{AllocError, Global};
 use std::marker::Brand;
 use std::process::Abort;
@@ -198,23 +198,36 @@ fn has_middle<Y: Yard>(viewer: &mut Viewer<Y>) -> bool {
     are_lines(&chunk(viewer, 990, 5), 990, 5, text)
 }
 
-// Asks until all lines are there, and then for some. The counts never fall, and the copy can always
-// be entered.
+// Whether the log has so many lines, behind a state that had so many. It may not be there as long
+// as it never was.
+fn has_grown(state: Result<LogState, ViewRefusal>, before: Option<u64>) -> bool {
+    match state {
+        Ok(state) => state.lines >= before.unwrap_or(0),
+        Err(ViewRefusal::NoLog) => before.is_none(),
+        Err(_) => false,
+    }
+}
+
+// How many lines the log has, if it is there.
+fn count_of(state: Result<LogState, ViewRefusal>) -> Option<u64> {
+    match state {
+        Ok(state) => Some(state.lines),
+        Err(_) => None,
+    }
+}
+
+// Asks until all lines are there, and then once for some of them. The counts never fall, and the
+// copy can always be entered.
 fn watch<Y: Yard>(viewer: &mut Viewer<Y>) -> bool {
-    let mut before = 0;
+    let mut before = None;
     for _ in 0..ROUNDS {
-        match viewer.state(0, "stdio") {
-            Ok(state) => {
-                if state.lines < before {
-                    return false;
-                }
-                before = state.lines;
-                if before == UPDATES {
-                    return has_middle(viewer);
-                }
-            }
-            Err(ViewRefusal::NoLog) => {}
-            Err(_) => return false,
+        let state = viewer.state(0, "stdio");
+        if !has_grown(state, before) {
+            return false;
+        }
+        before = count_of(state);
+        if before == Some(UPDATES) {
+            return has_middle(viewer);
         }
         thread::yield_now();
     }

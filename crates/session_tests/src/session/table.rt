@@ -77,7 +77,7 @@ fn go_through(rt: &(impl AllocGlobal + Abort), session: &mut Session, rows: &[Ro
 
 #[test]
 fn numbers_out_of_order_are_one_range(rt: HostRuntime) -> Result<(), AllocError> {
-    static ROWS: [Row; 9] = [
+    static ROWS: [Row; 17] = [
         (Up, &[]),
         (Go, &[]),
         (In(0, 0), &[(0, 0, Done)]),
@@ -87,6 +87,15 @@ fn numbers_out_of_order_are_one_range(rt: HostRuntime) -> Result<(), AllocError>
         (In(4, 0), &[(0, 2, Done), (3, 3, NoCommand), (4, 4, Done)]),
         // They stand while the session is cut.
         (Cut, &[(0, 2, Done), (3, 3, NoCommand), (4, 4, Done)]),
+        (Down, &[]),
+        // They are gone with a session that is lost while it is up, too.
+        (Up, &[]),
+        (Go, &[]),
+        (In(0, 1), &[(0, 0, Done)]),
+        (In(2, 1), &[(0, 0, Done), (2, 2, Done)]),
+        (In(1, 1), &[(0, 2, Done)]),
+        (In(3, 7), &[(0, 2, Done), (3, 3, NoCommand)]),
+        (In(4, 1), &[(0, 2, Done), (3, 3, NoCommand), (4, 4, Done)]),
         (Down, &[]),
     ];
     let mut session = new_session(rt.alloc())?;

@@ -5,6 +5,7 @@ mod gives;
 mod random;
 mod rows;
 mod turn;
+mod window;
 
 use bm_work::{Sent, WorkRefusal, *};
 use gives::Gives;

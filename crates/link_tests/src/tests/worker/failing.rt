@@ -1,6 +1,8 @@
 //! A worker's stream that fails at one of its calls, at each in turn, or ends after one of its
 //! bytes. A resumed session has a second link of the same core.
 
+mod refused;
+
 use super::super::both::end_of_head;
 use super::super::calls::{Answer, CLOSED, HEARD, NOTED};
 use super::super::failing::{begins, ended_right};
@@ -21,7 +23,7 @@ use std::process::Abort;
 
 /// What a worker does.
 #[derive(Clone, Copy)]
-enum Act {
+pub(crate) enum Act {
     Turn,
     /// It says the first line of command 0.
     SaysFirst,
@@ -132,6 +134,7 @@ impl LinkedWorker {
     fn sends_said(&mut self, said: Result<Sent, WorkRefusal>) -> Answer {
         match said {
             Ok(sent) => self.sends(&sent),
+            Err(WorkRefusal::Mem) => Answer::Nothing,
             Err(_) => self.strays(),
         }
     }
@@ -147,8 +150,8 @@ impl LinkedWorker {
         Answer::Done
     }
 
-    /// The answer to what the worker does. Its core does its part whatever became of the link;
-    /// where it heard of no command a stray request is sent.
+    /// The answer to what the worker does. Its core does its part whatever became of the link,
+    /// unless it wants memory. Where it heard of no command a stray request is sent.
     fn does(&mut self, act: Act) -> Answer {
         match act {
             Act::Turn => self.turns(),
@@ -162,6 +165,7 @@ impl LinkedWorker {
             }
             Act::Ends => match self.core.finish(0, Finish::Rc(0)) {
                 Ok(sent) => self.sends_all(sent.as_slice()),
+                Err(WorkRefusal::Mem) => Answer::Nothing,
                 Err(_) => self.strays(),
             },
             Act::Strays => self.strays(),
@@ -177,7 +181,7 @@ impl LinkedWorker {
                 bytes: *bytes,
                 is_late: *is_late && (is_named || *right == CLOSED),
             };
-            let answer = self.does(*act);
+            let answer = self.answer(*act);
             heard.note(answer);
             watch.see(step, answer, self.link.get_ref().has_failed);
         }
@@ -221,16 +225,11 @@ impl LinkedWorker {
         watch.has_link = true;
         let heard = self.acts(&mut watch, is_named);
         watch.is_right &= self.writes_no_more(login);
-        watch.is_right &= self.loses_nothing(heard, is_named) && (!is_named || self.resumes(heard));
-        watch
-    }
-
-    /// The core has the requests of command 0 from this one on, with their bytes, and no others.
-    fn keeps(&self, first: usize) -> bool {
-        match self.core.resend() {
-            Ok(kept) => are_requests(&kept, first),
-            Err(_) => false,
+        watch.is_right &= self.loses_nothing(heard, is_named);
+        if is_named && watch.may_go_on() {
+            watch.is_right &= self.resumes(heard);
         }
+        watch
     }
 
     /// A second link takes the place of the first.

@@ -1,4 +1,4 @@
-//! The same texts in whichever pieces the bytes of a pipe come.
+//! The same texts in whichever pieces the bytes of a pipe come: those of its lines, decoded whole.
 
 ghost use Rattle.std.specs.Prelude.{◌<◌, ◌≤◌, length};
 
@@ -122,6 +122,44 @@ fn has_lines_of(texts: &[Text], bytes: &[u8]) -> bool {
     0 < wanted && count_of_lines(texts) == wanted
 }
 
+/// The bytes as text, with U+FFFD for what is none, once more where memory was refused.
+fn decoded(alloc: Global, bytes: &[u8]) -> Result<String, AllocError> {
+    match String::from_utf8_lossy(alloc, bytes) {
+        Ok(text) => Ok(text),
+        Err(_) => String::from_utf8_lossy(alloc, bytes),
+    }
+}
+
+fn is_decoded(alloc: Global, bytes: &[u8], text: &Text) -> bool {
+    match decoded(alloc, bytes) {
+        Ok(wanted) => then_drop(wanted.as_str() == text.as_str(), wanted),
+        Err(_) => false,
+    }
+}
+
+/// How many of the bytes are the first text: up to a line end, and no more than 16,384.
+fn end_of_first(bytes: &[u8]) -> usize {
+    for (place, byte) in bytes.iter().enumerate() {
+        if *byte == b'\n' || place == 16_383 {
+            return place.saturating_add(1);
+        }
+    }
+    bytes.len()
+}
+
+/// Whether the texts are those of the bytes, each decoded as a whole.
+fn are_decoded(alloc: Global, bytes: &[u8], texts: &[Text]) -> bool {
+    let mut left = bytes;
+    for text in texts {
+        let end = end_of_first(left);
+        if end == 0 || !is_decoded(alloc, left.get(..end).unwrap_or_default(), text) {
+            return false;
+        }
+        left = left.get(end..).unwrap_or_default();
+    }
+    left.is_empty()
+}
+
 /// Whether the bytes have these texts of their lines, wherever they are cut.
 fn are_same_cuts(alloc: Global, bytes: &[u8], whole: &[Text]) -> bool {
     for place in 0..bytes.len() + 1 {
@@ -129,7 +167,7 @@ fn are_same_cuts(alloc: Global, bytes: &[u8], whole: &[Text]) -> bool {
             return false;
         }
     }
-    has_lines_of(whole, bytes)
+    has_lines_of(whole, bytes) && are_decoded(alloc, bytes, whole)
 }
 
 fn are_whole_at_every_cut(alloc: Global, bytes: &[u8]) -> bool {
@@ -198,6 +236,7 @@ fn are_whole_in_pieces(alloc: Global, seed: u64, bytes: &[u8]) -> bool {
     match texts_of(alloc, &[bytes]) {
         Some(whole) => {
             let is_same = has_lines_of(whole.as_slice(), bytes)
+                && are_decoded(alloc, bytes, whole.as_slice())
                 && are_same_in_pieces(alloc, seed, bytes, whole.as_slice());
             then_drop(is_same, whole)
         }

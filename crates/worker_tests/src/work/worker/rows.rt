@@ -4,10 +4,9 @@ use super::gives::Act::*;
 use super::gives::Gives::*;
 use super::gives::Reply::*;
 use super::turn::Turn::*;
-use super::turn::say;
-use super::{Row, Worker, goes_on, is_first, is_numbered, play, then_drop};
+use super::{Row, Worker, goes_on, is_first, play};
 use bm_lines::Letter::{E, O};
-use bm_work::{Sent, WorkRefusal};
+use bm_work::WorkRefusal;
 use std::process::Abort;
 
 /// The first update, of command 0, with standard output `a\n`.
@@ -17,10 +16,6 @@ pub const UPDATE_ZERO: &[u8] =
 /// The second update, with standard error `b\n`.
 pub const UPDATE_ONE: &[u8] =
     b"\x84\xaaseq_number\x01\xa2op\xa6update\xaacommand_id\xa10\xa4args\x91\x92\xa6stderr\xa2b\n";
-
-/// The update of number 64, with standard output `x\n`.
-const UPDATE_SIXTY_FOUR: &[u8] =
-    b"\x84\xaaseq_number\x40\xa2op\xa6update\xaacommand_id\xa10\xa4args\x91\x92\xa6stdout\xa2x\n";
 
 /// The first update, with the exit code -1.
 const EXIT_CODE_ZERO: &[u8] =
@@ -60,7 +55,7 @@ const DONE_ZERO: &[u8] = b"\x83\xaaseq_number\x00\xa2op\xa8response\xa6result\xc
 const NO_SUCH_COMMAND_ONE: &[u8] =
     b"\x84\xaaseq_number\x01\xa2op\xa8response\xa6result\xafno such command\xacis_exception\xc3";
 
-const BAD_ARGUMENTS_SEVEN: &[u8] =
+pub const BAD_ARGUMENTS_SEVEN: &[u8] =
     b"\x84\xaaseq_number\x07\xa2op\xa8response\xa6result\xadbad arguments\xacis_exception\xc3";
 
 const ALREADY_RUNS_FOUR: &[u8] =
@@ -107,7 +102,7 @@ const INFO_THREE: &[u8] =
     b"\x83\xaaseq_number\x03\xa2op\xa8response\xa6result\x81\xa7version\xadbuildworker 1";
 
 /// Arguments with words.
-const WORDS: &[u8] = b"\x81\xa7command\x91\xa4true";
+pub const WORDS: &[u8] = b"\x81\xa7command\x91\xa4true";
 
 /// Arguments with a line.
 const LINE: &[u8] = b"\x81\xa7command\xa6echo a";
@@ -120,19 +115,21 @@ pub fn started(rt: &(impl AllocGlobal + Abort)) -> Worker {
     worker
 }
 
+/// Command 0 from its start until all that the worker says of it is answered.
+pub static COMMAND_ZERO: [Row; 8] = [
+    (Hear(START_ZERO), Does(Runs(0, &["true"]), Bytes(DONE_ZERO))),
+    (Say(0, O, "a\n"), Sends(&[(0, UPDATE_ZERO)])),
+    (End(0, 0), Sends(&[(1, EXIT_CODE_ONE), (2, COMPLETE_TWO)])),
+    (Say(0, O, "b"), Refuses(WorkRefusal::NoSuchCommand)),
+    (Answer(0), Does(Answered(0), NoReply)),
+    (Answer(1), Does(Answered(1), NoReply)),
+    (Answer(2), Does(Answered(2), NoReply)),
+    (Resend, Sends(&[])),
+];
+
 #[test]
 fn worker_runs_a_command_and_tells_of_it(rt: HostRuntime) {
-    static ROWS: [Row; 8] = [
-        (Hear(START_ZERO), Does(Runs(0, &["true"]), Bytes(DONE_ZERO))),
-        (Say(0, O, "a\n"), Sends(&[(0, UPDATE_ZERO)])),
-        (End(0, 0), Sends(&[(1, EXIT_CODE_ONE), (2, COMPLETE_TWO)])),
-        (Say(0, O, "b"), Refuses(WorkRefusal::NoSuchCommand)),
-        (Answer(0), Does(Answered(0), NoReply)),
-        (Answer(1), Does(Answered(1), NoReply)),
-        (Answer(2), Does(Answered(2), NoReply)),
-        (Resend, Sends(&[])),
-    ];
-    play(&rt, &ROWS);
+    play(&rt, &COMMAND_ZERO);
 }
 
 #[test]
@@ -142,70 +139,6 @@ fn exit_code_and_end_are_two_requests(rt: HostRuntime) {
         (End(0, -1), Sends(&[(0, EXIT_CODE_ZERO), (1, COMPLETE_ONE)])),
     ];
     play(&rt, &ROWS);
-}
-
-/// What follows the number of an update of command 0 with standard output `x\n`.
-const UPDATE_REST: &[u8] = b"\xa2op\xa6update\xaacommand_id\xa10\xa4args\x91\x92\xa6stdout\xa2x\n";
-
-/// Whether the requests are such updates, numbered from 0 on, so many.
-fn are_updates(requests: &[Sent], count: u64) -> bool {
-    let mut seq = 0u64;
-    for request in requests {
-        if !is_numbered(request, seq, UPDATE_REST) {
-            return false;
-        }
-        seq = seq.saturating_add(1);
-    }
-    seq == count
-}
-
-/// Whether the worker would send so many updates again, and nothing else.
-fn keeps_updates(worker: &Worker, count: u64) -> bool {
-    match worker.resend() {
-        Ok(requests) => then_drop(are_updates(requests.as_slice(), count), requests),
-        Err(_) => false,
-    }
-}
-
-/// Says a text of command 0 behind so many, a second time where memory was refused, since that
-/// changed nothing.
-fn say_behind(worker: &mut Worker, said: u64) -> Result<Sent, WorkRefusal> {
-    match say(worker, 0, O, "x\n") {
-        Err(WorkRefusal::Mem) if keeps_updates(worker, said) => say(worker, 0, O, "x\n"),
-        sent => sent,
-    }
-}
-
-/// Whether a text of command 0 is said with this number.
-fn is_said(worker: &mut Worker, seq: u64) -> bool {
-    match say_behind(worker, seq) {
-        Ok(sent) => then_drop(is_numbered(&sent, seq, UPDATE_REST), sent),
-        Err(_) => false,
-    }
-}
-
-/// Whether texts are said with the numbers below 64.
-fn fills_its_window(worker: &mut Worker) -> bool {
-    for seq in 0..64 {
-        if !is_said(worker, seq) {
-            return false;
-        }
-    }
-    true
-}
-
-#[test]
-fn window_holds_sixty_four_requests(rt: HostRuntime) {
-    static ROWS: [Row; 4] = [
-        (Say(0, O, "x\n"), Refuses(WorkRefusal::Window)),
-        (Answer(63), Does(Answered(63), NoReply)),
-        (End(0, 0), Refuses(WorkRefusal::Window)),
-        (Say(0, O, "x\n"), Sends(&[(64, UPDATE_SIXTY_FOUR)])),
-    ];
-    let mut worker = started(&rt);
-    assert!(rt; fills_its_window(&mut worker));
-    goes_on(&rt, &mut worker, &ROWS);
-    drop(worker);
 }
 
 #[test]

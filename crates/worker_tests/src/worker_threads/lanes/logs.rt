@@ -47,9 +47,8 @@ fn is_once(log: Option<Log>) -> bool {
 
 #[test]
 fn each_line_comes_once_through_cuts(rt: HostRuntime) {
-    // At each of a connection's first 1,104 bytes, which are more than all have until the worker is
-    // told to leave. Those are its handshake, its login, the order, what the command says, and the
-    // answers.
+    // At each byte of a connection, from its first one on: of its handshake, its login, the order,
+    // what the command says, and the answers.
     let unit = Unit::Byte;
     for run in 0..138usize {
         let early = IN_A_ROW * run;
@@ -61,8 +60,7 @@ fn each_line_comes_once_through_cuts(rt: HostRuntime) {
 
 #[test]
 fn each_line_comes_once_through_failing_calls(rt: HostRuntime) {
-    // At each of a connection's first 80 calls, which are more than all have until the worker is
-    // told to leave.
+    // At each call of a connection, from its first one on.
     let unit = Unit::Call;
     for run in 0..10usize {
         let early = IN_A_ROW * run;
