@@ -1,15 +1,11 @@
 -- The ends of one lane more at the end of each list.
-use Rattle.std.proofs.Common.{◌≡◌, ℕ, Bool, true, cond, ◌+◌, ◌-◌, ◌∙◌, List, [], ◌∷◌, ◌++◌, length, map, take, ap, sym, arith, refl, Some, slice_get, vec_capacity}
+use Rattle.std.proofs.Common.{◌≡◌, ℕ, ◌+◌, ◌-◌, ◌∙◌, List, [], ◌∷◌, ◌++◌, length, map, take, ap, sym, arith, refl, Some, slice_get, vec_capacity}
 use Rattle.std.proofs.lemmas.List.{map-append, length-append}
 use Rattle.std.proofs.Math.Seq.{take-append_seam}
 use Rattle.bm_lane.specs.Ends.{Watched}
 use Rattle.bm_lane.specs.declared.blank.Ends.{Ends}
 use Rattle.bm_build_queue.specs.ViewerPool.{PoolState}
 use Rattle.bm_lanes.specs.Dealt.{pool_of}
-
-pub pushed_more : {A : Type 0} (xs ys : List A) (x : A) (b : Bool)
-    → ys ≡ cond b (xs ++ x ∷ []) xs → b ≡ true → ys ≡ xs ++ x ∷ []
-pushed_more xs ys x b pushed is_pushed = pushed ∙ ap (λ t. cond t (xs ++ x ∷ []) xs) is_pushed
 
 pub mapped_more : {A B C : Type 0} (f : A → C) (h : B → C) (xs ys : List A) (x : A) (all : List B) (e : B)
     → ys ≡ xs ++ x ∷ [] → f x ≡ h e → map f xs ≡ map h all → map f ys ≡ map h (all ++ e ∷ [])

@@ -6,6 +6,7 @@ ghost use Rattle.bm_store.specs.Kept.{logs_in};
 ghost use Rattle.bm_lanes.specs.Dealt.{given_back};
 ghost use Rattle.bm_lanes.specs.Totals.{totals, AreTotals};
 
+use crate::dealt_lanes::is_pushed;
 use bm_build_queue::ViewerPool;
 use bm_lane::{Ends, ReaderEnd, Settled, Viewer, WriterEnd, Yard, same_lane, settle};
 use std::alloc::{AllocError, Global};
@@ -60,9 +61,10 @@ fn whole<Y: Yard>(
         return Err(SettleError::Mixed);
     };
     let mut viewers = pool.into_viewers();
-    match viewers.push(viewer) {
-        Ok(()) => Ok(viewers),
-        Err(_) => Err(SettleError::Mem),
+    if is_pushed(&mut viewers, viewer) {
+        Ok(viewers)
+    } else {
+        Err(SettleError::Mem)
     }
 }
 

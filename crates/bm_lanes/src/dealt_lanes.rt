@@ -1,6 +1,6 @@
 //! The ends of all lanes, by who owns them.
 
-ghost use Rattle.std.specs.Prelude.{◌≡◌, IfSome, length, map, true};
+ghost use Rattle.std.specs.Prelude.{◌≡◌, ◌++◌, ◌∷◌, [], IfSome, length, map, true};
 ghost use Rattle.bm_session.specs.Trace.{below};
 ghost use Rattle.bm_lanes.specs.Dealt.{AreDealt, DealsToo};
 
@@ -20,6 +20,13 @@ pub struct DealtLanes<Y: Yard, W: Wait + Drop, S> {
     pub pools: Vec<ViewerPool<Y>>,
     /// The web's viewer of each lane.
     pub web_viewers: Vec<Viewer<Y>>,
+}
+
+// Whether there was room for one more at the end, which is there then.
+pub(crate) fn is_pushed<T: Drop>(list: &mut Vec<T>, one: T) -> bool
+    ensures { result ≡ true → list.new.items ≡ list.old.items ++ one ∷ [] }
+{
+    list.push(one).is_ok()
 }
 
 // Whether each viewer is one of the lane whose number is its place.
@@ -98,15 +105,10 @@ impl<Y: Yard, W: Wait + Drop, S: Drop> DealtLanes<Y, W, S> {
             return false;
         };
         let state = LaneState::new(alloc, reader, resume_ticks);
-        if self.states.push(state).is_err() {
-            return false;
-        }
-        if self.writers.push(Mutex::new(writer)).is_err() {
-            return false;
-        }
-        if self.pools.push(pool).is_err() {
-            return false;
-        }
-        self.web_viewers.push(viewer).is_ok()
+        let is_kept = is_pushed(&mut self.states, state);
+        let is_written = is_pushed(&mut self.writers, Mutex::new(writer));
+        let is_pooled = is_pushed(&mut self.pools, pool);
+        let is_served = is_pushed(&mut self.web_viewers, viewer);
+        is_kept & is_written & is_pooled & is_served
     }
 }
