@@ -18,11 +18,8 @@ is_fault t (BadArgs n) h = absurd h
 is_fault t Mem h = h
 
 no_bad_args : (t : Tree) (f : MsgError) (n : ℕ) → SaysNothing t f → BadArgs n ≢ f
-no_bad_args t NotMap n h = λ e. absurd cc
-no_bad_args t NoSeq n h = λ e. absurd cc
-no_bad_args t NoOp n h = λ e. absurd cc
 no_bad_args t (BadArgs k) n h = absurd h
-no_bad_args t Mem n h = λ e. absurd cc
+no_bad_args t f n h = λ e. absurd cc
 
 error_is : {T : Type 0} (a b : MsgError) → ◌≡◌ {A = Result T MsgError} (Err a) (Err b) → a ≡ b
 error_is a b h = cc

@@ -16,41 +16,17 @@ array_is v x is = ap tree is ∙ tree-Array x ∙ ap array (items_out x)
 
 pub text_of-first : (t : Tree) (ts : Trees) → text_of (array (item t ts)) ≡ str_of t
 text_of-first (str s) ts = refl
-text_of-first nil ts = refl
-text_of-first (bool b) ts = refl
-text_of-first (int z) ts = refl
-text_of-first (bits32 k) ts = refl
-text_of-first (bits64 k) ts = refl
-text_of-first (bin s) ts = refl
-text_of-first (array us) ts = refl
-text_of-first (dict ps) ts = refl
-text_of-first (ext k s) ts = refl
+text_of-first t ts = refl
 
 -- the name of a log and its text
 pub named-two : (n v : Tree) (more : Trees)
     → named (array (item n (item v more))) ≡ log_item n v
 named-two (str s) v more = refl
-named-two nil v more = refl
-named-two (bool b) v more = refl
-named-two (int z) v more = refl
-named-two (bits32 k) v more = refl
-named-two (bits64 k) v more = refl
-named-two (bin s) v more = refl
-named-two (array us) v more = refl
-named-two (dict ps) v more = refl
-named-two (ext k s) v more = refl
+named-two n v more = refl
 
 named-one : (n : Tree) → named (array (item n none)) ≡ None
 named-one (str s) = refl
-named-one nil = refl
-named-one (bool b) = refl
-named-one (int z) = refl
-named-one (bits32 k) = refl
-named-one (bits64 k) = refl
-named-one (bin s) = refl
-named-one (array us) = refl
-named-one (dict ps) = refl
-named-one (ext k s) = refl
+named-one n = refl
 
 pub named-short : {A : Type 0} (xs : List (Value A)) → length xs < 2 → named (array (trees_of (map tree xs))) ≡ None
 named-short [] h = refl
@@ -60,39 +36,15 @@ named-short (x ∷ (y ∷ ys)) h = absurd (omega arith)
 -- a name and a value
 pub item_fields-two : (n v : Tree) → item_fields (array (item n (item v none))) ≡ item_parts n v
 item_fields-two (str s) v = refl
-item_fields-two nil v = refl
-item_fields-two (bool b) v = refl
-item_fields-two (int z) v = refl
-item_fields-two (bits32 k) v = refl
-item_fields-two (bits64 k) v = refl
-item_fields-two (bin s) v = refl
-item_fields-two (array us) v = refl
-item_fields-two (dict ps) v = refl
-item_fields-two (ext k s) v = refl
+item_fields-two n v = refl
 
 item_fields-one : (n : Tree) → item_fields (array (item n none)) ≡ None
 item_fields-one (str s) = refl
-item_fields-one nil = refl
-item_fields-one (bool b) = refl
-item_fields-one (int z) = refl
-item_fields-one (bits32 k) = refl
-item_fields-one (bits64 k) = refl
-item_fields-one (bin s) = refl
-item_fields-one (array us) = refl
-item_fields-one (dict ps) = refl
-item_fields-one (ext k s) = refl
+item_fields-one n = refl
 
 item_fields-more : (n v w : Tree) (ts : Trees) → item_fields (array (item n (item v (item w ts)))) ≡ None
 item_fields-more (str s) v w ts = refl
-item_fields-more nil v w ts = refl
-item_fields-more (bool b) v w ts = refl
-item_fields-more (int z) v w ts = refl
-item_fields-more (bits32 k) v w ts = refl
-item_fields-more (bits64 k) v w ts = refl
-item_fields-more (bin s) v w ts = refl
-item_fields-more (array us) v w ts = refl
-item_fields-more (dict ps) v w ts = refl
-item_fields-more (ext k s) v w ts = refl
+item_fields-more n v w ts = refl
 
 pub item_fields-other : {A : Type 0} (xs : List (Value A)) → length xs ≢ 2 → item_fields (array (trees_of (map tree xs))) ≡ None
 item_fields-other [] h = refl

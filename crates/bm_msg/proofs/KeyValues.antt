@@ -19,29 +19,13 @@ IsMap t = (pairs : Pairs) × (t ≡ dict pairs)
 -- only a map has a field
 pub map_from_field : (t : Tree) (key : List ℕ) (v : Tree) → field t key ≡ Some v → IsMap t
 map_from_field (dict ps) key v h = (ps, refl)
-map_from_field nil key v h = absurd cc
-map_from_field (bool b) key v h = absurd cc
-map_from_field (int z) key v h = absurd cc
-map_from_field (bits32 k) key v h = absurd cc
-map_from_field (bits64 k) key v h = absurd cc
-map_from_field (str s) key v h = absurd cc
-map_from_field (bin s) key v h = absurd cc
-map_from_field (array us) key v h = absurd cc
-map_from_field (ext k s) key v h = absurd cc
+map_from_field t key v h = absurd cc
 
 -- ---- texts
 
 str_of-only : (v : Tree) (s : List ℕ) → str_of v ≡ Some s → v ≡ str s
 str_of-only (str s') s h = let same : s' ≡ s = cc in ap str same
-str_of-only nil s h = absurd cc
-str_of-only (bool b) s h = absurd cc
-str_of-only (int z) s h = absurd cc
-str_of-only (bits32 k) s h = absurd cc
-str_of-only (bits64 k) s h = absurd cc
-str_of-only (bin s0) s h = absurd cc
-str_of-only (array us) s h = absurd cc
-str_of-only (dict ps) s h = absurd cc
-str_of-only (ext k s0) s h = absurd cc
+str_of-only t s h = absurd cc
 
 text_only : (o : Option Tree) (s : List ℕ) → option_and_then str_of o ≡ Some s → o ≡ Some (str s)
 text_only None s h = absurd cc
@@ -64,16 +48,7 @@ below k n h =
 
 seq_of-only : (v : Tree) (n : ℕ) → seq_of v ≡ Some n → (v ≡ int (pos n)) × (n < 2 ^ 63)
 seq_of-only (int (pos k)) n h = let both = below k n h in (ap (λ k. int (pos k)) both.0, both.1)
-seq_of-only (int (negsuc k)) n h = absurd cc
-seq_of-only nil n h = absurd cc
-seq_of-only (bool b) n h = absurd cc
-seq_of-only (bits32 k) n h = absurd cc
-seq_of-only (bits64 k) n h = absurd cc
-seq_of-only (str s) n h = absurd cc
-seq_of-only (bin s) n h = absurd cc
-seq_of-only (array us) n h = absurd cc
-seq_of-only (dict ps) n h = absurd cc
-seq_of-only (ext k s) n h = absurd cc
+seq_of-only t n h = absurd cc
 
 number_only : (o : Option Tree) (n : ℕ) → option_and_then seq_of o ≡ Some n → (o ≡ Some (int (pos n))) × (n < 2 ^ 63)
 number_only None n h = absurd cc
@@ -105,15 +80,7 @@ command_from t k h = ap (option_and_then command_number) (text_from t (codes "co
 items_only : (o : Option Tree) (fs : List Field) → option_and_then items_of o ≡ Some fs → (ts : Trees) × (o ≡ Some (array ts)) × (fields_of ts ≡ Some fs)
 items_only None fs h = absurd cc
 items_only (Some (array ts)) fs h = (ts, refl, h)
-items_only (Some nil) fs h = absurd cc
-items_only (Some (bool b)) fs h = absurd cc
-items_only (Some (int z)) fs h = absurd cc
-items_only (Some (bits32 k)) fs h = absurd cc
-items_only (Some (bits64 k)) fs h = absurd cc
-items_only (Some (str s)) fs h = absurd cc
-items_only (Some (bin s)) fs h = absurd cc
-items_only (Some (dict ps)) fs h = absurd cc
-items_only (Some (ext k s)) fs h = absurd cc
+items_only (Some v) fs h = absurd cc
 
 pub items_to : (t : Tree) (fs : List Field) → items_at t ≡ Some fs → HasItems t fs
 items_to t fs h = items_only (field t (codes "args")) fs h
@@ -124,28 +91,12 @@ items_from t fs h = ap (option_and_then items_of) h.1 ∙ h.2
 fault_only : (o : Option Tree) (s : List ℕ) → option_and_then fault_of o ≡ Some (Some s) → o ≡ Some (str s)
 fault_only None s h = absurd cc
 fault_only (Some (str s')) s h = let same : s' ≡ s = cc in ap (λ s. Some (str s)) same
-fault_only (Some nil) s h = absurd cc
-fault_only (Some (bool b)) s h = absurd cc
-fault_only (Some (int z)) s h = absurd cc
-fault_only (Some (bits32 k)) s h = absurd cc
-fault_only (Some (bits64 k)) s h = absurd cc
-fault_only (Some (bin s0)) s h = absurd cc
-fault_only (Some (array us)) s h = absurd cc
-fault_only (Some (dict ps)) s h = absurd cc
-fault_only (Some (ext k s0)) s h = absurd cc
+fault_only (Some v) s h = absurd cc
 
 no_fault_only : (o : Option Tree) → option_and_then fault_of o ≡ Some None → o ≡ Some nil
 no_fault_only None h = absurd cc
 no_fault_only (Some nil) h = refl
-no_fault_only (Some (bool b)) h = absurd cc
-no_fault_only (Some (int z)) h = absurd cc
-no_fault_only (Some (bits32 k)) h = absurd cc
-no_fault_only (Some (bits64 k)) h = absurd cc
-no_fault_only (Some (str s)) h = absurd cc
-no_fault_only (Some (bin s)) h = absurd cc
-no_fault_only (Some (array us)) h = absurd cc
-no_fault_only (Some (dict ps)) h = absurd cc
-no_fault_only (Some (ext k s)) h = absurd cc
+no_fault_only (Some v) h = absurd cc
 
 pub fault_to : (t : Tree) (f : Option (List ℕ)) → fault_at t ≡ Some f → HasFault t f
 fault_to t None h = no_fault_only (field t (codes "args")) h

@@ -119,15 +119,7 @@ interrupt_read t k w h =
 -- a number and an operation are read before the rest
 begins : (t : Tree) (n : ℕ) (op : List ℕ) → HasNumber t n → HasOp t op → reading t ≡ op_read n op t
 begins (dict ps) n op has named = ap (λ o. with_number (dict ps) o (text_at (dict ps) (codes "op"))) (number_from (dict ps) n has) ∙ ap (with_number (dict ps) (Some n)) (text_from (dict ps) (codes "op") op named)
-begins nil n op has named = absurd (let e = has.0 in cc)
-begins (bool b) n op has named = absurd (let e = has.0 in cc)
-begins (int z) n op has named = absurd (let e = has.0 in cc)
-begins (bits32 k) n op has named = absurd (let e = has.0 in cc)
-begins (bits64 k) n op has named = absurd (let e = has.0 in cc)
-begins (str s) n op has named = absurd (let e = has.0 in cc)
-begins (bin s) n op has named = absurd (let e = has.0 in cc)
-begins (array us) n op has named = absurd (let e = has.0 in cc)
-begins (ext k s) n op has named = absurd (let e = has.0 in cc)
+begins t n op has named = absurd (let e = has.0 in cc)
 
 request_read : (t : Tree) (n : ℕ) (a : Asked) → HasNumber t n → IsRequest t a → reading t ≡ Ok (request n a)
 unfolding asked_at
@@ -175,15 +167,7 @@ with_number_is t (Some n) (Some op) m has named h = op_is t n op m (has n refl) 
 
 pub read_is : (t : Tree) (m : Meaning) → reading t ≡ Ok m → IsMessage t m
 read_is (dict ps) m h = with_number_is (dict ps) (number_at (dict ps)) (text_at (dict ps) (codes "op")) m (number_to (dict ps)) (text_to (dict ps) (codes "op")) h
-read_is nil m h = absurd cc
-read_is (bool b) m h = absurd cc
-read_is (int z) m h = absurd cc
-read_is (bits32 k) m h = absurd cc
-read_is (bits64 k) m h = absurd cc
-read_is (str s) m h = absurd cc
-read_is (bin s) m h = absurd cc
-read_is (array us) m h = absurd cc
-read_is (ext k s) m h = absurd cc
+read_is t m h = absurd cc
 
 -- ---- faults
 
@@ -223,15 +207,7 @@ not_map t e never h = faulty_along t NotMap e (err_is _ _ h) never
 
 pub read_faulty : (t : Tree) (e : MsgError) → reading t ≡ Err e → IsFaulty t e
 read_faulty (dict ps) e h = with_number_faulty (dict ps) (number_at (dict ps)) (text_at (dict ps) (codes "op")) e (ps, refl) refl refl (no_message (dict ps) e h) h
-read_faulty nil e h = not_map nil e (λ m. let is = m.1 in absurd cc) h
-read_faulty (bool b) e h = not_map (bool b) e (λ m. let is = m.1 in absurd cc) h
-read_faulty (int z) e h = not_map (int z) e (λ m. let is = m.1 in absurd cc) h
-read_faulty (bits32 k) e h = not_map (bits32 k) e (λ m. let is = m.1 in absurd cc) h
-read_faulty (bits64 k) e h = not_map (bits64 k) e (λ m. let is = m.1 in absurd cc) h
-read_faulty (str s) e h = not_map (str s) e (λ m. let is = m.1 in absurd cc) h
-read_faulty (bin s) e h = not_map (bin s) e (λ m. let is = m.1 in absurd cc) h
-read_faulty (array us) e h = not_map (array us) e (λ m. let is = m.1 in absurd cc) h
-read_faulty (ext k s) e h = not_map (ext k s) e (λ m. let is = m.1 in absurd cc) h
+read_faulty t e h = not_map t e (λ m. let is = m.1 in absurd cc) h
 
 -- a tree has one fault at most
 map_of_number : (t : Tree) (n : ℕ) → HasNumber t n → IsMap t

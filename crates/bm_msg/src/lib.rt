@@ -32,4 +32,4 @@ pub use message::{Message, Numbered, Response};
 pub use reading::read;
 pub use request::Request;
 pub use text_update::{TextUpdate, read_text};
-pub use writing::{write_answer, write_request, write_response};
+pub use writing::{write_answer, write_request, write_response, write_result};

@@ -306,8 +306,13 @@ pub fn write_response(alloc: Global, message: &Response) -> Result<Vec<u8>, Enco
     write_message(alloc, Outgoing::Response(message))
 }
 
-/// The written form of the response to request `seq` with this result.
-fn result_bytes(
+/// The written form of the response to request `seq` with this result, which nests and fits as a
+/// message may. It is read back, whatever follows it.
+///
+/// # Errors
+///
+/// `AllocError` where memory ran out.
+pub fn write_result(
     alloc: Global,
     seq: u64,
     answered: Value<Global>,
@@ -346,8 +351,8 @@ pub fn write_answer(alloc: Global, seq: u64, exception: Option<&str>) -> Result<
     match exception {
         Some(text) => {
             let answered = Value::from_str(alloc, text)?;
-            result_bytes(alloc, seq, answered, true)
+            write_result(alloc, seq, answered, true)
         }
-        None => result_bytes(alloc, seq, Value::Nil, false),
+        None => write_result(alloc, seq, Value::Nil, false),
     }
 }

@@ -10,7 +10,7 @@ ghost use Rattle.bm_work.specs.Replies.{reply as reply_of};
 
 use crate::sent::Sent;
 use crate::worker_answer::{WorkerAnswer, info};
-use bm_msg::{Numbered, Request, Response, write_answer, write_request, write_response};
+use bm_msg::{Numbered, Request, write_answer, write_request, write_result};
 use bm_value::{Bytes, EncodeError};
 use std::alloc::{AllocError, Global};
 
@@ -34,31 +34,20 @@ pub(crate) fn numbered(alloc: Global, seq: u64, request: Request) -> Result<Sent
 }
 
 /// The bytes of the response to the request with that number.
-#[tactic(auto, unfolding(crate::specs::Replies::reply, bm_msg::specs::Trees::answer_bytes))]
+#[tactic(
+    auto,
+    using(crate::proofs::Sizes::sizes),
+    unfolding(crate::specs::Replies::reply, bm_msg::specs::Trees::answer_bytes)
+)]
 pub(crate) fn reply(alloc: Global, seq: u64, answer: WorkerAnswer) -> Result<Vec<u8>, AllocError>
     requires { seq < 2 ^ 63 }
     ensures { IfOk result (λ v. v.items ≡ reply_of seq answer) }
 {
     match answer {
-        WorkerAnswer::Info => told(alloc, seq),
+        WorkerAnswer::Info => {
+            let map = info(alloc)?;
+            write_result(alloc, seq, map, false)
+        }
         _ => write_answer(alloc, seq, answer.exception()),
-    }
-}
-
-/// The bytes of the response that tells of the worker itself.
-#[tactic(auto, using(crate::proofs::Sizes::sizes), unfolding(crate::specs::Replies::reply))]
-fn told(alloc: Global, seq: u64) -> Result<Vec<u8>, AllocError>
-    requires { seq < 2 ^ 63 }
-    ensures { IfOk result (λ v. v.items ≡ reply_of seq WorkerAnswer.Info) }
-{
-    let response = Response {
-        seq,
-        result: info(alloc)?,
-        exception: false,
-    };
-    match write_response(alloc, &response) {
-        Ok(bytes) => Ok(bytes),
-        Err(EncodeError::Mem) => Err(AllocError),
-        Err(EncodeError::TooDeep | EncodeError::TooLong) => unreachable!("flat and short"),
     }
 }
