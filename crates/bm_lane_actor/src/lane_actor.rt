@@ -12,7 +12,7 @@ use crate::lane_state::{LaneState, Rest};
 use crate::mailbox::{Mailbox, NextRequest};
 use crate::order_outcome::OrderOutcome;
 use crate::peer_timer::{PeerAction, PeerTimer};
-use crate::stream::{Timed, WorkerStream};
+use crate::stream::WorkerStream;
 use bm_board::Words;
 use bm_lane::{ReaderEnd, Yard};
 use bm_latent::{TICK_MS, millis};
@@ -21,7 +21,6 @@ use bm_operator::LossCause;
 use bumpalo::Bump;
 use crossbeam_channel::Sender;
 use std::alloc::Global;
-use std::io::{Read, Write};
 use std::sync::Wait;
 use std::thread;
 use std::time::{Clock, Duration, Instant};
@@ -40,17 +39,17 @@ const MOST_KEPT_BYTES: usize = 1_048_576;
 
 /// The actor of a lane at work.
 #[derive(Drop)]
-struct LaneActor<'a, Y: Yard, S, T, R: Wait + Clock + Drop> {
+struct LaneActor<'a, Y: Yard, T, R: Wait + Clock + Drop> {
     rt: &'a R,
     alloc: Global,
-    state: LaneState<Y, WorkerStream<S, R>>,
+    state: LaneState<Y, WorkerStream<R>>,
     arena: Bump,
     /// Since when the timer counts. None where the clock failed: it then counts nothing.
     began: Option<Instant>,
     /// How long the worker has been silent.
     peer: PeerTimer,
     /// A link that has logged in while the lane is up, until its worker lives or is given up.
-    waiting: Option<MasterLink<WorkerStream<S, R>>>,
+    waiting: Option<MasterLink<WorkerStream<R>>>,
     gate: &'a DrainGate<R>,
     place: usize,
     events: T,
@@ -76,17 +75,16 @@ fn arena_of(alloc: Global) -> Bump {
 ///
 /// Then the mailbox is shut, the worker is told by a close frame, the session is given up, and the
 /// lane's end comes back.
-pub fn serve_lane<Y, S, T, R>(
+pub fn serve_lane<Y, T, R>(
     rt: &R,
     alloc: Global,
-    state: LaneState<Y, WorkerStream<S, R>>,
-    mailbox: &Mailbox<WorkerStream<S, R>>,
+    state: LaneState<Y, WorkerStream<R>>,
+    mailbox: &Mailbox<WorkerStream<R>>,
     gate: &DrainGate<R>,
     events: T,
 ) -> ReaderEnd<Y>
 where
     Y: Yard,
-    S: Read + Write + Timed + Drop,
     T: EventSink + Drop,
     R: Wait + Clock + Drop,
     requires { state.lane.lane ≡ mailbox.now }
@@ -115,15 +113,14 @@ where
     actor.leave()
 }
 
-impl<'a, Y, S, T, R> LaneActor<'a, Y, S, T, R>
+impl<'a, Y, T, R> LaneActor<'a, Y, T, R>
 where
     Y: Yard,
-    S: Read + Write + Timed + Drop,
     T: EventSink + Drop,
     R: Wait + Clock + Drop,
 {
     /// Waits for what the lane waits for, and does what comes. False once it is told to leave.
-    fn goes_on(&mut self, mailbox: &Mailbox<WorkerStream<S, R>>) -> bool {
+    fn goes_on(&mut self, mailbox: &Mailbox<WorkerStream<R>>) -> bool {
         if mailbox.takes(LaneSignal::Leave) {
             return false;
         }
@@ -145,7 +142,7 @@ where
     }
 
     /// Does what signals ask for.
-    fn takes_signals(&mut self, mailbox: &Mailbox<WorkerStream<S, R>>) {
+    fn takes_signals(&mut self, mailbox: &Mailbox<WorkerStream<R>>) {
         if mailbox.takes(LaneSignal::ShutDown) {
             self.why = LossCause::Dismissed;
             self.state.shut_down(self.alloc);
@@ -161,7 +158,7 @@ where
     }
 
     /// Obeys what was in the mailbox, or hears the worker where nothing was.
-    fn takes(&mut self, next: NextRequest<WorkerStream<S, R>>) -> bool {
+    fn takes(&mut self, next: NextRequest<WorkerStream<R>>) -> bool {
         match next {
             NextRequest::Request(request) => self.obeys(request),
             NextRequest::Nothing => self.turn(),
@@ -171,7 +168,7 @@ where
     }
 
     /// Obeys all that was in the mailbox.
-    fn takes_all(&mut self, mailbox: &Mailbox<WorkerStream<S, R>>) -> bool {
+    fn takes_all(&mut self, mailbox: &Mailbox<WorkerStream<R>>) -> bool {
         for _ in 0..REQUESTS_A_TICK {
             match mailbox.look(self.rt) {
                 NextRequest::Request(request) => self.obeys(request),
@@ -183,7 +180,7 @@ where
     }
 
     /// Obeys a request.
-    fn obeys(&mut self, request: LaneRequest<WorkerStream<S, R>>) {
+    fn obeys(&mut self, request: LaneRequest<WorkerStream<R>>) {
         match request {
             LaneRequest::Attach(link) => self.attach(link),
             LaneRequest::Start(words, bytes, answer) => self.start(&words, bytes, &answer),
@@ -253,7 +250,7 @@ where
 
     /// A link comes. Where the lane is up it is looked first whether that still holds. Then its
     /// worker is asked for a sign of life, and the link waits for that.
-    fn attach(&mut self, link: MasterLink<WorkerStream<S, R>>) {
+    fn attach(&mut self, link: MasterLink<WorkerStream<R>>) {
         if self.state.connection() == ConnectionState::Up {
             self.turn();
             self.watch();
@@ -268,30 +265,33 @@ where
     }
 
     /// A link takes the lane up, or is told why not.
-    fn admit(&mut self, link: MasterLink<WorkerStream<S, R>>) {
+    fn admit(&mut self, link: MasterLink<WorkerStream<R>>) {
         let before = self.state.connection();
         let from = link.get_ref().from();
         let answer = self.state.attach(self.rt, self.alloc, link);
         match answer {
-            Ok(attached) => {
-                self.gate.wake(self.place);
-                self.why = LossCause::Expired;
-                self.peer = PeerTimer::new(self.came(), self.now());
-                if attached == Attached::Resumed {
-                    self.events.tell(LaneEvent::Resumed);
-                } else {
-                    if before == ConnectionState::Cut {
-                        self.events.tell(LaneEvent::Lost(LossCause::Replaced));
-                    }
-                    self.events.tell(LaneEvent::Attached);
-                }
-            }
+            Ok(attached) => self.welcome(attached, before),
             Err(fault) => {
                 self.note(before, LossCause::Replaced);
                 self.events.tell(LaneEvent::Declined(fault, from));
             }
         }
         self.is_lively = true;
+    }
+
+    /// A link has taken the lane up, which was in the state `before`.
+    fn welcome(&mut self, attached: Attached, before: ConnectionState) {
+        self.gate.wake(self.place);
+        self.why = LossCause::Expired;
+        self.peer = PeerTimer::new(self.came(), self.now());
+        if attached == Attached::Resumed {
+            self.events.tell(LaneEvent::Resumed);
+            return;
+        }
+        if before == ConnectionState::Cut {
+            self.events.tell(LaneEvent::Lost(LossCause::Replaced));
+        }
+        self.events.tell(LaneEvent::Attached);
     }
 
     /// A count of what came from the worker by the lane's link.

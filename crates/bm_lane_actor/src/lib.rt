@@ -46,4 +46,4 @@ pub use peer_timer::{ANSWER_WITHIN_MS, ASK_AFTER_MS, DEAD_AFTER_MS, PeerAction, 
 pub use port::{LanePort, Watch};
 pub use resume_timer::ResumeTimer;
 pub use step_meter::StepMeter;
-pub use stream::{LOGIN_MS, Timed, WorkerStream};
+pub use stream::{LOGIN_MS, WorkerStream};

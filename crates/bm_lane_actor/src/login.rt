@@ -4,7 +4,7 @@ ghost use Rattle.std.specs.Prelude.{◌≡◌, IfOk, IfSome, slice_get};
 ghost use Rattle.bm_lane_actor.specs.Login.{IsLoggedIn};
 
 use crate::mailbox::{HandOver, LaneHandle, handle_of};
-use crate::stream::{Timed, WorkerStream};
+use crate::stream::WorkerStream;
 use bm_lines::Text;
 use bm_link::{LinkFault, MasterLink, User};
 use bumpalo::Bump;
@@ -110,16 +110,15 @@ fn hand_over<S: Read + Write + Drop, R: Wait + Clock>(
 /// Those of the link's `accept` and `login`. `Closed` where the lane's actor has left. `Busy` of
 /// the lane where its mailbox has no room. `Stream` also where the time is over. Nothing is left
 /// of the connection then.
-pub fn log_in<S, R>(
+pub fn log_in<R>(
     rt: &R,
     alloc: Global,
-    stream: WorkerStream<S, R>,
+    stream: WorkerStream<R>,
     users: &[User],
-    handles: &[LaneHandle<WorkerStream<S, R>>],
+    handles: &[LaneHandle<WorkerStream<R>>],
     refused: &mut Option<Text>,
 ) -> Result<usize, LinkFault>
 where
-    S: Read + Write + Timed + Drop,
     R: Wait + Clock + Drop,
 {
     let mut stream = stream;

@@ -33,21 +33,6 @@ const MOST_READS: u32 = 1_000_000;
 /// How many writes in a row may meet nothing before one fails.
 const MOST_WRITES: u32 = 100;
 
-/// A stream whose calls can be bounded in time.
-pub trait Timed {
-    /// From now on a read waits for no longer than `read`, a write for no longer than `write`, and
-    /// a short write leaves at once.
-    fn bound(&mut self, read: Duration, write: Duration) -> io::Result<()>;
-}
-
-impl Timed for TcpStream {
-    fn bound(&mut self, read: Duration, write: Duration) -> io::Result<()> {
-        self.set_nodelay(true)?;
-        self.set_read_timeout(Some(read))?;
-        self.set_write_timeout(Some(write))
-    }
-}
-
 /// A worker's connection. Nobody waits for its worker for long:
 ///
 /// - Until it has logged in, a read that met nothing is made again, until the time for a login is
@@ -59,8 +44,8 @@ impl Timed for TcpStream {
 ///   second.
 /// - Once the worker is given up, each call fails.
 #[derive(Drop)]
-pub struct WorkerStream<S, R> {
-    stream: S,
+pub struct WorkerStream<R> {
+    stream: TcpStream,
     rt: R,
     /// Where it came from.
     from: SocketAddr,
@@ -90,15 +75,15 @@ fn meets_nothing(kind: ErrorKind) -> bool {
     matches!(kind, ErrorKind::WouldBlock | ErrorKind::TimedOut)
 }
 
-impl<S, R: Clock> WorkerStream<S, R> {
+impl<R: Clock> WorkerStream<R> {
     /// A connection from this address, whose time for the login begins. It ends with what sets the
     /// flag.
     pub fn new(
         rt: R,
-        stream: S,
+        stream: TcpStream,
         from: SocketAddr,
         is_over: Arc<AtomicBool, Global>,
-    ) -> WorkerStream<S, R> {
+    ) -> WorkerStream<R> {
         let login_ends = match Instant::now(&rt) {
             Ok(now) => now.checked_add(Duration::from_millis(LOGIN_MS)),
             Err(_) => None,
@@ -202,9 +187,7 @@ impl<S, R: Clock> WorkerStream<S, R> {
             WRITE_MS
         })
     }
-}
 
-impl<S: Timed, R: Clock> WorkerStream<S, R> {
     /// Bounds what one call waits for.
     pub(crate) fn bound_calls(&mut self) -> io::Result<()> {
         self.bound(WRITE_MS)
@@ -219,13 +202,15 @@ impl<S: Timed, R: Clock> WorkerStream<S, R> {
         self.bound(LAST_WRITE_MS)
     }
 
+    /// From now on a read waits for `READ_MS` at most, a write for `write_ms`, and a short write
+    /// leaves at once.
     fn bound(&mut self, write_ms: u64) -> io::Result<()> {
         let write = Duration::from_millis(write_ms);
-        self.stream.bound(Duration::from_millis(READ_MS), write)
+        self.stream.set_nodelay(true)?;
+        self.stream.set_read_timeout(Some(Duration::from_millis(READ_MS)))?;
+        self.stream.set_write_timeout(Some(write))
     }
-}
 
-impl<S: Write, R: Clock> WorkerStream<S, R> {
     /// Writes, and counts how long it took. Where the clock fails no time is left.
     fn write_once(&mut self, buf: &[u8]) -> io::Result<usize>
         ensures { WritesAtMost result buf.now }
@@ -244,7 +229,7 @@ impl<S: Write, R: Clock> WorkerStream<S, R> {
     }
 }
 
-impl<S: Read, R: Clock> Read for WorkerStream<S, R> {
+impl<R: Clock> Read for WorkerStream<R> {
     fn read(&mut self, buf: &mut [u8]) -> io::Result<usize> {
         self.spent = Duration::from_secs(0);
         for _ in 0..MOST_READS {
@@ -271,7 +256,7 @@ impl<S: Read, R: Clock> Read for WorkerStream<S, R> {
     }
 }
 
-impl<S: Write + Timed, R: Clock> Write for WorkerStream<S, R> {
+impl<R: Clock> Write for WorkerStream<R> {
     fn write(&mut self, buf: &[u8]) -> io::Result<usize> {
         self.turn_began = None;
         self.bound_at_end()?;

@@ -2,7 +2,7 @@
 ghost use Rattle.std.specs.Thread.{IsSend, IsSync};
 
 use crate::events::{MasterEvent, RefusedConnection};
-use crate::shared_state::{SharedState, WorkerConnection};
+use crate::shared_state::SharedState;
 use bm_lane::Yard;
 use bm_lane_actor::{LOGIN_MS, WorkerStream, log_in, refusal_in};
 use bm_operator::LoginRefusal;
@@ -30,7 +30,7 @@ fn refuse<Y: Yard, R: Wait + Clock + Drop>(
 }
 
 // Serves a connection up to its login, and tells the coordinator where that is refused.
-fn welcome<Y, R>(shared: &SharedState<Y, R>, stream: WorkerConnection<R>, from: SocketAddr)
+fn welcome<Y, R>(shared: &SharedState<Y, R>, stream: WorkerStream<R>, from: SocketAddr)
 where
     Y: Yard + Send + Sync,
     R: Wait + Clock + Copy + Drop,

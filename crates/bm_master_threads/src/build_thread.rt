@@ -2,11 +2,11 @@
 ghost use Rattle.std.specs.Prelude.{◌≡◌};
 
 use crate::events::{EventSender, FinishedBuild, MasterEvent, ReportedStep};
-use crate::shared_state::{SharedState, WorkerConnection};
+use crate::shared_state::SharedState;
 use bm_board::{Build, StepPlan};
 use bm_build_queue::Assignment;
 use bm_lane::{Viewer, Yard};
-use bm_lane_actor::{LaneHandle, LanePort, Watch, handle_of};
+use bm_lane_actor::{LaneHandle, LanePort, Watch, WorkerStream, handle_of};
 use bm_lines::Text;
 use bm_operator::{StartRefusal, StepEvent, StepLimit};
 use bm_runner::run_build;
@@ -27,7 +27,7 @@ const TURNS: u64 = 1 << 32;
 struct BuildTask<Y: Yard, R: Wait + Clock + Drop> {
     number: u64,
     viewer: Viewer<Y>,
-    lane: LaneHandle<WorkerConnection<R>>,
+    lane: LaneHandle<WorkerStream<R>>,
     ghost fits: { viewer.lane ≡ lane },
 }
 
@@ -139,7 +139,7 @@ where
 
 // The task of an assignment. The assignment comes back where memory is wanting.
 fn task_of<Y: Yard, R: Wait + Clock + Drop>(
-    lanes: &[LaneHandle<WorkerConnection<R>>],
+    lanes: &[LaneHandle<WorkerStream<R>>],
     assignment: Assignment<Y>,
 ) -> Result<BuildTask<Y, R>, Assignment<Y>> {
     let Some(lane) = handle_of(lanes, assignment.worker) else {

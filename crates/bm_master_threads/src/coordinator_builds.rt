@@ -27,19 +27,22 @@ where
             };
             let (number, worker) = (assignment.number, assignment.worker);
             match start_build(scope, self.shared, assignment) {
-                Ok(()) => {
-                    let worker = self.name(worker);
-                    self.remark(&Remark::BuildStarted {
-                        build: number,
-                        worker,
-                    });
-                }
+                Ok(()) => self.begins(number, worker),
                 Err(viewer) => {
                     self.has_failed = true;
                     self.ends(number, Results::Retry, viewer);
                 }
             }
         }
+    }
+
+    // A build has begun on the worker at this place.
+    fn begins(&mut self, number: u64, worker: usize) {
+        let worker = self.name(worker);
+        self.remark(&Remark::BuildStarted {
+            build: number,
+            worker,
+        });
     }
 
     // A build has ended, with this result of its runner.

@@ -2,9 +2,9 @@
 //! workers' connections.
 
 use crate::events::{EventSender, MasterEvent};
-use crate::shared_state::{SharedState, WorkerConnection};
+use crate::shared_state::SharedState;
 use bm_lane::{Gate, Pass, ReaderEnd, Yard, writers};
-use bm_lane_actor::{EventSink, LaneEvent, LaneSignal, LaneState, Mailbox, serve_lane};
+use bm_lane_actor::{EventSink, LaneEvent, LaneSignal, LaneState, Mailbox, WorkerStream, serve_lane};
 use std::sync::Wait;
 use std::sync::atomic::Ordering;
 use std::thread::{JoinHandle, Scope, Threads};
@@ -31,8 +31,8 @@ fn start_actor<'s, E, Y, R>(
     scope: &Scope<'s, E>,
     shared: &'s SharedState<Y, R>,
     lane: usize,
-    state: LaneState<Y, WorkerConnection<R>>,
-    mailbox: Mailbox<WorkerConnection<R>>,
+    state: LaneState<Y, WorkerStream<R>>,
+    mailbox: Mailbox<WorkerStream<R>>,
 ) -> Option<JoinHandle<ReaderEnd<Y>>>
 where
     Y: Yard + Send + Sync + 's,
@@ -53,8 +53,8 @@ where
 pub fn start_actors<'s, E, Y, R>(
     scope: &Scope<'s, E>,
     shared: &'s SharedState<Y, R>,
-    states: Vec<LaneState<Y, WorkerConnection<R>>>,
-    mailboxes: Vec<Mailbox<WorkerConnection<R>>>,
+    states: Vec<LaneState<Y, WorkerStream<R>>>,
+    mailboxes: Vec<Mailbox<WorkerStream<R>>>,
     actors: &mut Vec<JoinHandle<ReaderEnd<Y>>>,
 ) -> bool
 where

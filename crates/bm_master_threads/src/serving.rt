@@ -5,10 +5,10 @@ use crate::ending::{end, failed, write_line};
 use crate::host::MasterHost;
 use crate::remarks::Remarks;
 use crate::setup::{MasterStreams, prepare};
-use crate::shared_state::WorkerConnection;
 use crate::threads::run_threads;
 use bm_config::{Config, WorkerConfig};
 use bm_lane::{Blank, Yard, ends_of_all};
+use bm_lane_actor::WorkerStream;
 use bm_lanes::{DealtLanes, deal, open_all};
 use bm_operator::{OutputLine, REFUSED};
 use std::alloc::Global;
@@ -73,7 +73,7 @@ fn ends_by_owner<Y: Yard, R: Wait + Clock + Drop>(
     alloc: Global,
     workers: &[WorkerConfig],
     blanks: Vec<Blank<R>>,
-) -> Option<DealtLanes<Y, R, WorkerConnection<R>>>
+) -> Option<DealtLanes<Y, R, WorkerStream<R>>>
     requires placed { ArePlaced Y.queue Y.copy 0 blanks.items }
 {
     match ends_of_all::<Y, R>(alloc, blanks) {

@@ -3,13 +3,13 @@
 use crate::coordinator::CoordinatorOwned;
 use crate::events::{EventReceiver, open_events};
 use crate::remarks::Remarks;
-use crate::shared_state::{SharedState, WorkerConnection};
+use crate::shared_state::SharedState;
 use crate::threads::ThreadOwned;
 use crate::worker_entry::entries_of;
 use bm_build_queue::{BuildQueue, ViewerPool};
 use bm_config::Config;
 use bm_lane::{Viewer, Yard};
-use bm_lane_actor::{Mailboxes, open_mailboxes};
+use bm_lane_actor::{Mailboxes, WorkerStream, open_mailboxes};
 use bm_lanes::{DealtLanes, maxima_of, slots_of};
 use bm_web_server::LogService;
 use std::alloc::Global;
@@ -94,7 +94,7 @@ pub fn prepare<Y, R, I, O>(
     alloc: Global,
     config: Config,
     streams: MasterStreams<I, O>,
-    ends: DealtLanes<Y, R, WorkerConnection<R>>,
+    ends: DealtLanes<Y, R, WorkerStream<R>>,
     at: SocketAddr,
 ) -> Option<
     (

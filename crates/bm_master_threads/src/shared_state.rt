@@ -8,13 +8,9 @@ use bm_lane_actor::{DrainGate, LaneHandle, LoginLimit, WorkerStream};
 use bm_lanes::users_of;
 use bm_link::User;
 use std::alloc::{AllocError, Global};
-use std::net::TcpStream;
 use std::sync::atomic::AtomicBool;
 use std::sync::{Arc, Mutex, Wait};
 use std::time::Clock;
-
-/// A worker's connection.
-pub type WorkerConnection<R> = WorkerStream<TcpStream, R>;
 
 /// What all threads of a master share. Each list is in the order of the lanes, but for `cancels`.
 #[derive(Drop)]
@@ -27,7 +23,7 @@ pub struct SharedState<Y: Yard, R: Wait + Clock + Drop> {
     /// Who may log in.
     pub users: Vec<User>,
     /// By what the lanes' actors are reached.
-    pub lanes: Vec<LaneHandle<WorkerConnection<R>>>,
+    pub lanes: Vec<LaneHandle<WorkerStream<R>>>,
     /// By what the coordinator is reached.
     pub events: EventSender<Y>,
     /// How many connections without a login there may be.
@@ -48,7 +44,7 @@ impl<Y: Yard, R: Wait + Clock + Copy + Drop> SharedState<Y, R> {
         rt: &R,
         alloc: Global,
         config: Config,
-        lanes: Vec<LaneHandle<WorkerConnection<R>>>,
+        lanes: Vec<LaneHandle<WorkerStream<R>>>,
         events: EventSender<Y>,
         writers: Vec<Mutex<WriterEnd<Y, R>>>,
     ) -> Option<SharedState<Y, R>> {

@@ -18,10 +18,10 @@ use crate::coordinator::{CoordinatorLeft, CoordinatorOwned, coordinate};
 use crate::host::MasterHost;
 use crate::input::start_input;
 use crate::lane_threads::{LaneThreads, drain_lanes, start_actors};
-use crate::shared_state::{SharedState, WorkerConnection};
+use crate::shared_state::SharedState;
 use crate::web::serve_web;
 use bm_lane::{ReaderEnd, Yard};
-use bm_lane_actor::{LaneState, Mailbox};
+use bm_lane_actor::{LaneState, Mailbox, WorkerStream};
 use bm_web_server::LogService;
 use std::io::{Read, Write};
 use std::net::TcpListener;
@@ -34,8 +34,8 @@ use std::time::Clock;
 #[derive(Drop)]
 pub struct ThreadOwned<Y: Yard, R: Wait + Clock + Drop, I, O> {
     /// The actors': the state of each lane, and its mailbox, in the order of the lanes.
-    pub states: Vec<LaneState<Y, WorkerConnection<R>>>,
-    pub mailboxes: Vec<Mailbox<WorkerConnection<R>>>,
+    pub states: Vec<LaneState<Y, WorkerStream<R>>>,
+    pub mailboxes: Vec<Mailbox<WorkerStream<R>>>,
     /// The acceptor's. Its `accept` doesn't wait.
     pub workers: TcpListener,
     /// The first thread's: where it serves, and what.

@@ -71,9 +71,7 @@ impl<S: Read + Write + Drop, K: MaskKeys + Drop> BuildWorker<S, K> {
             match self.session.hear(alloc, arena) {
                 Ok((Turn::Quiet, _)) => break,
                 Ok((turn, act)) => {
-                    if turn == Turn::Heard || turn == Turn::Noted {
-                        self.tries.heard();
-                    }
+                    self.counts(turn);
                     self.does(rt, alloc, act)?;
                 }
                 Err(_) if self.session.is_closed() => return Err(ConnectionEnd::Closed),
@@ -84,6 +82,13 @@ impl<S: Read + Write + Drop, K: MaskKeys + Drop> BuildWorker<S, K> {
             Ok(())
         } else {
             Err(ConnectionEnd::Lost)
+        }
+    }
+
+    /// A message that was heard begins the tries to connect anew.
+    fn counts(&mut self, turn: Turn) {
+        if turn == Turn::Heard || turn == Turn::Noted {
+            self.tries.heard();
         }
     }
 
