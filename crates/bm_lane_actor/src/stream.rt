@@ -207,7 +207,8 @@ impl<R: Clock> WorkerStream<R> {
     fn bound(&mut self, write_ms: u64) -> io::Result<()> {
         let write = Duration::from_millis(write_ms);
         self.stream.set_nodelay(true)?;
-        self.stream.set_read_timeout(Some(Duration::from_millis(READ_MS)))?;
+        self.stream
+            .set_read_timeout(Some(Duration::from_millis(READ_MS)))?;
         self.stream.set_write_timeout(Some(write))
     }
 

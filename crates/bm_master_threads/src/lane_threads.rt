@@ -4,7 +4,9 @@
 use crate::events::{EventSender, MasterEvent};
 use crate::shared_state::SharedState;
 use bm_lane::{Gate, Pass, ReaderEnd, Yard, writers};
-use bm_lane_actor::{EventSink, LaneEvent, LaneSignal, LaneState, Mailbox, WorkerStream, serve_lane};
+use bm_lane_actor::{
+    EventSink, LaneEvent, LaneSignal, LaneState, Mailbox, WorkerStream, serve_lane,
+};
 use std::sync::Wait;
 use std::sync::atomic::Ordering;
 use std::thread::{JoinHandle, Scope, Threads};

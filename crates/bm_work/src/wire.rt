@@ -34,11 +34,7 @@ pub(crate) fn numbered(alloc: Global, seq: u64, request: Request) -> Result<Sent
 }
 
 /// The bytes of the response to the request with that number.
-#[tactic(
-    auto,
-    using(crate::proofs::Sizes::sizes),
-    unfolding(crate::specs::Replies::reply, bm_msg::specs::Trees::answer_bytes)
-)]
+#[tactic(auto, using(crate::proofs::Sizes::sizes), unfolding(crate::specs::Replies::reply, bm_msg::specs::Trees::answer_bytes))]
 pub(crate) fn reply(alloc: Global, seq: u64, answer: WorkerAnswer) -> Result<Vec<u8>, AllocError>
     requires { seq < 2 ^ 63 }
     ensures { IfOk result (λ v. v.items ≡ reply_of seq answer) }
