@@ -24,8 +24,8 @@ use Rattle.bm_link.specs.Control.{ClosesFor, PingsFor}
 use Rattle.bm_link.specs.Link.{LinkState, Turned}
 use Rattle.bm_link.specs.Orders.{Starts as LinkStarts, Interrupts as LinkInterrupts}
 use Rattle.bm_lane_actor.specs.ResumeTimer.{TimerView, begun, cut_off, dismissed, is_over, passed}
-use Rattle.bm_lane_actor.specs.declared.lane_state.Rest.{Rest}
-use Rattle.bm_lane_actor.specs.declared.lane_state.Rest.TheVariants as rest
+use Rattle.bm_lane_actor.specs.declared.lane_state.Awaited.{Awaited}
+use Rattle.bm_lane_actor.specs.declared.lane_state.Awaited.TheVariants as awaited
 use Rattle.bm_lane_actor.specs.declared.order_outcome.OrderOutcome.{OrderOutcome}
 use Rattle.bm_lane_actor.specs.declared.order_outcome.OrderOutcome.TheVariants as outcome
 use Rattle.bm_lane_actor.specs.declared.connection_state.ConnectionState.{ConnectionState}
@@ -41,11 +41,11 @@ pub record LaneView (S : Type 0) : Type 0 where
   pub timer : TimerView
 
 -- what is waited for: a lane that is up waits for messages where its worker has something to say
-abbrev pub rest_of : Bool → ConnectionState → Rest
-rest_of true connection.Up = rest.Message
-rest_of false connection.Up = rest.Glance
-rest_of lively connection.Cut = rest.Tick
-rest_of lively connection.Down = rest.Request
+abbrev pub awaited_of : Bool → ConnectionState → Awaited
+awaited_of true connection.Up = awaited.Message
+awaited_of false connection.Up = awaited.Glance
+awaited_of lively connection.Cut = awaited.Tick
+awaited_of lively connection.Down = awaited.Request
 
 -- ticks are counted from a cut on, until the session was given up
 abbrev pub timer_in : ConnectionState → TimerView → TimerView

@@ -8,7 +8,7 @@ use crate::connection_state::ConnectionState;
 use crate::drain_gate::DrainGate;
 use crate::lane_event::{EventSink, LaneEvent, event_after, loss_of};
 use crate::lane_request::{LaneRequest, LaneSignal};
-use crate::lane_state::{LaneState, Rest};
+use crate::lane_state::{Awaited, LaneState};
 use crate::mailbox::{Mailbox, NextRequest};
 use crate::order_outcome::OrderOutcome;
 use crate::peer_timer::{PeerAction, PeerTimer};
@@ -127,12 +127,12 @@ where
         self.takes_signals(mailbox);
         self.watch();
         let is_lively = self.is_lively || !self.commands.is_empty() || self.waiting.is_some();
-        match self.state.rest(is_lively) {
-            Rest::Request | Rest::Glance => {
+        match self.state.awaited(is_lively) {
+            Awaited::Request | Awaited::Glance => {
                 self.takes(mailbox.wait_for(self.rt, Duration::from_millis(GLANCE_MS)))
             }
-            Rest::Message => self.takes(mailbox.look(self.rt)),
-            Rest::Tick => {
+            Awaited::Message => self.takes(mailbox.look(self.rt)),
+            Awaited::Tick => {
                 self.expire();
                 thread::sleep(self.rt, Duration::from_millis(TICK_MS));
                 self.tick();

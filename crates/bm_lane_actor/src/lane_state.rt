@@ -5,7 +5,7 @@ ghost use Rattle.bm_link.specs.Carries.{new_carried};
 ghost use Rattle.bm_link.specs.Laws.{CarriesPending};
 ghost use Rattle.bm_link.specs.Texts.{AreShort};
 ghost use Rattle.bm_lane_actor.specs.ResumeTimer.{kept as kept_timer, dismissed};
-ghost use Rattle.bm_lane_actor.specs.LaneStates.{rest_of, Attaches, Closes, Expires, GivesUp, Interrupts, Pings, ShutsDown, Starts, Ticks, Turns, with_timer};
+ghost use Rattle.bm_lane_actor.specs.LaneStates.{awaited_of, Attaches, Closes, Expires, GivesUp, Interrupts, Pings, ShutsDown, Starts, Ticks, Turns, with_timer};
 ghost use Rattle.bm_lane_actor.specs.LaneEvents.{connection_of};
 
 use crate::connection_state::ConnectionState;
@@ -58,7 +58,7 @@ impl<Y: Yard, S> Model for LaneState<Y, S> {
 
 /// What an actor waits for.
 #[derive(Clone, Copy, PartialEq, Eq)]
-pub(crate) enum Rest {
+pub(crate) enum Awaited {
     /// A request: the lane is down.
     Request,
     /// A request, but for a look at the link now and then: the worker has nothing to say.
@@ -101,14 +101,14 @@ impl<Y: Yard, S> LaneState<Y, S> {
     }
 
     /// What is waited for. `is_lively`: the worker has something to say.
-    pub(crate) fn rest(&self, is_lively: bool) -> Rest
-        ensures { result ≡ rest_of is_lively (connection_of self.now.lane.trace) }
+    pub(crate) fn awaited(&self, is_lively: bool) -> Awaited
+        ensures { result ≡ awaited_of is_lively (connection_of self.now.lane.trace) }
     {
         match self.connection() {
-            ConnectionState::Up if is_lively => Rest::Message,
-            ConnectionState::Up => Rest::Glance,
-            ConnectionState::Cut => Rest::Tick,
-            ConnectionState::Down => Rest::Request,
+            ConnectionState::Up if is_lively => Awaited::Message,
+            ConnectionState::Up => Awaited::Glance,
+            ConnectionState::Cut => Awaited::Tick,
+            ConnectionState::Down => Awaited::Request,
         }
     }
 

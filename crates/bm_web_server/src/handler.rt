@@ -22,10 +22,10 @@ pub trait Handler: Drop {
     type Rest: Drop;
 
     /// What an answer is made of.
-    type Seen: Drop;
+    type Source: Drop;
 
     // Which replies a request with this method and target may get, made of what was seen.
-    ghost gives: { Self → List ℕ → List ℕ → Option Self.Seen → Reply → Type 0 };
+    ghost gives: { Self → List ℕ → List ℕ → Option Self.Source → Reply → Type 0 };
 
     // The text that is left to tell.
     ghost text: { Self.Rest → List ℕ };
@@ -37,7 +37,7 @@ pub trait Handler: Drop {
         alloc: Global,
         method: &str,
         target: &str,
-    ) -> Served<Self::Rest, Self::Seen>
+    ) -> Served<Self::Rest, Self::Source>
         ensures { gives self.now method.now target.now result.seen (reply_told text result.reply) };
 
     /// The next piece of a long answer; none once all was told.

@@ -137,7 +137,7 @@ impl<Y: Yard> LogService<Y> {
 impl<Y: Yard> Handler for LogService<Y> {
     type Rest = LongAnswer<Y>;
 
-    type Seen = Mark<Y>;
+    type Source = Mark<Y>;
 
     // It is made of a mark, which only a viewer of that lane gives: of what that had then seen.
     ghost gives = { λ service method target seen reply. (reply ≡ unavailable)

@@ -19,7 +19,7 @@ pub struct Unsent<R, S: Handler> {
     pub alloc: Global,
     pub service: Arc<S>,
     pub rest: S::Rest,
-    pub seen: Option<S::Seen>,
+    pub seen: Option<S::Source>,
 }
 
 impl<R: Wait + Drop, S: Handler> Unsent<R, S> {
@@ -36,7 +36,7 @@ impl<R: Wait + Drop, S: Handler> Unsent<R, S> {
 #[derive(Drop)]
 pub enum PageBody<R, S: Handler> {
     /// One piece, or none any more, and what it was made of.
-    Whole(Option<Bytes>, Option<S::Seen>),
+    Whole(Option<Bytes>, Option<S::Source>),
     /// Pieces that are still to come.
     Long(Unsent<R, S>),
 }

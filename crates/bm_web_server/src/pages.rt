@@ -78,7 +78,7 @@ fn target_in(uri: &Uri) -> &str
 fn response<R: Wait + Drop, S: Handler>(
     alloc: Global,
     answer: Answer,
-    seen: Option<S::Seen>,
+    seen: Option<S::Source>,
 ) -> Response<PageBody<R, S>>
     ensures { ((replied S.text result ≡ reply_of answer) × (seen_in result ≡ seen))
         ⊎ (replied S.text result ≡ unavailable_reply) }
@@ -111,7 +111,7 @@ fn response<R: Wait + Drop, S: Handler>(
 fn long<R: Wait + Copy, S: Handler>(
     pages: &Pages<R, S>,
     rest: S::Rest,
-    seen: Option<S::Seen>,
+    seen: Option<S::Source>,
 ) -> Response<PageBody<R, S>>
     ensures { ((replied S.text result ≡ page (S.text rest)) × (seen_in result ≡ seen))
         ⊎ (replied S.text result ≡ unavailable_reply) }
@@ -134,7 +134,7 @@ fn long<R: Wait + Copy, S: Handler>(
     response
 }
 
-fn whole<R: Wait + Drop, S: Handler>(body: Bytes, seen: Option<S::Seen>) -> PageBody<R, S>
+fn whole<R: Wait + Drop, S: Handler>(body: Bytes, seen: Option<S::Source>) -> PageBody<R, S>
     ensures { (body_text S.text result ≡ body) × (seen_of result ≡ seen) }
 {
     if body.is_empty() {

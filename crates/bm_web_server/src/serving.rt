@@ -52,7 +52,7 @@ where
     R: Wait + Threads + Clock + RandomSource + AllocGlobal + Net + Copy + Send + Sync,
     S: Handler + Send + Sync,
     S::Rest: Send,
-    S::Seen: Send,
+    S::Source: Send,
     requires { 0 < limits.workers }
 {
     let alloc = rt.alloc();
