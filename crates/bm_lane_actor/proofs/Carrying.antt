@@ -1,16 +1,15 @@
 -- What a state's calls carry stays what is pending in its lane.
-use Rattle.std.proofs.Common.{◌≡◌, refl, sym, ◌∙◌, ap, subst, ℕ, Bool, true, false, not, ◌&&◌, List, [], ◌∷◌, ◌++◌, Option, Some, None, Result, Ok, Err, inl, inr, rules}
-use Rattle.std.specs.Prelude.{◌⊎◌, is_none, nat_lt, ◌^◌, ◌+◌, if◌then◌else◌}
+use Rattle.std.proofs.Common.{◌≡◌, refl, sym, ap, subst, ℕ, Bool, true, false, not, ◌&&◌, List, [], ◌∷◌, ◌++◌, Option, Some, None, Result, Ok, Err, inl, inr, rules}
+use Rattle.std.specs.Prelude.{◌⊎◌, nat_lt, ◌^◌, ◌+◌, if◌then◌else◌}
 use Rattle.bm_session.proofs.Pushed.{is_cut-push}
-use Rattle.bm_session.proofs.Taken.{and-left, and-right, was_taken-push}
+use Rattle.bm_session.proofs.Taken.{front-taken, no-second-up}
 use Rattle.bm_session.specs.declared.event.Event.{Event}
 use Rattle.bm_session.specs.declared.event.Event.TheVariants.{Up, In, Go, Stop, Cut, Down}
-use Rattle.bm_session.specs.declared.refusal.Refusal.TheVariants.{AlreadyUp}
 use Rattle.bm_session.specs.declared.reply.Reply.{Reply}
 use Rattle.bm_session.specs.declared.reply.Reply.TheVariants.{Silent, Answer}
 use Rattle.bm_session.specs.declared.reply.Verdict.{Verdict}
 use Rattle.bm_session.specs.Events.{is_order}
-use Rattle.bm_session.specs.Trace.{Trace, is_up, is_cut, reply, refusal, was_taken, first_reason, reason_if, too_many_open, no_such_command, full}
+use Rattle.bm_session.specs.Trace.{Trace, is_up, is_cut, reply, was_taken}
 use Rattle.bm_lane.specs.Ends.{Heard}
 use Rattle.bm_lane.specs.Hearing.{with_event, Hears}
 use Rattle.bm_lane.specs.declared.refusals.HearRefusal.{HearRefusal}
@@ -42,19 +41,6 @@ moved resume_state resume_state2 lane lane2 l c h =
     subst (λ (x : Carried). Keeps x lane2) (sym c) (subst (λ (y : Heard). Keeps resume_state y) (sym l) h)
 
 -- Events
-
-refused-up : (t : Trace) → is_up t ≡ true → refusal t Up ≡ Some AlreadyUp
-refused-up t u = ap (λ b. first_reason (reason_if b AlreadyUp) (first_reason (too_many_open t Up) (first_reason (no_such_command t Up) (full t Up)))) u
-
--- an Up on a lane that is up is not taken
-no-second-up : (t : Trace) → is_up t ≡ true → was_taken (t ++ Up ∷ []) ≡ true → ⊥
-no-second-up t u w =
-    let r : is_none (refusal t Up) ≡ true = and-right (was_taken t) (is_none (refusal t Up)) (sym (was_taken-push t Up) ∙ w) in
-    let s : is_none (refusal t Up) ≡ false = ap is_none (refused-up t u) in
-    cc
-
-before : (t : Trace) (e : Event) → was_taken (t ++ e ∷ []) ≡ true → was_taken t ≡ true
-before t e w = and-left (was_taken t) (is_none (refusal t e)) (sym (was_taken-push t e) ∙ w)
 
 after-cut : (t : Trace) (resume_state : Carried) → CarriesPending resume_state t → CarriesPending resume_state (t ++ Cut ∷ [])
 after-cut t resume_state h = events_keep t resume_state Cut refl refl h
@@ -108,7 +94,7 @@ fallen lane lane2 resume_state (inl d) h = moved resume_state resume_state (with
 fallen lane lane2 resume_state (inr d) h = moved resume_state resume_state lane lane2 d refl h
 
 fallen-taken : (lane lane2 : Heard) → (lane2 ≡ with_event lane Down) ⊎ (lane2 ≡ lane) → IsTaken lane2 → IsTaken lane
-fallen-taken lane lane2 (inl d) w = before lane.trace Down (subst (λ (y : Heard). IsTaken y) d w)
+fallen-taken lane lane2 (inl d) w = front-taken lane.trace (Down ∷ []) (subst (λ (y : Heard). IsTaken y) d w)
 fallen-taken lane lane2 (inr d) w = subst (λ (y : Heard). IsTaken y) d w
 
 over : (cuts : Bool) (lane lane2 : Heard) (resume_state : Carried) (e : _) → Ends cuts lane lane2 e → Keeps resume_state lane → Keeps resume_state lane2
@@ -116,7 +102,7 @@ over cuts lane lane2 resume_state e (inl (m, cut, d)) h = moved resume_state res
 over cuts lane lane2 resume_state e (inr (n, f)) h = fallen lane lane2 resume_state (falls lane lane2 e f) h
 
 over-taken : (cuts : Bool) (lane lane2 : Heard) (e : _) → Ends cuts lane lane2 e → IsTaken lane2 → IsTaken lane
-over-taken cuts lane lane2 e (inl (m, cut, d)) w = before lane.trace Cut (subst (λ (y : Heard). IsTaken y) d w)
+over-taken cuts lane lane2 e (inl (m, cut, d)) w = front-taken lane.trace (Cut ∷ []) (subst (λ (y : Heard). IsTaken y) d w)
 over-taken cuts lane lane2 e (inr (n, f)) w = fallen-taken lane lane2 (falls lane lane2 e f) w
 
 -- Logins

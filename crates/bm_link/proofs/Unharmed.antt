@@ -1,13 +1,12 @@
 -- A lane that is up takes no second link.
 use Rattle.std.proofs.Common.{◌≡◌, refl, sym, ◌∙◌, ap, subst, ℕ, Bool, true, false, ◌||◌, List, [], ◌∷◌, ◌++◌, Option, Some, None, Result, Ok, Err, inl, inr}
-use Rattle.std.specs.Prelude.{is_none, if◌then◌else◌}
+use Rattle.std.specs.Prelude.{if◌then◌else◌}
 use Rattle.bm_session.proofs.Snoc.{snoc_induction}
 use Rattle.bm_session.proofs.Pushed.{is_up-push, is_cut-push}
-use Rattle.bm_session.proofs.Taken.{and-left, and-right, was_taken-push}
+use Rattle.bm_session.proofs.Taken.{front-taken, no-second-up}
 use Rattle.bm_session.specs.declared.event.Event.{Event}
 use Rattle.bm_session.specs.declared.event.Event.TheVariants.{Up, In, Go, Stop, Cut, Down}
-use Rattle.bm_session.specs.declared.refusal.Refusal.TheVariants.{AlreadyUp}
-use Rattle.bm_session.specs.Trace.{Trace, is_up, is_cut, refusal, was_taken, first_reason, reason_if, too_many_open, no_such_command, full}
+use Rattle.bm_session.specs.Trace.{Trace, is_up, is_cut, was_taken}
 use Rattle.bm_lane.specs.Ends.{Heard}
 use Rattle.bm_lane.specs.Hearing.{with_event}
 use Rattle.bm_lane.specs.declared.refusals.HearRefusal.{HearRefusal}
@@ -38,19 +37,6 @@ up-not-cut = snoc_induction (λ t. is_up t ≡ true → is_cut t ≡ false) (λ 
     step t (Stop k) ih h = is_cut-push t (Stop k) ∙ or-false (is_cut t) ∙ ih (sym (is_up-push t (Stop k) ∙ or-false (is_up t)) ∙ h)
     step t (In n b) ih h = is_cut-push t (In n b) ∙ or-false (is_cut t) ∙ ih (sym (is_up-push t (In n b) ∙ or-false (is_up t)) ∙ h)
 
-refused-up : (t : Trace) → is_up t ≡ true → refusal t Up ≡ Some AlreadyUp
-refused-up t u = ap (λ b. first_reason (reason_if b AlreadyUp) (first_reason (too_many_open t Up) (first_reason (no_such_command t Up) (full t Up)))) u
-
--- an Up after it is not taken
-no-second-up : (t : Trace) → is_up t ≡ true → was_taken (t ++ Up ∷ []) ≡ true → ⊥
-no-second-up t u w =
-    let r : is_none (refusal t Up) ≡ true = and-right (was_taken t) (is_none (refusal t Up)) (sym (was_taken-push t Up) ∙ w) in
-    let s : is_none (refusal t Up) ≡ false = ap is_none (refused-up t u) in
-    cc
-
-taken-before : (t : Trace) (e : Event) → was_taken (t ++ e ∷ []) ≡ true → was_taken t ≡ true
-taken-before t e w = and-left (was_taken t) (is_none (refusal t e)) (sym (was_taken-push t e) ∙ w)
-
 -- where it is up nothing is cleared
 stays-clear : (resumed : Bool) (lane : Heard) → is_up lane.trace ≡ true → cleared resumed lane ≡ lane
 stays-clear resumed lane u = ap (λ b. if b then (if resumed then lane else with_event lane Down) else lane) (up-not-cut lane.trace u)
@@ -62,10 +48,10 @@ not-taken-up resumed lane u w =
 -- it does not end as one that went up
 not-ended : (cuts resumed : Bool) (lane lane2 : Heard) (e : Ended) → is_up lane.trace ≡ true → was_taken lane2.trace ≡ true → Ends cuts (taken_up resumed lane) lane2 e → ⊥
 not-ended cuts resumed lane lane2 e u w (inl (m, cut, d)) =
-    not-taken-up resumed lane u (taken-before (taken_up resumed lane).trace Cut (subst (λ (l : Heard). was_taken l.trace ≡ true) d w))
+    not-taken-up resumed lane u (front-taken (taken_up resumed lane).trace (Cut ∷ []) (subst (λ (l : Heard). was_taken l.trace ≡ true) d w))
 not-ended cuts resumed lane lane2 ended.Cut u w (inr (n, f)) = f
 not-ended cuts resumed lane lane2 ended.Down u w (inr (n, inl d)) =
-    not-taken-up resumed lane u (taken-before (taken_up resumed lane).trace Down (subst (λ (l : Heard). was_taken l.trace ≡ true) d w))
+    not-taken-up resumed lane u (front-taken (taken_up resumed lane).trace (Down ∷ []) (subst (λ (l : Heard). was_taken l.trace ≡ true) d w))
 not-ended cuts resumed lane lane2 ended.Down u w (inr (n, inr (d, down))) =
     not-taken-up resumed lane u (subst (λ (l : Heard). was_taken l.trace ≡ true) d w)
 not-ended cuts resumed lane lane2 ended.Waits u w (inr (n, (d, busy))) =

@@ -1,8 +1,9 @@
 -- What holds of a trace each event of which was taken.
-use Rattle.std.proofs.Common.{◌≡◌, refl, sym, ◌∙◌, ap, ℕ, ◌+◌, ◌≤◌, ◌<◌, Bool, true, false, cond, not, ◌||◌, ◌&&◌, [], ◌∷◌, ◌++◌, Option, Some, None, arith, inl, inr}
+use Rattle.std.proofs.Common.{◌≡◌, refl, sym, ◌∙◌, ap, subst, ℕ, ◌+◌, ◌≤◌, ◌<◌, Bool, true, false, cond, not, ◌||◌, ◌&&◌, [], ◌∷◌, ◌++◌, Option, Some, None, arith, inl, inr, append_assoc}
 use Rattle.std.specs.Prelude.{◌==◌, ◌⊎◌, nat_lt, is_none}
 use Rattle.std.specs.Option.{option_or}
 use Rattle.std.proofs.lemmas.Bool.{eqb-true, cases_lt, or_cases}
+use Rattle.std.proofs.lemmas.List.{append-nil}
 use Rattle.std.proofs.lemmas.Bool.Decides.{nat_tests}
 use Rattle.bm_session.proofs.Snoc.{snoc_induction, list_all-push, and-false, or-true}
 use Rattle.bm_session.proofs.Pushed.{next, moments-push, commands-push, orders-push, is_up-push, is_cut-push, was_order-push, ending-push, blocks-push}
@@ -13,7 +14,7 @@ use Rattle.bm_session.specs.declared.refusal.Refusal.{Refusal}
 use Rattle.bm_session.specs.declared.refusal.Refusal.TheVariants.{NotUp, AlreadyUp}
 use Rattle.bm_session.specs.Events.{is_go}
 use Rattle.bm_lines.specs.Names.{Name}
-use Rattle.bm_session.specs.Trace.{Trace, Moment, moments, commands, orders, is_up, is_cut, was_order, ends_at, ending, is_open, blocks, starts, updates, refusal, was_taken, first_reason, reason_if}
+use Rattle.bm_session.specs.Trace.{Trace, Moment, moments, commands, orders, is_up, is_cut, was_order, ends_at, ending, is_open, blocks, starts, updates, refusal, was_taken, first_reason, reason_if, too_many_open, no_such_command, full}
 
 pub and-left : (a b : Bool) → (a && b) ≡ true → a ≡ true
 and-left true b h = refl
@@ -77,6 +78,23 @@ is_open-push t e k h =
 
 pub was_taken-push : (t : Trace) (e : Event) → was_taken (t ++ e ∷ []) ≡ (was_taken t && is_none (refusal t e))
 was_taken-push t e = rw (moments-push t e) (list_all-push (λ m. is_none (refusal m.past m.event)) (moments t) (next t e))
+
+-- the front of a trace that was taken was taken
+pub front-taken : (u v : Trace) → was_taken (u ++ v) ≡ true → was_taken u ≡ true
+front-taken u [] h = subst (λ w. was_taken w ≡ true) (append-nil u) h
+front-taken u (e ∷ v) h =
+    let more : was_taken (u ++ e ∷ []) ≡ true = front-taken (u ++ e ∷ []) v (subst (λ w. was_taken w ≡ true) (sym (append_assoc u (e ∷ []) v)) h) in
+    and-left (was_taken u) (is_none (refusal u e)) (sym (was_taken-push u e) ∙ more)
+
+refused-up : (t : Trace) → is_up t ≡ true → refusal t Up ≡ Some AlreadyUp
+refused-up t u = ap (λ b. first_reason (reason_if b AlreadyUp) (first_reason (too_many_open t Up) (first_reason (no_such_command t Up) (full t Up)))) u
+
+-- an Up on a lane that is up is not taken
+pub no-second-up : (t : Trace) → is_up t ≡ true → was_taken (t ++ Up ∷ []) ≡ true → ⊥
+no-second-up t u w =
+    let r : is_none (refusal t Up) ≡ true = and-right (was_taken t) (is_none (refusal t Up)) (sym (was_taken-push t Up) ∙ w) in
+    let s : is_none (refusal t Up) ≡ false = ap is_none (refused-up t u) in
+    cc
 
 pub open-is-started : (t : Trace) (k : ℕ) → is_open t k ≡ true → k < commands t
 open-is-started t k h = let b : nat_lt k (commands t) ≡ true = and-left _ _ h in grind (arith, nat_tests)

@@ -9,7 +9,7 @@ use Rattle.std.proofs.lemmas.Bool.{eqb-true, eq-eqb, cases_lt}
 use Rattle.std.proofs.lemmas.Bool.Decides.{nat_tests}
 use Rattle.bm_session.proofs.Snoc.{snoc_induction, find-push, filter-push, and-false}
 use Rattle.bm_session.proofs.Pushed.{next, added, items-push, commands-push, ending-push, blocks-push}
-use Rattle.bm_session.proofs.Taken.{IsSound, sound, was_taken-push, and-left, and-right, ends-no, open-is-started, not-started, IsNothing}
+use Rattle.bm_session.proofs.Taken.{IsSound, sound, was_taken-push, front-taken, and-left, and-right, ends-no, open-is-started, not-started, IsNothing}
 use Rattle.bm_session.proofs.Visible.{find-passes, unproductive, same-arms, IsPrefix-refl, visible-is-prefix, productive-visible}
 use Rattle.bm_session.specs.declared.event.Event.{Event}
 use Rattle.bm_session.specs.declared.event.Event.TheVariants.{Up, In, Go, Stop, Cut, Down}
@@ -339,12 +339,6 @@ items-more u (e ∷ v) =
     let one : List Item = cons_option (item u e) [] in
     (one ++ rest.0, sym (append_assoc (items u) one rest.0) ∙ ap (λ l. l ++ rest.0) (sym (items-push u e)) ∙ rest.1 ∙ ap items same)
 
-taken-before : (u v : Trace) → was_taken (u ++ v) ≡ true → was_taken u ≡ true
-taken-before u [] h = sym (ap was_taken (append-nil u)) ∙ h
-taken-before u (e ∷ v) h =
-    let more : was_taken (u ++ e ∷ []) ≡ true = taken-before (u ++ e ∷ []) v (ap was_taken (append_assoc u (e ∷ []) v) ∙ h) in
-    and-left (was_taken u) (is_none (refusal u e)) (sym (was_taken-push u e) ∙ more)
-
 pub items-visible : (t : Trace) (d : ℕ) → d ≤ productive t → items (visible t d) ≡ take d (items t)
 items-visible t d h =
     let p : IsPrefix (visible t d) t = visible-is-prefix t d h in
@@ -355,4 +349,4 @@ items-visible t d h =
 pub visible_books_have_the_logs : VisibleBooksHaveTheLogs
 visible_books_have_the_logs t d h l =
     let p : IsPrefix (visible t d) t = visible-is-prefix t d l in
-    ap book (sym (items-visible t d l)) ∙ books_have_the_logs (visible t d) (taken-before (visible t d) p.0 (ap was_taken p.1 ∙ h))
+    ap book (sym (items-visible t d l)) ∙ books_have_the_logs (visible t d) (front-taken (visible t d) p.0 (ap was_taken p.1 ∙ h))
