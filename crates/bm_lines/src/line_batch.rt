@@ -1,12 +1,12 @@
 //! The lines that an update carries.
 
 ghost use Rattle.std.specs.Prelude.{◌≡◌, ◌<◌, [], ◌∷◌, ◌++◌, true, OnOk, OnErr, bytes_eq, IfOk, length};
-ghost use Rattle.std.specs.Option.{option_copied};
+ghost use Rattle.std.specs.Option.{option_copied, option_to_list};
 ghost use Rattle.std.specs.List.{position_or_len};
 ghost use Rattle.bm_lines.specs.Lines.{lines_of};
 ghost use Rattle.bm_lines.specs.Names.{Name};
 ghost use Rattle.bm_lines.specs.OneOrMany.{items_of};
-ghost use Rattle.bm_lines.specs.LineBatches.{are_distinct, names_of, with_item, block_under};
+ghost use Rattle.bm_lines.specs.LineBatches.{are_distinct, names_of, with_item, block_under, blocks_under};
 ghost use Rattle.bm_lines.specs.Places.{HasPlaces};
 
 use crate::block::{Block, cut};
@@ -92,9 +92,10 @@ impl LineBatch {
         self.parts.as_slice()
     }
 
-    /// The block of the part with this name.
+    /// The block of the part with this name. No other part has the name.
     pub fn of(&self, name: &str) -> Option<&Block>
-        ensures { option_copied result ≡ block_under name.now self.now }
+        ensures found { option_copied result ≡ block_under name.now self.now }
+        ensures only { option_to_list (option_copied result) ≡ blocks_under name.now self.now }
     {
         let parts = self.parts.as_slice();
         let i = place(parts, name);

@@ -1,5 +1,5 @@
 -- The logs of a trace that was taken, for a loop that has read one event more.
-use Rattle.std.proofs.Common.{◌≡◌, refl, sym, ◌∙◌, ap, subst, ℕ, ◌+◌, ◌<◌, ◌≤◌, Bool, true, false, cond, not, ◌||◌, ◌&&◌, List, [], ◌∷◌, ◌++◌, length, take, drop, get_or, None, append_assoc}
+use Rattle.std.proofs.Common.{◌≡◌, refl, sym, ◌∙◌, ap, subst, ℕ, ◌+◌, ◌<◌, ◌≤◌, Bool, true, false, cond, not, ◌||◌, ◌&&◌, List, [], ◌∷◌, ◌++◌, length, take, drop, get_or, None}
 use Rattle.std.specs.Prelude.{◌==◌, is_none}
 use Rattle.std.proofs.lemmas.Bool.Decides.{nat_tests}
 use Rattle.std.proofs.Common.{arith}
@@ -7,9 +7,10 @@ use Rattle.std.proofs.lemmas.List.{append-nil, length-take-le, take_more, take-a
 use Rattle.bm_lines.specs.Lines.{Line}
 use Rattle.bm_lines.specs.Names.{Name}
 use Rattle.bm_lines.specs.LineBatches.{blocks_under}
+use Rattle.bm_session.proofs.Snoc.{or-false, or-true}
 use Rattle.bm_session.proofs.Pushed.{next, added, blocks-push, log-push}
 use Rattle.bm_session.proofs.Taking.{orders_le-length}
-use Rattle.bm_session.proofs.Taken.{and-left, and-right, none-from, was_taken-push}
+use Rattle.bm_session.proofs.Taken.{and-right, front-taken, none-from, was_taken-push}
 use Rattle.bm_session.specs.declared.event.Event.{Event}
 use Rattle.bm_session.specs.declared.event.Event.TheVariants.{In}
 use Rattle.bm_session.specs.declared.event.Body.TheVariants.{Update}
@@ -68,22 +69,35 @@ added-if t k name e = collapse (updates k (next t e))
     collapse true = refl
     collapse false = refl
 
-pub log_next : (t : Trace) (b : Bool) (i k : ℕ) (name : Name) (x : Event) → b ≡ counts (take i t) x → i < length t → x ≡ get_or t i x → log (take (i + 1) t) k name ≡ log (take i t) k name ++ joined (carried_if b k name x)
+log_next : (t : Trace) (b : Bool) (i k : ℕ) (name : Name) (x : Event) → b ≡ counts (take i t) x → i < length t → x ≡ get_or t i x → log (take (i + 1) t) k name ≡ log (take i t) k name ++ joined (carried_if b k name x)
 log_next t b i k name x same l e =
     log_more t i x k name l e
     ∙ ap (λ b. log (take i t) k name ++ joined b) (added-if (take i t) k name x ∙ ap (λ c. carried_if c k name x) (sym same))
 
-pub blocks_next : (t : Trace) (b : Bool) (i k : ℕ) (name : Name) (x : Event) → b ≡ counts (take i t) x → i < length t → x ≡ get_or t i x → not (is_empty (blocks (take (i + 1) t) k name)) ≡ (not (is_empty (blocks (take i t) k name)) || not (is_empty (carried_if b k name x)))
+blocks_next : (t : Trace) (b : Bool) (i k : ℕ) (name : Name) (x : Event) → b ≡ counts (take i t) x → i < length t → x ≡ get_or t i x → not (is_empty (blocks (take (i + 1) t) k name)) ≡ (not (is_empty (blocks (take i t) k name)) || not (is_empty (carried_if b k name x)))
 blocks_next t b i k name x same l e =
     has_blocks_more t i x k name l e
     ∙ ap (λ b. not (is_empty (blocks (take i t) k name)) || not (is_empty b)) (added-if (take i t) k name x ∙ ap (λ c. carried_if c k name x) (sym same))
 
--- the front of a trace that was taken was taken
-front-taken : (u v : Trace) → was_taken (u ++ v) ≡ true → was_taken u ≡ true
-front-taken u [] h = subst (λ w. was_taken w ≡ true) (append-nil u) h
-front-taken u (e ∷ v) h =
-    let more : was_taken (u ++ e ∷ []) ≡ true = front-taken (u ++ e ∷ []) v (subst (λ w. was_taken w ≡ true) (sym (append_assoc u (e ∷ []) v)) h) in
-    and-left (was_taken u) (is_none (refusal u e)) (sym (was_taken-push u e) ∙ more)
+-- what a walk has of a log: whether there is a block, and the lines
+abbrev pub HasLog : Trace → ℕ → Name → Bool → List Line → Type 0
+HasLog t k name found lines = (found ≡ not (is_empty (blocks t k name))) × (lines ≡ log t k name)
+
+-- after an event that adds a block, and after one that adds none
+pub with_block : (t : Trace) (b : Bool) (i k : ℕ) (name : Name) (x : Event) → b ≡ counts (take i t) x → i < length t → x ≡ get_or t i x
+    → (block lines : List Line) → block ∷ [] ≡ carried_if b k name x → lines ≡ log (take i t) k name → HasLog (take (i + 1) t) k name true (lines ++ block)
+with_block t b i k name x same l e block lines adds is = (
+  sym (blocks_next t b i k name x same l e ∙ ap (λ bs. not (is_empty (blocks (take i t) k name)) || not (is_empty bs)) (sym adds) ∙ or-true _),
+  ap (λ ls. ls ++ block) is ∙ ap (λ ls. log (take i t) k name ++ ls) (sym (append-nil block)) ∙ ap (λ bs. log (take i t) k name ++ joined bs) adds
+      ∙ sym (log_next t b i k name x same l e),
+)
+
+pub without_block : (t : Trace) (b : Bool) (i k : ℕ) (name : Name) (x : Event) → b ≡ counts (take i t) x → i < length t → x ≡ get_or t i x
+    → (found : Bool) (lines : List Line) → [] ≡ carried_if b k name x → HasLog (take i t) k name found lines → HasLog (take (i + 1) t) k name found lines
+without_block t b i k name x same l e found lines adds is = (
+  is.0 ∙ sym (blocks_next t b i k name x same l e ∙ ap (λ bs. not (is_empty (blocks (take i t) k name)) || not (is_empty bs)) (sym adds) ∙ or-false _),
+  is.1 ∙ sym (append-nil (log (take i t) k name)) ∙ ap (λ bs. log (take i t) k name ++ joined bs) adds ∙ sym (log_next t b i k name x same l e),
+)
 
 pub taken_front : (t : Trace) (i : ℕ) → was_taken t ≡ true → was_taken (take i t) ≡ true
 taken_front t i h = front-taken (take i t) (drop i t) (subst (λ w. was_taken w ≡ true) (sym (take-append-drop i t)) h)

@@ -1,48 +1,21 @@
 //! The logs of a trace, by one walk.
-ghost use Rattle.std.specs.Prelude.{◌≡◌, ◌++◌, ◌||◌, true, not, if◌then◌else◌, IfOk, OnOk, []};
+ghost use Rattle.std.specs.Prelude.{◌≡◌, true, not, if◌then◌else◌, IfOk, []};
+ghost use Rattle.std.specs.Option.{option_copied, option_to_list};
 ghost use Rattle.bm_lines.specs.LineBatches.{blocks_under};
 ghost use Rattle.bm_session.specs.Events.{is_update_of, batch_of};
-ghost use Rattle.bm_session.specs.Trace.{blocks, log as log_of, joined, is_empty, was_taken};
+ghost use Rattle.bm_session.specs.Trace.{blocks, log as log_of, is_empty, was_taken};
 
 use crate::event::{Body, Event};
 use crate::table::Table;
-use bm_lines::{Block, LineBatch};
+use bm_lines::Block;
 use std::alloc::{AllocError, Global};
 
-/// Whether the batch has a part with the name.
-fn has_part(batch: &LineBatch, name: &str) -> bool
-    ensures { result ≡ not (is_empty (blocks_under name.now batch.now)) }
-{
-    let mut found = false;
-    for part in batch.parts() {
-        if part.name.is(name) {
-            found = true;
-        }
-    }
-    found
-}
-
-/// Appends the lines of the batch's part with the name, if it has one.
-fn append_part(log: &mut Block, batch: &LineBatch, name: &str) -> Result<(), AllocError>
-    ensures { OnOk result (log.new ≡ log.old ++ joined (blocks_under name.now batch.now)) }
-{
-    for part in batch.parts() {
-        if part.name.is(name) {
-            log.extend(&part.block)?;
-        }
-    }
-    Ok(())
-}
-
-/// Whether the log had a block, or has one where the event, if it counts, adds one.
-fn found_after(found: bool, counts: bool, event: &Event, command: u64, name: &str) -> bool
-    ensures { result ≡ (found || not (is_empty (if counts
+/// The block that the event, if it counts, adds to the command's log under the name.
+fn block_added<'a>(counts: bool, event: &'a Event, command: u64, name: &str) -> Option<&'a Block>
+    ensures { option_to_list (option_copied result) ≡ (if counts
         then (if is_update_of command event.now then blocks_under name.now (batch_of event.now)
-        else []) else []))) }
+        else []) else []) }
 {
-    if found || !counts {
-        return found;
-    }
     match event {
         Event::In(
             _,
@@ -51,42 +24,8 @@ fn found_after(found: bool, counts: bool, event: &Event, command: u64, name: &st
                 batch,
                 ..
             },
-        ) => *k == command && has_part(batch, name),
-        _ => false,
-    }
-}
-
-/// Appends the lines that the event, if it counts, adds to the log.
-fn append_added(
-    log: &mut Block,
-    counts: bool,
-    event: &Event,
-    command: u64,
-    name: &str,
-) -> Result<(), AllocError>
-    ensures { OnOk result (log.new ≡ log.old ++ joined (if counts
-        then (if is_update_of command event.now then blocks_under name.now (batch_of event.now)
-        else []) else [])) }
-{
-    if !counts {
-        return Ok(());
-    }
-    match event {
-        Event::In(
-            _,
-            Body::Update {
-                command: k,
-                batch,
-                ..
-            },
-        ) => {
-            if *k == command {
-                append_part(log, batch, name)
-            } else {
-                Ok(())
-            }
-        }
-        _ => Ok(()),
+        ) if counts && *k == command => batch.of(name),
+        _ => None,
     }
 }
 
@@ -108,8 +47,10 @@ pub fn walk(
     for i in 0..t.len() {
         let event = &t[i];
         let counts = table.follow(event)?;
-        found = found_after(found, counts, event, command, name);
-        append_added(&mut log, counts, event, command, name)?;
+        if let Some(block) = block_added(counts, event, command, name) {
+            found = true;
+            log.extend(block)?;
+        }
     }
     Ok((found, log))
 }
