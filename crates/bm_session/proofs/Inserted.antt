@@ -15,7 +15,7 @@ use Rattle.bm_session.specs.declared.seen.Seen.{Seen}
 use Rattle.bm_session.specs.declared.reply.Verdict.{Verdict}
 use Rattle.bm_session.specs.Seen.{IsMerged, verdict_in}
 use Rattle.bm_session.specs.Ranges.{HoldsAlso, IsPlace, JoinsBefore, JoinsAfter}
-use Rattle.bm_session.proofs.Merged.{AreAbove, merged-front, merged-back, merged-join, merged-last, merged-first, merged-ordered, merged-sorted, verdict_of, verdict-at, verdict-before, with_verdict, replaced}
+use Rattle.bm_session.proofs.Merged.{AreAbove, merged-front, merged-back, merged-join, merged-last, merged-first, merged-ordered, verdict_of, verdict-at, verdict-before, with_verdict, replaced}
 
 -- What one range holds
 
@@ -294,25 +294,6 @@ place-from rs n i bound h = record {
   bound = bound;
   begun = λ k d l g. let on : nat_le (get_or rs k d).first n ≡ true = h.0 k d l g in grind (arith, nat_tests);
   later = λ k d l g. let off : nat_le (get_or rs k d).first n ≡ false = h.1 k d l g in grind (arith, nat_tests);
-}
-
--- the place of a number at which the last range begins, or above it
-pub place-end : (rs : List Seen) (n : ℕ) (a : Seen) → IsMerged rs → a ≡ get_or rs (length rs - 1) a → 0 < length rs → a.first ≤ n → IsPlace rs n (length rs)
-place-end rs n a merged e some le = record {
-  bound = omega arith;
-  begun = λ k d l g.
-      let last : get_or rs (length rs - 1) a ≡ get_or rs (length rs - 1) d = get_or_default rs (length rs - 1) a d (omega arith) in
-      let same : a.first ≡ (get_or rs (length rs - 1) d).first = ap (λ (r : Seen). r.first) (e ∙ last) in
-      let sorted : (get_or rs k d).first ≤ (get_or rs (length rs - 1) d).first = merged-sorted rs merged k (length rs - 1) d (omega arith) (omega arith) in
-      omega arith;
-  later = λ k d l g. absurd (omega arith);
-}
-
-pub place-none : (rs : List Seen) (n : ℕ) → length rs ≡ 0 → IsPlace rs n 0
-place-none rs n e = record {
-  bound = omega arith;
-  begun = λ k d l g. absurd (omega arith);
-  later = λ k d l g. absurd (omega arith);
 }
 
 -- a range written before a place from which one was removed

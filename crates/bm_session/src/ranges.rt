@@ -84,37 +84,21 @@ impl Ranges {
     {
         let place = self.place(number);
         if self.joins_before(place, number, verdict) {
-            let first = self.vec[place - 1].first;
             if self.joins_after(place, number, verdict) {
                 let last = self.vec.remove(place).last;
-                self.vec[place - 1] = Seen {
-                    first,
-                    last,
-                    verdict,
-                };
+                self.vec[place - 1].last = last;
             } else {
-                self.vec[place - 1] = Seen {
-                    first,
-                    last: number,
-                    verdict,
-                };
+                self.vec[place - 1].last = number;
             }
         } else if self.joins_after(place, number, verdict) {
-            let last = self.vec[place].last;
-            self.vec[place] = Seen {
+            self.vec[place].first = number;
+        } else {
+            let alone = Seen {
                 first: number,
-                last,
+                last: number,
                 verdict,
             };
-        } else {
-            let _ = self.vec.insert(
-                place,
-                Seen {
-                    first: number,
-                    last: number,
-                    verdict,
-                },
-            );
+            let _ = self.vec.insert(place, alone);
         }
     }
 
@@ -126,19 +110,13 @@ impl Ranges {
         self.vec.clear();
     }
 
-    /// How many ranges begin at the number or before it. Numbers come mostly in order, so the last
-    /// range is tried first.
+    /// How many ranges begin at the number or before it.
     fn place(&self, number: u64) -> usize
         ensures { IsPlace self.now.ranges number result }
     {
-        let ranges = self.vec.as_slice();
-        let Some(last) = ranges.last() else {
-            return 0;
-        };
-        if last.first <= number {
-            return ranges.len();
-        }
-        ranges.partition_point(|range| range.first <= number)
+        self.vec
+            .as_slice()
+            .partition_point(|range| range.first <= number)
     }
 
     /// Whether the range before the place goes on at the number.
