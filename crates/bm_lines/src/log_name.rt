@@ -79,16 +79,6 @@ impl LogName {
         self.as_str() == other
     }
 
-    /// Whether the names are the same. That two are `stdio` is seen without a look at their texts.
-    pub fn is_same(&self, other: &LogName) -> bool
-        ensures { result ≡ bytes_eq self.now other.now }
-    {
-        if self.text.is_none() && other.text.is_none() {
-            return true;
-        }
-        self.is(other.as_str())
-    }
-
     /// An equal name, which shares the text.
     pub fn copy(&self) -> Result<LogName, AllocError>
         ensures { IfOk result (λ n. n ≡ self.now) }

@@ -42,7 +42,7 @@ impl Model for CommandLogs {
 fn place_of(logs: &[NamedLog], name: &LogName) -> Option<usize>
     ensures { result ≡ position (λ l. bytes_eq l.name name.now) logs.now }
 {
-    logs.iter().position(|log| log.name().is_same(name))
+    logs.iter().position(|log| log.name().is(name.as_str()))
 }
 
 /// The log with the name, if there is one.

@@ -168,7 +168,7 @@ fn names_have_1_to_255_bytes(rt: HostRuntime) -> Result<(), Fail> {
 /// Whether the name and its copy are the text, and no other.
 fn is_copied(name: &LogName, text: &str) -> bool {
     match name.copy() {
-        Ok(copy) => copy.as_str() == text && copy.is_same(name) && !name.is("std"),
+        Ok(copy) => copy.as_str() == text && copy.is(name.as_str()) && !name.is("std"),
         Err(_) => false,
     }
 }

@@ -21,7 +21,7 @@ fn numbered(alloc: Global, number: u32) -> Option<LogName> {
 fn is_at(batch: &LineBatch, place: u32, name: &LogName, said: &str) -> bool {
     match batch.parts().get(place as usize) {
         Some(part) => {
-            part.name.is_same(name)
+            part.name.is(name.as_str())
                 && part.block.content() == said
                 && has_part(batch, name.as_str(), said)
         }
