@@ -5,7 +5,7 @@ pub mod Visible
 pub mod Staying
 pub mod Words
 mod Rows
-mod Lanes
+mod States
 mod Orders
 mod Runs
 mod Fields

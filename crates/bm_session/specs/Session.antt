@@ -10,13 +10,13 @@ use Rattle.bm_session.specs.declared.run.Ran.TheVariants.{Done, Refused}
 use Rattle.bm_session.specs.Trace.{Trace, is_up, is_cut, was_taken, refusal, reply, item}
 
 -- a session: its trace, and for how many events more it has room
-pub record Lane : Type 0 where
+pub record SessionState : Type 0 where
   pub trace : List Event
   pub room : ℕ
 
 -- Each event was taken. While the lane is up there is room for a Cut and the Down after it. While
 -- it is cut there is room for its Down.
-pub record IsLane (s : Lane) : Type 0 where
+pub record IsSessionState (s : SessionState) : Type 0 where
   pub taken : was_taken s.trace ≡ true
   pub while_up : is_up s.trace ≡ true → 2 ≤ s.room
   pub while_cut : is_cut s.trace ≡ true → 1 ≤ s.room
@@ -35,7 +35,7 @@ needed _ = 3
 
 -- the plan is for this session as it is: the event is accepted, and the plan says what the trace
 -- says
-pub record IsPlanFor (s : Lane) (p : Planned) : Type 0 where
+pub record IsPlanFor (s : SessionState) (p : Planned) : Type 0 where
   pub accepted : refusal s.trace p.event ≡ None
   pub answered : p.sent ≡ reply s.trace p.event
   pub itemized : (p.given ≡ item s.trace p.event) ⊎ (p.given ≡ None)

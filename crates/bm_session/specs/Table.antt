@@ -12,7 +12,7 @@ use Rattle.bm_session.specs.declared.table.Link.TheVariants.{Up, Cut}
 use Rattle.bm_session.specs.declared.open.Open.{Open}
 use Rattle.bm_session.specs.declared.table.Table.{Table}
 use Rattle.bm_session.specs.Events.{is_stop_of}
-use Rattle.bm_session.specs.Session.{Lane, IsLane}
+use Rattle.bm_session.specs.Session.{SessionState, IsSessionState}
 use Rattle.bm_session.specs.Seen.{verdict_in}
 use Rattle.bm_session.specs.Trace.{Trace, moments, is_up, is_cut, commands, orders, starts, is_new, is_open, open_commands, last_rc, result_of_rc, outcome, seen}
 
@@ -100,7 +100,7 @@ table_room tb = min (vec_capacity tb.outcomes - vec_len tb.outcomes) tb.seen.roo
 
 -- what a session keeps: its trace and room, and the table of its trace, with places for four open
 -- commands
-pub record IsSession (s : Lane) (tb : Table) : Type 0 where
-  pub lane : IsLane s
+pub record IsSession (s : SessionState) (tb : Table) : Type 0 where
+  pub state : IsSessionState s
   pub table : IsTable tb s.trace
   pub places : 4 ≤ vec_capacity tb.opened

@@ -31,10 +31,10 @@ pub struct Session {
 
 impl Model for Session {
     ghost use Rattle.std.specs.Prelude.{◌-◌, min, vec_len, vec_capacity};
-    ghost use Rattle.bm_session.specs.Session.{Lane};
+    ghost use Rattle.bm_session.specs.Session.{SessionState};
     ghost use Rattle.bm_session.specs.Table.{IsSession, table_room};
 
-    ghost Value = { Lane };
+    ghost Value = { SessionState };
 
     ghost view = { λ s. record {
       trace = s.events.items;

@@ -3,7 +3,7 @@ use Rattle.std.specs.Prelude.{vec_capacity}
 use Rattle.bm_session.specs.Session.{needed}
 use Rattle.bm_session.specs.Table.{IsTable, table_room}
 use Rattle.bm_session.specs.Trace.{orders, refusal}
-use Rattle.bm_session.proofs.Lanes.{lane-next, needed-some}
+use Rattle.bm_session.proofs.States.{state-next, needed-some}
 use Rattle.bm_session.proofs.Taking.{orders_le-length}
 use Rattle.bm_session.proofs.session.Session.record.Goals as goal
 
@@ -26,10 +26,10 @@ invariant_of-self c =
     let len : vec_len c.push_reserved.new.self ≡ vec_len old + 1 = c.push_reserved.ensures.len in
     let cap : vec_capacity c.push_reserved.new.self ≡ vec_capacity old = c.push_reserved.ensures.capacity in
     let left : table_room table ≤ table_room c.take.new.self + 1 = c.take.ensures.room in
-    let lane = lane-next old.items c.push_reserved.new.self.items event (min (vec_capacity old - vec_len old) (table_room table)) (min (vec_capacity c.push_reserved.new.self - vec_len c.push_reserved.new.self) (table_room c.take.new.self))
-    c.self.invariant.lane.taken accepted room (omega arith) items in
+    let state = state-next old.items c.push_reserved.new.self.items event (min (vec_capacity old - vec_len old) (table_room table)) (min (vec_capacity c.push_reserved.new.self - vec_len c.push_reserved.new.self) (table_room c.take.new.self))
+    c.self.invariant.state.taken accepted room (omega arith) items in
     record {
-      lane = lane;
-      table = subst (IsTable c.take.new.self) (sym items) (c.take.ensures.table old.items c.self.invariant.table c.self.invariant.lane.taken accepted);
+      state = state;
+      table = subst (IsTable c.take.new.self) (sym items) (c.take.ensures.table old.items c.self.invariant.table c.self.invariant.state.taken accepted);
       places = c.take.ensures.places;
     }

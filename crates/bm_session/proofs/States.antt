@@ -4,7 +4,7 @@ use Rattle.std.specs.Prelude.{is_none}
 use Rattle.bm_session.specs.declared.event.Event.{Event}
 use Rattle.bm_session.specs.declared.event.Event.TheVariants.{Cut, Down}
 use Rattle.bm_session.specs.Trace.{Trace, is_up, is_cut, was_taken, refusal}
-use Rattle.bm_session.specs.Session.{IsLane, needed}
+use Rattle.bm_session.specs.Session.{IsSessionState, needed}
 use Rattle.bm_session.proofs.Pushed.{is_up-push, is_cut-push}
 use Rattle.bm_session.proofs.Taken.{was_taken-push}
 
@@ -21,8 +21,8 @@ while-cut t Down room room' n m u = let d : is_cut (t ++ Down ∷ []) ≡ false 
 while-cut t Cut room room' n m u = omega arith
 while-cut t e room room' n m u = omega arith
 
-pub lane-next : (t t' : Trace) (e : Event) (room room' : ℕ) → was_taken t ≡ true → refusal t e ≡ None → needed e ≤ room → room ≤ room' + 1 → t' ≡ t ++ e ∷ [] → IsLane (record { trace = t'; room = room' })
-lane-next t t' e room room' h r n m same = record {
+pub state-next : (t t' : Trace) (e : Event) (room room' : ℕ) → was_taken t ≡ true → refusal t e ≡ None → needed e ≤ room → room ≤ room' + 1 → t' ≡ t ++ e ∷ [] → IsSessionState (record { trace = t'; room = room' })
+state-next t t' e room room' h r n m same = record {
   taken = ap was_taken same ∙ taken-next t e h r;
   while_up = λ u. while-up t e room room' n m (sym (ap is_up same) ∙ u);
   while_cut = λ u. while-cut t e room room' n m (sym (ap is_cut same) ∙ u);
