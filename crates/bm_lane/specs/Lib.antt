@@ -13,9 +13,9 @@ pub mod Laws
 -- They also say what the parts of an end are to a contract. Of them, `HistoryId` of Fronts is to be
 -- believed: it is the name of a history. So are `no_queue` and `no_copy` of Names: any name will do.
 pub mod Additions
+pub mod BookReaders
 pub mod Copies
 pub mod Fronts
 pub mod Histories
 pub mod Names
 pub mod Relay
-pub mod Windows

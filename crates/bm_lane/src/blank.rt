@@ -4,15 +4,15 @@ ghost use Rattle.std.specs.Prelude.{vec_len};
 ghost use Rattle.std.specs.Arc.{arc_value};
 ghost use Rattle.bm_lane.specs.Ends.{AllNew};
 ghost use Rattle.bm_lane.specs.Placed.{ArePlaced, new_readers, new_writers, AreItsViewers};
-ghost use Rattle.bm_lane.specs.Windows.{AllFresh};
+ghost use Rattle.bm_lane.specs.BookReaders.{AllFresh};
 
+use crate::book_reader::BookReader;
 use crate::copy::open_copy;
 use crate::publisher::Publisher;
 use crate::reader_end::ReaderEnd;
 use crate::refusals::OpenError;
 use crate::relay::{ItemPass, ItemQueue, Roles};
 use crate::viewer::Viewer;
-use crate::window::Window;
 use crate::writer_end::WriterEnd;
 use crate::yard::Yard;
 use bm_session::Session;
@@ -27,7 +27,7 @@ pub struct Blank<R: Wait + Drop> {
     queue: Arc<ItemQueue>,
     pass: ItemPass,
     publisher: Publisher<R>,
-    windows: Vec<Window>,
+    book_readers: Vec<BookReader>,
 }
 
 impl<R: Wait + Drop> Model for Blank<R> {
@@ -35,7 +35,7 @@ impl<R: Wait + Drop> Model for Blank<R> {
     ghost use Rattle.std.specs.Arc.{arc_value};
     ghost use Rattle.crossbeam_queue.specs.Passes.{IsPassOf, ruled_capacity};
     ghost use Rattle.bm_lane.specs.Relay.{hand, known};
-    ghost use Rattle.bm_lane.specs.Windows.{AllFresh};
+    ghost use Rattle.bm_lane.specs.BookReaders.{AllFresh};
     ghost use Rattle.bm_lane.specs.Ends.{Blanked};
 
     ghost Value = { Blanked };
@@ -44,12 +44,12 @@ impl<R: Wait + Drop> Model for Blank<R> {
       queue = b.pass.table_id;
       copy = b.publisher.history;
       capacity = ruled_capacity (arc_value b.queue);
-      viewers = length b.windows.items;
+      viewers = length b.book_readers.items;
     } };
 
     ghost invariant = { λ b. (b.session.trace ≡ []) × IsPassOf (arc_value b.queue) b.pass
         × (known b.pass ≡ hand true true [] []) × (b.publisher.shown ≡ []) × (b.publisher.held ≡ [])
-        × (b.publisher.kept ≡ []) × AllFresh b.publisher.history [] b.windows.items };
+        × (b.publisher.kept ≡ []) × AllFresh b.publisher.history [] b.book_readers.items };
 }
 
 /// The ends of a lane.
@@ -84,13 +84,13 @@ pub fn open<R: Wait + Drop>(
     let Ok(queue) = Arc::new(alloc, queue) else {
         return Err(OpenError::Mem);
     };
-    let (publisher, windows) = open_copy(rt, alloc, viewers)?;
+    let (publisher, book_readers) = open_copy(rt, alloc, viewers)?;
     Ok(Blank {
         session,
         queue,
         pass,
         publisher,
-        windows,
+        book_readers,
     })
 }
 
@@ -122,15 +122,15 @@ pub fn ends_of_all<Y: Yard, W: Wait + Drop>(
 }
 
 // The viewers, under the lane's number.
-fn placed<Y: Yard>(windows: Vec<Window>, lane: u64, room: Vec<Viewer<Y>>) -> Vec<Viewer<Y>>
-    requires own { AllFresh (Y.copy lane) [] windows.items }
-    requires room { (room.items ≡ []) × (length windows.items ≤ vec_capacity room) }
-    ensures { AllNew lane result.items × (length result.items ≡ length windows.items) }
+fn placed<Y: Yard>(book_readers: Vec<BookReader>, lane: u64, room: Vec<Viewer<Y>>) -> Vec<Viewer<Y>>
+    requires own { AllFresh (Y.copy lane) [] book_readers.items }
+    requires room { (room.items ≡ []) × (length book_readers.items ≤ vec_capacity room) }
+    ensures { AllNew lane result.items × (length result.items ≡ length book_readers.items) }
 {
     let mut placed = room;
-    let mut windows = windows;
-    while let Some(window) = windows.pop() {
-        placed.push_reserved(Viewer::over(lane, window));
+    let mut book_readers = book_readers;
+    while let Some(book_reader) = book_readers.pop() {
+        placed.push_reserved(Viewer::over(lane, book_reader));
     }
     placed
 }
@@ -164,7 +164,7 @@ impl<R: Wait + Drop> Blank<R> {
         let Ok(theirs) = Arc::try_clone(&self.queue) else {
             return Err((self, AllocError));
         };
-        let Ok(room) = Vec::with_capacity(alloc, self.windows.len()) else {
+        let Ok(room) = Vec::with_capacity(alloc, self.book_readers.len()) else {
             return Err((self, AllocError));
         };
         let Blank {
@@ -172,14 +172,14 @@ impl<R: Wait + Drop> Blank<R> {
             queue,
             mut pass,
             publisher,
-            windows,
+            book_readers,
         } = self;
-        let viewers = windows.len();
+        let viewers = book_readers.len();
         let other = queue.another::<Roles>(&mut pass);
         Ok(Ends {
             reader: ReaderEnd::over(lane, session, queue, pass),
             writer: WriterEnd::over(lane, viewers, theirs, other, publisher),
-            viewers: placed(windows, lane, room),
+            viewers: placed(book_readers, lane, room),
         })
     }
 }

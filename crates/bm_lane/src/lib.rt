@@ -10,6 +10,7 @@
 #![tactic(auto)]
 
 mod blank;
+mod book_reader;
 mod copy;
 mod history;
 pub mod laws;
@@ -23,7 +24,6 @@ mod refusals;
 mod relay;
 mod settling;
 mod viewer;
-mod window;
 mod writer_end;
 mod yard;
 

@@ -3,10 +3,10 @@ ghost use Rattle.std.specs.Prelude.{◌≡◌, length, [], IsTrue};
 ghost use mathlib.Core.List.{IsPrefix};
 ghost use Rattle.bm_lane.specs.Looks.{GivesChunk, GivesPortion, GivesState};
 
+use crate::book_reader::BookReader;
 use crate::mark::Mark;
 use crate::publisher::Publisher;
 use crate::questions::{LinesOf, PortionOf, StateOf};
-use crate::window::Window;
 use crate::yard::Yard;
 use bm_store::{Chunk, LogState, Portion, ViewRefusal};
 use std::marker::{Model, PhantomData};
@@ -20,7 +20,7 @@ use std::sync::Wait;
 #[derive(Drop)]
 pub struct Viewer<Y: Yard> {
     lane: u64,
-    window: Window,
+    book_reader: BookReader,
     of: PhantomData<Y>,
 }
 
@@ -30,19 +30,19 @@ impl<Y: Yard> Model for Viewer<Y> {
 
     ghost Value = { Watched };
 
-    ghost view = { λ v. record { lane = v.lane; seen = v.window.seen } };
+    ghost view = { λ v. record { lane = v.lane; seen = v.book_reader.seen } };
 
-    ghost invariant = { λ v. v.window.history ≡ Y.copy v.lane };
+    ghost invariant = { λ v. v.book_reader.history ≡ Y.copy v.lane };
 }
 
 impl<Y: Yard> Viewer<Y> {
-    pub(crate) fn over(lane: u64, window: Window) -> Viewer<Y>
-        requires { window.history ≡ Y.copy lane }
-        ensures { result ≡ record { lane = lane; seen = window.seen } }
+    pub(crate) fn over(lane: u64, book_reader: BookReader) -> Viewer<Y>
+        requires { book_reader.history ≡ Y.copy lane }
+        ensures { result ≡ record { lane = lane; seen = book_reader.seen } }
     {
         Viewer {
             lane,
-            window,
+            book_reader,
             of: PhantomData,
         }
     }
@@ -68,7 +68,7 @@ impl<Y: Yard> Viewer<Y> {
             offset,
             limit,
         };
-        match self.window.ask(&asked) {
+        match self.book_reader.ask(&asked) {
             Some(answer) => answer,
             None => Err(ViewRefusal::Closed),
         }
@@ -96,7 +96,7 @@ impl<Y: Yard> Viewer<Y> {
             offset,
             limit,
         };
-        let answer = self.window.ask(&PortionOf { lines, skip, most });
+        let answer = self.book_reader.ask(&PortionOf { lines, skip, most });
         match answer {
             Some(answer) => answer,
             None => Err(ViewRefusal::Closed),
@@ -111,7 +111,7 @@ impl<Y: Yard> Viewer<Y> {
     pub fn state(&mut self, command: u64, name: &str) -> Result<LogState, ViewRefusal>
         ensures { GivesState self.old self.new command name.now result }
     {
-        match self.window.ask(&StateOf { command, name }) {
+        match self.book_reader.ask(&StateOf { command, name }) {
             Some(answer) => answer,
             None => Err(ViewRefusal::Closed),
         }
@@ -128,14 +128,15 @@ impl<Y: Yard> Viewer<Y> {
     pub fn count(&self) -> u64
         ensures { result ≡ length self.now.seen }
     {
-        self.window.count()
+        self.book_reader.count()
     }
 
     /// What it has seen by now.
     pub fn mark(&self) -> Mark<Y>
         ensures { result ≡ self.now }
     {
-        Mark::over(self.lane, self.window.front().again(), self.window.count())
+        let front = self.book_reader.front().again();
+        Mark::over(self.lane, front, self.book_reader.count())
     }
 
     /// Whether it is of a mark's lane and has seen no less than the mark. Of the viewer that made
@@ -144,7 +145,7 @@ impl<Y: Yard> Viewer<Y> {
         ensures { IsTrue result
             → (self.now.lane ≡ mark.now.lane) × IsPrefix mark.now.seen self.now.seen }
     {
-        mark.lane() == self.lane && mark.begins(self.window.front(), self.window.count())
+        mark.lane() == self.lane && mark.begins(self.book_reader.front(), self.book_reader.count())
     }
 
     /// What was seen was shown.
@@ -153,6 +154,6 @@ impl<Y: Yard> Viewer<Y> {
         ensures prefix { IsPrefix self.now.seen publisher.old.shown }
         ensures same { publisher.new ≡ publisher.old }
     {
-        publisher.has(self.window.front())
+        publisher.has(self.book_reader.front())
     }
 }

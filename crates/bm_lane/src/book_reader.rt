@@ -1,4 +1,4 @@
-//! A window onto the published copy: what one viewer has seen of it.
+//! The reader of the published copy: what one viewer has seen of it.
 ghost use Rattle.std.specs.Prelude.{◌≡◌, Some, MatchOption, length};
 ghost use Rattle.left_right.specs.Sides.{view};
 ghost use Rattle.bm_lane.specs.Fronts.{Front as History};
@@ -24,23 +24,23 @@ struct Sighting<T: Drop> {
 
 /// A reader of the copy, with what it saw last.
 #[derive(Drop)]
-pub struct Window {
+pub struct BookReader {
     reader: CopyReader,
     front: Front,
     count: u64,
 }
 
-impl Model for Window {
+impl Model for BookReader {
     ghost use Rattle.std.specs.Prelude.{◌≡◌, length, Some};
     ghost use Rattle.logbook.specs.Pages.{book_coded};
     ghost use Rattle.left_right.specs.Sides.{view as seen_by};
-    ghost use Rattle.bm_lane.specs.Windows.{Looked};
+    ghost use Rattle.bm_lane.specs.BookReaders.{Looked};
 
     ghost Value = { Looked };
 
-    ghost view = { λ w. record { history = w.front.book; seen = w.front.log } };
+    ghost view = { λ b. record { history = b.front.book; seen = b.front.log } };
 
-    ghost invariant = { λ w. (seen_by w.reader.place ≡ Some w.front) × (w.count ≡ length w.front.log) };
+    ghost invariant = { λ b. (seen_by b.reader.place ≡ Some b.front) × (b.count ≡ length b.front.log) };
 }
 
 // A look by a reader, which comes back. The answer's type stands among the arguments, since a
@@ -71,13 +71,13 @@ fn look<Q: Question>(
     }
 }
 
-impl Window {
-    /// A window that has seen what the writer told.
-    pub fn over(reader: CopyReader, front: Front, count: u64) -> Window
+impl BookReader {
+    /// A reader that has seen what the writer told.
+    pub fn over(reader: CopyReader, front: Front, count: u64) -> BookReader
         requires { (view reader.place ≡ Some front) × (count ≡ length front.log) }
         ensures { result ≡ record { history = front.book; seen = front.log } }
     {
-        Window {
+        BookReader {
             reader,
             front,
             count,

@@ -1,4 +1,4 @@
--- What a window onto the copy is to a contract.
+-- What a reader of the published copy is to a contract.
 use Rattle.std.specs.Prelude.{◌≡◌, List, All}
 use Rattle.bm_session.specs.declared.item.Item.{Item}
 use Rattle.bm_lane.specs.Fronts.{HistoryId}
@@ -10,4 +10,4 @@ pub record Looked : Type 0 where
 
 -- each has seen this much of this history
 abbrev pub AllFresh : HistoryId → List Item → List Looked → Type 0
-AllFresh b seen ws = All (λ (w : Looked). (w.history ≡ b) × (w.seen ≡ seen)) ws
+AllFresh history seen bs = All (λ (b : Looked). (b.history ≡ history) × (b.seen ≡ seen)) bs

@@ -1,5 +1,5 @@
 use Rattle.bm_lane.proofs.Grows.{admits, tells, learns}
-use Rattle.bm_lane.proofs.copy.window.Goals as goal
+use Rattle.bm_lane.proofs.copy.book_reader.Goals as goal
 
 pub reader-requires : goal.reader-requires
 reader-requires c = admits
