@@ -106,13 +106,16 @@ impl<Y: Yard> ReaderEnd<Y> {
         }
     }
 
-    // A plan is readied, its item pushed, and the plan committed; on a full queue it is withdrawn.
-    fn take<R: Wait>(&mut self, rt: &R, event: Event) -> Result<Reply, (Event, HearRefusal)>
+    /// An event comes, as a message of the worker. It takes no memory where that gives the session
+    /// up, and refuses a cut only where the trace does.
+    pub fn hear<R: Wait>(&mut self, rt: &R, event: Event) -> Result<Reply, (Event, HearRefusal)>
         ensures taken { Hears self.old event result self.new }
         ensures spared { event ≡ Event.Down
             → IfErr result (λ r. r.1 ≢ HearRefusal.Session Refusal.Mem) }
         ensures by_trace { event ≡ Event.Cut → IfErr result (λ r. TraceRefuses self.old event r.1) }
     {
+        // A plan is readied, its item pushed, and the plan committed.
+        // On a full queue it is withdrawn.
         let mut plan = match self.session.ready(event) {
             Ok(plan) => plan,
             Err((event, why)) => return Err((event, HearRefusal::Session(why))),
@@ -131,28 +134,21 @@ impl<Y: Yard> ReaderEnd<Y> {
     pub fn up<R: Wait>(&mut self, rt: &R) -> Result<Reply, (Event, HearRefusal)>
         ensures { Hears self.old Event.Up result self.new }
     {
-        self.take(rt, Event::Up)
-    }
-
-    /// A message of the worker was heard.
-    pub fn hear<R: Wait>(&mut self, rt: &R, event: Event) -> Result<Reply, (Event, HearRefusal)>
-        ensures { Hears self.old event result self.new }
-    {
-        self.take(rt, event)
+        self.hear(rt, Event::Up)
     }
 
     /// The next command is ordered to start.
     pub fn go<R: Wait>(&mut self, rt: &R) -> Result<Reply, (Event, HearRefusal)>
         ensures { Hears self.old Event.Go result self.new }
     {
-        self.take(rt, Event::Go)
+        self.hear(rt, Event::Go)
     }
 
     /// A command is ordered to stop.
     pub fn stop<R: Wait>(&mut self, rt: &R, command: u64) -> Result<Reply, (Event, HearRefusal)>
         ensures { Hears self.old (Event.Stop command) result self.new }
     {
-        self.take(rt, Event::Stop(command))
+        self.hear(rt, Event::Stop(command))
     }
 
     /// The connection is cut: commands stay open. It gives no item, so the lane is never busy, and
@@ -161,7 +157,7 @@ impl<Y: Yard> ReaderEnd<Y> {
         ensures heard { Hears self.old Event.Cut result self.new }
         ensures by_trace { IfErr result (λ r. TraceRefuses self.old Event.Cut r.1) }
     {
-        self.take(rt, Event::Cut)
+        self.hear(rt, Event::Cut)
     }
 
     /// The session is given up. It takes no memory.
@@ -169,7 +165,7 @@ impl<Y: Yard> ReaderEnd<Y> {
         ensures heard { Hears self.old Event.Down result self.new }
         ensures spared { IfErr result (λ r. r.1 ≢ HearRefusal.Session Refusal.Mem) }
     {
-        self.take(rt, Event::Down)
+        self.hear(rt, Event::Down)
     }
 
     /// The events that were taken, in order.

@@ -6,7 +6,7 @@ use Rattle.bm_lane.specs.declared.relay.Hand.{Hand}
 use Rattle.bm_lane.specs.Ends.{Heard}
 use Rattle.bm_lane.specs.Relay.{hand, known}
 use Rattle.bm_lane.proofs.Hearing.{one_item, no_item}
-use Rattle.bm_lane.proofs.reader_end.ReaderEnd.take.Goals as goal
+use Rattle.bm_lane.proofs.reader_end.ReaderEnd.hear.Goals as goal
 
 pub invariant_of-self-in_default : goal.invariant_of-self-in_default
 invariant_of-self-in_default g c =
