@@ -1,4 +1,5 @@
 pub mod Uses
+pub mod LockCounts
 pub mod Places
 pub mod Keeping
 pub mod Starting

@@ -1,10 +1,8 @@
-use Rattle.std.proofs.Common.{◌≡◌, ℕ, ◌<◌, ◌==◌, cond, length, take, get_or, arith, refl}
-use Rattle.std.specs.List.{list_any}
-use Rattle.std.proofs.lemmas.Bool.{and_from, eq-eqb, cond-false}
+use Rattle.std.proofs.Common.{◌<◌, length, arith}
 use Rattle.bm_board.specs.declared.plan.LockUse.{LockUse}
 use Rattle.bm_board.specs.declared.plan.Mode.TheVariants.{Counting}
-use Rattle.bm_board.specs.Locks.{is_mode, is_use}
-use Rattle.bm_board.proofs.Uses.{used_once, shares_more}
+use Rattle.bm_board.proofs.Uses.{shares_more}
+use Rattle.bm_board.proofs.LockCounts.{first_at_its_lock}
 use Rattle.bm_board.proofs.locks.give_locks.Goals as goal
 
 pub give_lock-requires-clause-held : goal.give_lock-requires-clause-held
@@ -13,10 +11,7 @@ give_lock-requires-clause-held c = λ e.
     let i = c.loop-u.u-index in
     let d : LockUse = record { lock = 0; mode = Counting } in
     let l : i < length uses = omega arith in
-    let u : LockUse = get_or uses i d in
-    let this = and_from (u.lock == u.lock) (is_mode u.mode c.args.mode) (eq-eqb u.lock u.lock refl) e in
-    let none : ◌≡◌ {A = ℕ} (cond (list_any (is_use c.args.mode u.lock) (take i uses)) 1 0) 0 = cond-false _ 1 0 (used_once c.args.mode c.args.mode u.lock uses i d c.requires.distinct l this) in
-    omega (arith, c.loop-u.invariant u.lock (c.requires.there i d l), c.requires.held i d l e, none)
+    omega (arith, first_at_its_lock _ c.args.mode uses i d c.loop-u.counts c.args.counts.now c.requires.distinct l e (c.requires.there i d l) c.loop-u.invariant, c.requires.held i d l e)
 
 pub loop-u-preserved : goal.loop-u-preserved
 loop-u-preserved c = λ lock l.
