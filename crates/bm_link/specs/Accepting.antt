@@ -15,15 +15,20 @@ most_bytes = 1048576
 abbrev pub most_waiting : ℕ
 most_waiting = 2097152
 
-abbrev pub IsLimited : WebSocketConfig → Type 0
-IsLimited c =
-    (c.max_message_size ≡ Some most_bytes) × (c.max_frame_size ≡ Some most_bytes)
-    × (c.max_write_buffer_size ≡ most_waiting) × (c.accept_unmasked_frames ≡ false)
-
 abbrev pub Limit : Limits → Type 0
 Limit c =
     (c.max_message_size ≡ Some most_bytes) × (c.max_frame_size ≡ Some most_bytes)
     × (c.accept_unmasked_frames ≡ false)
+
+-- the settings that a socket is given: those limits, and a bound of what waits
+abbrev pub IsLimited : WebSocketConfig → Type 0
+IsLimited c =
+    Limit (record {
+      max_message_size = c.max_message_size;
+      max_frame_size = c.max_frame_size;
+      accept_unmasked_frames = c.accept_unmasked_frames;
+    })
+    × (c.max_write_buffer_size ≡ most_waiting)
 
 -- a link on which no login was read: a handshake was taken, and the socket has read and sent
 -- nothing since
