@@ -1,5 +1,5 @@
 -- What calls do at the stage at which they do something.
-use Rattle.std.proofs.Common.{◌≡◌, ◌≢◌, ◌∙◌, sym, ap, subst, inl, inr, Bool, true, List, ℕ, Option, Some, None, Ok, Err}
+use Rattle.std.proofs.Common.{◌≡◌, ◌≢◌, ◌∙◌, ◌⊎◌, sym, ap, subst, inl, inr, Bool, true, List, ℕ, Option, Some, None, Ok, Err}
 use Rattle.tungstenite.specs.Content.{Content, binary}
 use Rattle.tungstenite.specs.Socket.{Socket}
 use Rattle.bm_session.specs.declared.event.Event.TheVariants.{Cut, Go, Stop}
@@ -37,11 +37,8 @@ falls_at cuts cuts2 mid mid2 lane2 e s c m uncut h at =
       | inr falls ↦ (e, falls.0, falls.1, at)
     ]
 
-pub down_is_no_cut : (e : Ended) → e ≡ ended.Down → e ≢ ended.Cut
-down_is_no_cut e down cut = cc
-
-pub waiting_is_no_cut : (e : Ended) → e ≡ ended.Waits → e ≢ ended.Cut
-waiting_is_no_cut e waits cut = cc
+pub fallen_is_no_cut : (e : Ended) → (e ≡ ended.Down) ⊎ (e ≡ ended.Waits) → e ≢ ended.Cut
+fallen_is_no_cut e fallen cut = elim fallen [ inl down ↦ cc | inr waits ↦ cc ]
 
 -- an end that is a cut
 pub cut_of : (cuts : Bool) (mid lane2 : Heard) (e : Ended) → Ends cuts mid lane2 e → e ≡ ended.Cut → (cuts ≡ true) × (lane2 ≡ with_event mid Cut)
