@@ -1,5 +1,5 @@
 -- What a tree isn't that isn't read.
-use Rattle.std.proofs.Common.{◌≡◌, ◌⊎◌, refl, inl, inr, Ok, Err}
+use Rattle.std.proofs.Common.{◌≡◌, ◌⊎◌, refl, ap, inl, inr, Ok, Err}
 use Rattle.bm_value.specs.Tree.{Tree}
 use Rattle.bm_msg.specs.Answers.{Reads}
 use Rattle.bm_msg.specs.Meaning.{Meaning}
@@ -9,6 +9,8 @@ use Rattle.bm_msg.specs.declared.fault.MsgError.{MsgError}
 use Rattle.bm_msg.specs.declared.fault.MsgError.TheVariants as msg
 use Rattle.bm_link.specs.declared.fault.LinkFault.TheVariants.{BadMessage, Mem}
 use Rattle.bm_msg.specs.declared.incoming.Incoming.{Incoming}
+use Rattle.bm_session.specs.Heard.{IsEvent}
+use Rattle.bm_session.specs.declared.event.Event.{Event}
 use Rattle.bm_link.specs.Received.{IsSaid}
 use Rattle.bm_link.specs.Faults.{unread_fault}
 
@@ -44,3 +46,7 @@ clash-said (msg.BadArgs k) (bad_args n) bad h = h
 
 pub unsaid : (t : Tree) (e : MsgError) → ((s : Said) → Says t s → Hears (Err e) s) → unread_fault e ≡ BadMessage → (i : Incoming) → ¬ IsSaid t i
 unsaid t e only bad i is = clash-said e (said i) bad (only (said i) is)
+
+-- nor is it an event
+pub no_event : (t : Tree) (e : MsgError) → ((x : Event) → IsEvent t x → e ≡ msg.Mem) → unread_fault e ≡ BadMessage → (x : Event) → ¬ IsEvent t x
+no_event t e wants bad x is = let mem : unread_fault e ≡ Mem = ap unread_fault (wants x is) in cc
