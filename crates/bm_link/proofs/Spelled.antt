@@ -3,9 +3,6 @@ use Rattle.std.proofs.Common.{◌≡◌, ◌≤◌, ◌⊎◌, ap, subst, inl, i
 use Rattle.std.specs.Result.{IfOk, IfErr}
 use Rattle.bm_value.specs.Spelling.{Spells}
 use Rattle.bm_value.specs.Tree.{Tree, depth}
-use Rattle.bm_value.specs.Decoding.{DecodesWhole}
-use Rattle.bm_value.specs.View.{tree}
-use Rattle.bm_value.specs.declared.value.Value.{Value}
 use Rattle.bm_msg.specs.Meaning.{Meaning, request, auth}
 use Rattle.bm_msg.specs.Messages.{IsMessage}
 use Rattle.bm_link.specs.declared.credentials.Credentials.{Credentials}
@@ -22,9 +19,6 @@ err-over : {T E : Type 0} (P Q : E → Type 0) → ((e : E) → P e → Q e) →
 err-over P Q f (Ok x) h = tt
 err-over P Q f (Err e) h = f e h
 
-same-tree : {A : Type 0} (v : Value A) (t : Tree) → DecodesWhole (Ok v) (Ok t) → t ≡ tree v
-same-tree v t h = cc
-
 -- bytes by the tree that they spell, of which this holds
 module _ {X : Type 0} (P : Tree → X → Type 0) where
   abbrev pub Told : List ℕ → X → Type 0
@@ -34,12 +28,15 @@ module _ {X : Type 0} (P : Tree → X → Type 0) where
   told_of_tree bytes t r s d h = ok-over (P t) (Told bytes) (λ x i. (t, s, d, i)) r h
 
   -- it holds of nothing for this tree, and so of nothing for the bytes
-  pub untold_of_tree : {A : Type 0} (bytes : List ℕ) (v : Value A) (r : Result X LinkFault)
-      → ((t : Tree) → Spells bytes t → depth t ≤ 32 → DecodesWhole (Ok v) (Ok t))
-      → IfErr r (λ f. f ≡ BadMessage → (x : X) → ¬ P (tree v) x) → IfErr r (λ f. f ≡ BadMessage → (x : X) → ¬ Told bytes x)
+  pub untold_of_tree : (bytes : List ℕ) (v : Tree) (r : Result X LinkFault) → ((t : Tree) → Spells bytes t → depth t ≤ 32 → t ≡ v)
+      → IfErr r (λ f. f ≡ BadMessage → (x : X) → ¬ P v x) → IfErr r (λ f. f ≡ BadMessage → (x : X) → ¬ Told bytes x)
   untold_of_tree bytes v r only h =
-      err-over (λ f. f ≡ BadMessage → (x : X) → ¬ P (tree v) x) (λ f. f ≡ BadMessage → (x : X) → ¬ Told bytes x)
-      (λ f g b x i. g b x (subst (λ (t : Tree). P t x) (same-tree v i.0 (only i.0 i.1 i.2)) i.3)) r h
+      err-over (λ f. f ≡ BadMessage → (x : X) → ¬ P v x) (λ f. f ≡ BadMessage → (x : X) → ¬ Told bytes x)
+      (λ f g b x i. g b x (subst (λ (t : Tree). P t x) (only i.0 i.1 i.2) i.3)) r h
+
+  -- nor does it of bytes that spell no tree
+  pub untold_of_bytes : (bytes : List ℕ) (f : LinkFault) → (f ≡ BadMessage → (t : Tree) → Spells bytes t → ¬ (depth t ≤ 32)) → f ≡ BadMessage → (x : X) → ¬ Told bytes x
+  untold_of_bytes bytes f none bad x i = none bad i.0 i.1 i.2
 
 -- a message that is no login, and so a tree that is none
 pub no_login_of_message : (t : Tree) (m : Meaning) → ((n : Meaning) → IsMessage t n → n ≡ m) → is_login m ≡ false → (l : Credentials) → ¬ IsLoginOf t l

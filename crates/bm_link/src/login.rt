@@ -9,12 +9,12 @@ ghost use Rattle.bm_link.specs.Logins.{is_login, IsLogin, IsLoginOf, AreLogin, G
 
 use crate::credentials::{Credentials, Named};
 use crate::fault::{LinkFault, fault_of};
-use crate::reading::message_in;
+use crate::reading::{message_in, tree_in};
 use crate::telling::send_refusal;
 use crate::user::{User, place_of};
 use bm_lines::Text;
 use bm_msg::{Message, Numbered, Request};
-use bm_value::{DecodeError, Value, decode_whole};
+use bm_value::Value;
 use bumpalo::Bump;
 use std::alloc::Global;
 use std::io::{Read, Write};
@@ -76,10 +76,9 @@ fn login_from(alloc: Global, arena: &Bump, bytes: &[u8]) -> Result<Credentials, 
         → ¬ AreLogin bytes.now l) }
     ensures fault { IfErr result (λ f. (f ≡ LinkFault.BadMessage) ⊎ (f ≡ LinkFault.Mem)) }
 {
-    match decode_whole(arena, bytes) {
+    match tree_in(arena, bytes) {
         Ok(tree) => login_in(alloc, &tree),
-        Err(DecodeError::Mem) => Err(LinkFault::Mem),
-        Err(_) => Err(LinkFault::BadMessage),
+        Err(fault) => Err(fault),
     }
 }
 
