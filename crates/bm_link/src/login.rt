@@ -9,7 +9,7 @@ ghost use Rattle.bm_link.specs.Logins.{is_login, IsLogin, IsLoginOf, AreLogin, G
 
 use crate::credentials::{Credentials, Named};
 use crate::fault::{LinkFault, fault_of};
-use crate::reading::{message_in, tree_in};
+use crate::reading::{message_in, reset, tree_in};
 use crate::telling::send_refusal;
 use crate::user::{User, place_of};
 use bm_lines::Text;
@@ -88,10 +88,8 @@ fn login_of_bytes(alloc: Global, arena: &mut Bump, bytes: &[u8]) -> Result<Crede
     ensures fault { IfErr result (GivesNoLogin bytes.now) }
 {
     let login = login_from(alloc, arena, bytes);
-    match arena.reset() {
-        Ok(()) => login,
-        Err(_) => Err(LinkFault::Arena),
-    }
+    reset(arena)?;
+    login
 }
 
 /// Reads the first message, which is to be a login.

@@ -1,4 +1,4 @@
-//! From bytes to a tree, and from a tree to its message.
+//! From bytes to a tree, from a tree to its message, and the end of a tree's arena.
 
 ghost use Rattle.std.specs.Prelude.{◌≡◌, ◌≤◌, ◌⊎◌, IfOk, IfErr};
 ghost use Rattle.bm_value.specs.Spelling.{Spells};
@@ -11,6 +11,7 @@ ghost use Rattle.bm_link.specs.Faults.{unread_fault};
 use crate::fault::LinkFault;
 use bm_msg::{Message, MsgError, read};
 use bm_value::{DecodeError, Value, decode_whole};
+use bumpalo::Bump;
 use std::alloc::{Allocator, Global};
 
 /// The tree that bytes spell.
@@ -55,5 +56,15 @@ pub(crate) fn message_in<A: Allocator>(
     match read(alloc, value) {
         Ok(message) => Ok(message),
         Err(error) => Err(unread_fault(&error)),
+    }
+}
+
+/// Resets an arena whose trees are gone.
+pub(crate) fn reset(arena: &mut Bump) -> Result<(), LinkFault>
+    ensures { IfErr result (λ f. f ≡ LinkFault.Arena) }
+{
+    match arena.reset() {
+        Ok(()) => Ok(()),
+        Err(_) => Err(LinkFault::Arena),
     }
 }
