@@ -92,10 +92,7 @@ fn answered(message: &Message) -> Result<Attached, LinkFault>
     if *exception {
         return Err(LinkFault::BadLogin);
     }
-    match attached_in(value) {
-        Ok(attached) => Ok(attached),
-        Err(fault) => Err(fault),
-    }
+    attached_in(value)
 }
 
 /// How the bytes of a message answer the login.
