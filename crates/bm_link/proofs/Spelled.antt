@@ -34,10 +34,6 @@ module _ {X : Type 0} (P : Tree → X → Type 0) where
       err-over (λ f. f ≡ BadMessage → (x : X) → ¬ P v x) (λ f. f ≡ BadMessage → (x : X) → ¬ Told bytes x)
       (λ f g b x i. g b x (subst (λ (t : Tree). P t x) (only i.0 i.1 i.2) i.3)) r h
 
-  -- nor does it of bytes that spell no tree
-  pub untold_of_bytes : (bytes : List ℕ) (f : LinkFault) → (f ≡ BadMessage → (t : Tree) → Spells bytes t → ¬ (depth t ≤ 32)) → f ≡ BadMessage → (x : X) → ¬ Told bytes x
-  untold_of_bytes bytes f none bad x i = none bad i.0 i.1 i.2
-
 -- a message that is no login, and so a tree that is none
 pub no_login_of_message : (t : Tree) (m : Meaning) → ((n : Meaning) → IsMessage t n → n ≡ m) → is_login m ≡ false → (l : Credentials) → ¬ IsLoginOf t l
 no_login_of_message t m only other l is =

@@ -15,10 +15,7 @@ use bumpalo::Bump;
 use std::alloc::{Allocator, Global};
 
 /// The tree that bytes spell.
-pub(crate) fn tree_in<A: Allocator + Copy>(
-    alloc: A,
-    bytes: &[u8],
-) -> Result<Value<A>, LinkFault>
+pub(crate) fn tree_in<A: Allocator + Copy>(alloc: A, bytes: &[u8]) -> Result<Value<A>, LinkFault>
     ensures found { IfOk result (λ v. Spells bytes.now (tree v) × (depth (tree v) ≤ 32)) }
     ensures only { IfOk result (λ v. (t : Tree) → Spells bytes.now t → depth t ≤ 32 → t ≡ tree v) }
     ensures bad { IfErr result (λ f. f ≡ LinkFault.BadMessage → (t : Tree) → Spells bytes.now t

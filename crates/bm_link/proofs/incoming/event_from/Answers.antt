@@ -1,6 +1,6 @@
 use Rattle.bm_value.specs.View.{tree}
 use Rattle.bm_session.specs.Heard.{IsEvent}
-use Rattle.bm_link.proofs.Spelled.{told_of_tree, untold_of_tree, untold_of_bytes}
+use Rattle.bm_link.proofs.Spelled.{told_of_tree, untold_of_tree}
 use Rattle.bm_link.proofs.incoming.event_from.Goals as goal
 
 pub returns-in-Ok-clause-event : goal.returns-in-Ok-clause-event
@@ -9,6 +9,3 @@ returns-in-Ok-clause-event c =
 
 pub returns-in-Ok-clause-bad : goal.returns-in-Ok-clause-bad
 returns-in-Ok-clause-bad c = untold_of_tree IsEvent c.args.bytes.now (tree c.in-Ok.tree) c.event_in.result c.in-Ok.ensures.only c.event_in.ensures.bad
-
-pub returns-in-Err-clause-bad : goal.returns-in-Err-clause-bad
-returns-in-Err-clause-bad c = untold_of_bytes IsEvent c.args.bytes.now c.in-Err.fault c.in-Err.ensures.bad

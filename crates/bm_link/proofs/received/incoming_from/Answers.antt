@@ -1,6 +1,6 @@
 use Rattle.bm_value.specs.View.{tree}
 use Rattle.bm_link.specs.Received.{IsSaid}
-use Rattle.bm_link.proofs.Spelled.{told_of_tree, untold_of_tree, untold_of_bytes}
+use Rattle.bm_link.proofs.Spelled.{told_of_tree, untold_of_tree}
 use Rattle.bm_link.proofs.received.incoming_from.Goals as goal
 
 pub returns-in-Ok-clause-told : goal.returns-in-Ok-clause-told
@@ -9,6 +9,3 @@ returns-in-Ok-clause-told c =
 
 pub returns-in-Ok-clause-bad : goal.returns-in-Ok-clause-bad
 returns-in-Ok-clause-bad c = untold_of_tree IsSaid c.args.bytes.now (tree c.in-Ok.tree) c.incoming_in.result c.in-Ok.ensures.only c.incoming_in.ensures.bad
-
-pub returns-in-Err-clause-bad : goal.returns-in-Err-clause-bad
-returns-in-Err-clause-bad c = untold_of_bytes IsSaid c.args.bytes.now c.in-Err.fault c.in-Err.ensures.bad
