@@ -65,11 +65,30 @@ pub fn same_lane<Y: Yard, R: Wait + Drop>(
         && viewers.iter().all(|viewer| viewer.lane() == lane)
 }
 
+// Drains until nothing is left. At want of memory what was drained stays drained.
+#[tactic(auto, using(crate::proofs::Prefixes::prefix_self))]
+fn drain_all<Y: Yard, W: Wait + Drop, R: Wait>(
+    rt: &R,
+    writer: &mut WriterEnd<Y, W>,
+) -> Result<(), AllocError>
+    ensures back { IsBack writer.old writer.new }
+    ensures empty { IfOk result (λ _. writer.new.held ≡ []) }
+{
+    for _ in rt.forever() {
+        match writer.drain() {
+            Ok(Drained::Took) => {}
+            Ok(Drained::Empty) => return Ok(()),
+            Err(error) => return Err(error),
+        }
+    }
+    unreachable!()
+}
+
 /// Drains what is left, and ends the lane. It answers the trace, the book of the whole trace, and
 /// how many of the trace's items each viewer had seen.
 ///
 /// At want of memory the ends come back, and what was drained stays drained.
-#[tactic(auto, using(crate::proofs::Prefixes::prefix_self))]
+#[tactic(auto, using(crate::proofs::Prefixes::prefix_self, crate::proofs::Prefixes::prefix_trans))]
 pub fn settle<Y: Yard, W: Wait + Drop, R: Wait>(
     rt: &R,
     alloc: Global,
@@ -86,43 +105,35 @@ pub fn settle<Y: Yard, W: Wait + Drop, R: Wait>(
     ensures back { IfErr result (λ e. (e.0.reader ≡ ends.reader) × IsBack ends.writer e.0.writer
         × (e.0.viewers.items ≡ ends.viewers.items)) }
 {
+    let Ok(mut seen) = Vec::with_capacity(alloc, ends.viewers.len()) else {
+        return Err((ends, AllocError));
+    };
     let Ends {
         mut reader,
         mut writer,
         viewers,
     } = ends;
-    let Ok(mut seen) = Vec::with_capacity(alloc, viewers.len()) else {
-        let ends = Ends {
-            reader,
-            writer,
-            viewers,
-        };
-        return Err((ends, AllocError));
-    };
     for _ in rt.forever() {
-        match writer.drain() {
-            Ok(Drained::Took) => {}
-            Ok(Drained::Empty) => match reader.join(writer) {
-                Ok((session, mut publisher, lane)) => {
-                    count_seen(&mut publisher, lane, viewers.as_slice(), &mut seen);
-                    return Ok(Settled {
-                        trace: session.into_trace(),
-                        book: publisher.end(),
-                        seen,
-                    });
-                }
-                Err((back, other)) => {
-                    reader = back;
-                    writer = other;
-                }
-            },
-            Err(error) => {
-                let ends = Ends {
-                    reader,
-                    writer,
-                    viewers,
-                };
-                return Err((ends, error));
+        if let Err(error) = drain_all(rt, &mut writer) {
+            let ends = Ends {
+                reader,
+                writer,
+                viewers,
+            };
+            return Err((ends, error));
+        }
+        match reader.join(writer) {
+            Ok((session, mut publisher, lane)) => {
+                count_seen(&mut publisher, lane, viewers.as_slice(), &mut seen);
+                return Ok(Settled {
+                    trace: session.into_trace(),
+                    book: publisher.end(),
+                    seen,
+                });
+            }
+            Err((back, other)) => {
+                reader = back;
+                writer = other;
             }
         }
     }
