@@ -1,5 +1,6 @@
 //! Threads that drain lanes.
-ghost use Rattle.std.specs.Prelude.{◌≡◌, ◌<◌, ◌≤◌, ◌+◌, ◌-◌, ◌*◌, ◌^◌, All, IfOk, IfSome, vec_len};
+ghost use Rattle.std.specs.Prelude.{◌≡◌, ◌<◌, ◌≤◌, ◌+◌, ◌-◌, ◌*◌, ◌^◌, [], All, IfOk, IfSome, vec_len};
+ghost use Rattle.std.specs.Prelude.{vec_capacity};
 ghost use Rattle.bm_lane.specs.Tallies.{counted, drains};
 
 use crate::writer_end::{Drained, WriterEnd};
@@ -8,7 +9,7 @@ use std::alloc::{AllocError, Global};
 use std::sync::atomic::{AtomicBool, Ordering};
 use std::sync::{Mutex, Wait};
 use std::thread;
-use std::thread::{Promise, PromisedHandle, Threads};
+use std::thread::{Promise, PromisedHandle, Scope, Threads};
 use thiserror::Error;
 
 /// What a worker may do at its turn.
@@ -175,6 +176,36 @@ fn report<R: Threads>(rt: &R, workers: Vec<PromisedHandle<Tally, Within>>, turns
     report
 }
 
+// Starts so many workers, and tells whether all were started. `workers` has room for them.
+fn spawn_all<'s, E, Y, W, G, R>(
+    scope: &Scope<'s, E>,
+    rt: &'s R,
+    lanes: &'s [Mutex<WriterEnd<Y, W>>],
+    gate: &'s G,
+    ended: &'s AtomicBool,
+    turns: u64,
+    threads: usize,
+    workers: &mut Vec<PromisedHandle<Tally, Within>>,
+) -> bool
+where
+    Y: Yard + Send + Sync + 's,
+    W: Wait + Drop + Send + 's,
+    G: Gate + Sync + 's,
+    R: Threads + Wait + Sync + 's,
+    requires room { (workers.old.items ≡ []) × (threads ≤ vec_capacity workers.old) }
+    ensures count { vec_len workers.new ≤ threads }
+    ensures turns { All (λ w. w.promise.turns ≡ turns) workers.new.items }
+{
+    for worker in 0..threads {
+        let promise = Within { turns };
+        match scope.spawn_with(promise, move || work(rt, lanes, gate, ended, worker, turns)) {
+            Ok(handle) => workers.push_reserved(handle),
+            Err(_) => return false,
+        }
+    }
+    true
+}
+
 /// So many threads drain these lanes. Worker w begins at lane w, modulo the number of lanes, and
 /// goes round. It ends where its gate says so, or after so many turns. Each drain that took an item
 /// or met want of memory is counted once.
@@ -207,21 +238,16 @@ pub fn writers<
             let Ok(mut workers) = Vec::with_capacity(alloc, threads) else {
                 return Err(PoolFault::Mem);
             };
-            for worker in 0..threads {
-                let promise = Within { turns };
-                match scope.spawn_with(
-                    promise,
-                    move || work(rt, lanes, gate, flag, worker, turns),
-                ) {
-                    Ok(handle) => workers.push_reserved(handle),
-                    Err(_) => {
-                        flag.store(true, Ordering::SeqCst);
-                        report(rt, workers, turns);
-                        return Err(PoolFault::Spawn);
-                    }
-                }
+            let all_started = spawn_all(scope, rt, lanes, gate, flag, turns, threads, &mut workers);
+            if !all_started {
+                flag.store(true, Ordering::SeqCst);
             }
-            Ok(report(rt, workers, turns))
+            let report = report(rt, workers, turns);
+            if all_started {
+                Ok(report)
+            } else {
+                Err(PoolFault::Spawn)
+            }
         },
     )
 }
