@@ -207,9 +207,9 @@ fn hear_behind<Y: Yard, R: Wait>(
     }
 }
 
-/// The answer of a call of the reader's end, which is made again where it met want of memory and
-/// the lane is as before.
-pub fn again<Y: Yard, R: Wait>(
+// The answer to an event, which is heard again where it met want of memory and the lane is as
+// before.
+fn again<Y: Yard, R: Wait>(
     rt: &R,
     reader: &mut ReaderEnd<Y>,
     answer: Result<Reply, (Event, HearRefusal)>,

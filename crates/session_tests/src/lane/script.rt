@@ -5,7 +5,7 @@ use super::hand::*;
 use super::looks::{first_viewer, snapshot_of};
 use super::says::Says;
 use bm_lane::*;
-use bm_session::{Event, Reply};
+use bm_session::{Event, Refusal, Reply};
 use std::alloc::{AllocError, Global};
 use std::marker::Brand;
 use std::process::Abort;
@@ -55,21 +55,39 @@ fn event(order: Order) -> Event {
     }
 }
 
+// Makes the order's own call.
+fn ordered<Y: Yard, R: Wait>(
+    rt: &R,
+    reader: &mut ReaderEnd<Y>,
+    order: Order,
+) -> Result<Reply, HearRefusal> {
+    told(match order {
+        Order::Up => reader.up(rt),
+        Order::Go => reader.go(rt),
+        Order::Stop(k) => reader.stop(rt, k),
+        Order::Cut => reader.cut(rt),
+        Order::Down => reader.down(rt),
+    })
+}
+
+// Whether the order may want memory: a lane is cut and given up without.
+fn may_want(order: Order) -> bool {
+    !matches!(order, Order::Cut | Order::Down)
+}
+
+// Gives the order. After want of memory the lane is as before, and the same call is made again:
+// `hear` in its place would hide a call that always wants memory.
 fn give<Y: Yard, R: Wait>(
     rt: &R,
     reader: &mut ReaderEnd<Y>,
     order: Order,
 ) -> Result<Reply, HearRefusal> {
     let before = snapshot_of(reader);
-    let answer = match order {
-        Order::Up => reader.up(rt),
-        Order::Go => reader.go(rt),
-        Order::Stop(k) => reader.stop(rt, k),
-        Order::Cut => reader.cut(rt),
-        // The session is given up, which takes no memory.
-        Order::Down => return told(reader.down(rt)),
-    };
-    again(rt, reader, answer, before)
+    match ordered(rt, reader, order) {
+        Err(HearRefusal::Session(Refusal::Mem))
+            if may_want(order) && snapshot_of(reader) == before => { ordered(rt, reader, order) }
+        answer => answer,
+    }
 }
 
 // Whether the reader's end answers the call so.
