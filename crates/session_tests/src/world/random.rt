@@ -148,26 +148,15 @@ fn agree_at_random(
     Ok(true)
 }
 
-/// Whether the world and a plain one of its capacity give the same answers.
-fn agrees_at_random(
-    alloc: Global,
-    random: &mut Pcg32,
-    world: &mut World,
-    capacity: usize,
-    seen: &mut u64,
-) -> Result<bool, AllocError> {
-    match Plain::new(alloc, capacity) {
-        Ok(mut plain) => agree_at_random(alloc, random, world, &mut plain, seen),
-        Err(error) => Err(error),
-    }
-}
-
-/// The same of a new world.
+/// The same of a new world and a plain one.
 fn plays(alloc: Global, seed: u64, seen: &mut u64) -> Result<bool, AllocError> {
     let mut random = Pcg32::new(seed, 54);
     let capacity = 1 + below(&mut random, 6) as usize;
     match World::new(alloc, capacity) {
-        Ok(mut world) => agrees_at_random(alloc, &mut random, &mut world, capacity, seen),
+        Ok(mut world) => {
+            let mut plain = Plain::new(alloc, capacity);
+            agree_at_random(alloc, &mut random, &mut world, &mut plain, seen)
+        }
         Err(error) => Err(error),
     }
 }
