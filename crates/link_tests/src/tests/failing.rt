@@ -126,28 +126,40 @@ enum Taken {
     Other,
 }
 
-/// Whether the script's event at this place is such a one.
-fn is_at(place: usize, event: &Event) -> bool {
-    match event {
-        Event::Up => place == 0,
-        Event::Go => place == 1,
-        Event::In(0, Body::Update { .. }) => place == 2,
-        _ => false,
+/// What a lane takes of a script, by its event.
+#[derive(Clone, Copy)]
+pub(crate) enum Part {
+    Login,
+    Start,
+    Stop,
+    Line,
+}
+
+impl Part {
+    fn is(self, event: &Event) -> bool {
+        match event {
+            Event::Up => matches!(self, Part::Login),
+            Event::Go => matches!(self, Part::Start),
+            Event::Stop(0) => matches!(self, Part::Stop),
+            Event::In(0, Body::Update { .. }) => matches!(self, Part::Line),
+            _ => false,
+        }
     }
 }
 
-fn are_begun(events: &[Event]) -> bool {
-    for (place, event) in events.iter().enumerate() {
-        if !is_at(place, event) {
+/// Whether the events are the first of the script's, or all of them.
+pub(crate) fn are_begun(events: &[Event], script: &[Part]) -> bool {
+    for (event, part) in events.iter().zip(script) {
+        if !part.is(event) {
             return false;
         }
     }
-    true
+    events.len() <= script.len()
 }
 
 /// What the lane took before its Down.
 fn taken_before(events: &[Event]) -> Taken {
-    if !are_begun(events) {
+    if !are_begun(events, &[Part::Login, Part::Start, Part::Line]) {
         return Taken::Other;
     }
     match events.len() {

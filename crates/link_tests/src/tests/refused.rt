@@ -3,7 +3,7 @@
 //! it, which sends the orders again. A link that meets a refusal is followed by another one.
 
 use super::calls::{Answer, BAD, CLOSED, Call, HEARD, NOTED};
-use super::failing::{begins, ended_right, refused_right};
+use super::failing::{Part, are_begun, begins, ended_right, refused_right};
 use super::linked_lane::{LinkedLane, Outcome, Trial, is_down, tried};
 use super::links::Links;
 use super::watch::{End, Step, Watch};
@@ -132,31 +132,16 @@ impl Taken {
     }
 }
 
-/// Whether the event has this place among those over the first link.
-fn is_at(place: usize, event: &Event) -> bool {
-    match event {
-        Event::Up => place == 0,
-        Event::Go => place == 1,
-        Event::Stop(0) => place == 2,
-        Event::In(0, Body::Update { .. }) => place == 3,
-        _ => false,
-    }
-}
-
-fn are_begun(events: &[Event]) -> bool {
-    for (place, event) in events.iter().enumerate() {
-        if !is_at(place, event) {
-            return false;
-        }
-    }
-    true
-}
+/// What the lane takes over the first link.
+static FIRST_TAKEN: [Part; 4] = [Part::Login, Part::Start, Part::Stop, Part::Line];
 
 /// Whether the lane took what the first link gave it, and then one event more. Of a link that met a
 /// refusal that may be a part from the front on, or nothing.
 fn are_first(trace: &[Event], was_refused: bool) -> bool {
     match trace.split_last() {
-        Some((_, before)) => are_begun(before) && (was_refused || before.len() == 4),
+        Some((_, before)) => {
+            are_begun(before, &FIRST_TAKEN) && (was_refused || before.len() == FIRST_TAKEN.len())
+        }
         None => was_refused,
     }
 }
