@@ -9,6 +9,8 @@ mod clients;
 #[cfg(test)]
 mod lanes;
 #[cfg(test)]
+mod long_memory;
+#[cfg(test)]
 mod loopback;
 #[cfg(test)]
 mod memory;

@@ -13,7 +13,7 @@ use std::sync::Wait;
 use std::test::Fail;
 
 /// How often all is tried where one request for memory is refused.
-const TRIES: u32 = 2;
+pub const TRIES: u32 = 2;
 
 /// How a row was answered.
 #[derive(Clone, Copy, PartialEq)]
@@ -43,7 +43,7 @@ type State = (u64, Option<Results>);
 /// What is seen of the first viewer's lane without memory: the logs of its two commands, and how
 /// many items the viewer has seen then.
 #[derive(Clone, Copy, PartialEq)]
-struct Look {
+pub struct Look {
     states: [Option<State>; 3],
     count: u64,
 }
@@ -55,7 +55,7 @@ fn state_of<Y: Yard>(viewer: &mut Viewer<Y>, command: u64, name: &str) -> Option
     }
 }
 
-fn look_by<Y: Yard>(viewer: &mut Viewer<Y>) -> Look {
+pub fn look_by<Y: Yard>(viewer: &mut Viewer<Y>) -> Look {
     let states = [
         state_of(viewer, 0, STDIO),
         state_of(viewer, 1, STDIO),

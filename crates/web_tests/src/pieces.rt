@@ -2,51 +2,39 @@
 ghost use Rattle.std.specs.Prelude.{◌≡◌};
 
 use crate::lanes::shown;
-use bm_http::{BodyPiece, LongAnswer, Routes, WholeOrLong};
+use crate::long_memory::long_answer;
+use bm_http::{BodyPiece, LongAnswer, Routes};
 use bm_lane::{Blank, Viewer, Yard, open};
 use std::alloc::{AllocError, AllocGlobal, Global};
 use std::marker::Brand;
 use std::sync::Wait;
 use std::test::Fail;
 
-const TARGET: &str = "/api/v2/logs/1/contents?name=a+b";
+/// The request for all lines of the log.
+pub const TARGET: &str = "/api/v2/logs/1/contents?name=a+b";
+
+// How many characters the long line has.
+const CHARS: usize = 100_000;
 
 // How many pieces the answer has: five of lines, and what stands before and behind them.
 const PIECES: usize = 7;
 
 // A long line. Behind the line `bb` and a letter the first piece would end inside of a character.
-fn long_line(alloc: Global) -> Result<String, AllocError> {
-    "€".repeat(alloc, 100_000)
+fn long_line(alloc: Global, chars: usize) -> Result<String, AllocError> {
+    "€".repeat(alloc, chars)
 }
 
-// The text of the log.
-fn text(alloc: Global) -> Result<String, AllocError> {
-    let line = long_line(alloc)?;
+/// The text of the log, whose long line has so many characters.
+pub fn text(alloc: Global, chars: usize) -> Result<String, AllocError> {
+    let line = long_line(alloc, chars)?;
     format!(in alloc; "bb\n{line}\nc\n")
 }
 
-// The whole answer.
-fn body(alloc: Global) -> Result<String, AllocError> {
-    let line = long_line(alloc)?;
+/// The whole answer.
+pub fn body(alloc: Global, chars: usize) -> Result<String, AllocError> {
+    let line = long_line(alloc, chars)?;
     let end = "\",\"firstline\":0,\"logid\":1}],\"meta\":{}}";
     format!(in alloc; "{{\"logchunks\":[{{\"content\":\"obb\\no{line}\\noc\\n{end}")
-}
-
-// What the viewer shows of the lines, where that is a long answer.
-fn long_answer<Y: Yard>(
-    alloc: Global,
-    routes: &Routes,
-    viewer: &mut Viewer<Y>,
-) -> Option<LongAnswer<Y>> {
-    let request = routes.request(alloc, "GET", TARGET).ok()?;
-    if request.lane(1) != Some(viewer.lane()) {
-        return None;
-    }
-    let look = request.first_look(alloc, 1, viewer).ok()?;
-    match look.answer(alloc) {
-        Ok(WholeOrLong::Long(answer)) => Some(answer),
-        _ => None,
-    }
 }
 
 // Whether the piece's bytes could be added.
@@ -78,10 +66,10 @@ fn joined<Y: Yard>(
 
 // Whether the pieces that the viewer shows are the answer.
 fn is_told<Y: Yard>(alloc: Global, routes: &Routes, viewer: &mut Viewer<Y>) -> bool {
-    let Some(answer) = long_answer(alloc, routes, viewer) else {
+    let Ok(answer) = long_answer(alloc, routes, viewer) else {
         return false;
     };
-    match (joined(alloc, viewer, answer), body(alloc)) {
+    match (joined(alloc, viewer, answer), body(alloc, CHARS)) {
         (Some(all), Ok(body)) => all.as_slice() == body.as_bytes(),
         _ => false,
     }
@@ -103,7 +91,7 @@ fn is_told_over<Y: Yard, W: Wait + Drop, R: Wait + AllocGlobal>(
     requires { (blank.queue ≡ Y.queue 0) × (blank.copy ≡ Y.copy 0) }
 {
     let alloc = rt.alloc();
-    let Ok(text) = text(alloc) else {
+    let Ok(text) = text(alloc, CHARS) else {
         return false;
     };
     match shown::<Y, W, R>(rt, alloc, blank, 0, "a b", &text) {
