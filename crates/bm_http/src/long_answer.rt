@@ -1,5 +1,5 @@
 //! Lines of a log that are told piece by piece, as the log stood at one look.
-ghost use Rattle.std.specs.Prelude.{◌≡◌, ◌+◌, ◌^◌, ◌<◌, ◌≤◌, ◌++◌, [], length, IfOk, IfSome, MatchOption, string_bytes};
+ghost use Rattle.std.specs.Prelude.{◌≡◌, ◌+◌, ◌^◌, ◌<◌, ◌≤◌, ◌++◌, [], length, IfErr, IfOk, IfSome, MatchOption, string_bytes};
 ghost use mathlib.Core.List.{IsPrefix};
 ghost use Rattle.json.specs.Print.{escape};
 ghost use Rattle.bm_lines.specs.Lines.{content_of};
@@ -164,12 +164,18 @@ impl<Y: Yard> LongAnswer<Y> {
     }
 
     /// The next piece of the text, or none at its end. The viewer is one of the lane that the
-    /// answer began at, which has seen no less; else the piece is lost.
+    /// answer began at, which has seen no less.
+    ///
+    /// # Errors
+    ///
+    /// `PieceError` where the viewer isn't such a one, or memory ran out. The piece is still to be
+    /// told then.
     pub fn next(&mut self, viewer: &mut Viewer<Y>) -> Option<Result<BodyPiece, PieceError>>
         ensures seen { (viewer.new.lane ≡ viewer.old.lane)
             × IsPrefix viewer.old.seen viewer.new.seen }
         ensures piece { MatchOption result (self.old ≡ [])
             (λ r. IfOk r (λ p. self.old ≡ piece_text p ++ self.new)) }
+        ensures kept { IfSome result (λ r. IfErr r (λ e. self.new ≡ self.old)) }
         ensures bounded { IfSome result (λ r. IfOk r IsBounded) }
     {
         if let Some(front) = self.front.take() {
