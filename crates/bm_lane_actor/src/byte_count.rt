@@ -1,6 +1,6 @@
 //! How many bytes the updates of commands carried.
 
-ghost use Rattle.std.specs.Prelude.{◌≡◌, ◌+◌, ◌-◌, ◌^◌, ◌++◌, ◌∷◌, [], ◌==◌, filter, fold, min, length, nat_lt, not, OnOk, OnErr};
+ghost use Rattle.std.specs.Prelude.{◌≡◌, ◌+◌, ◌-◌, ◌^◌, ◌++◌, ◌∷◌, [], ◌==◌, filter, fold, min, length, nat_lt, not, ◌<◌, vec_len, vec_capacity, OnOk};
 ghost use Rattle.bm_lines.specs.Lines.{content_of};
 ghost use Rattle.bm_lane_actor.specs.ByteCount.{carried};
 ghost use Rattle.bm_lane_actor.specs.declared.byte_count.CountedCommand.{CountedCommand};
@@ -64,21 +64,20 @@ impl ByteCounts {
 
     /// Makes room for one command more. Want of memory changes nothing.
     pub fn reserve(&mut self) -> Result<(), AllocError>
-        ensures { self.new.commands.items ≡ self.old.commands.items }
+        ensures commands { self.new.commands.items ≡ self.old.commands.items }
+        ensures room { OnOk result (vec_len self.new.commands < vec_capacity self.new.commands) }
     {
         self.commands.reserve(1)
     }
 
-    /// A command was started, whose build asks by this count.
-    pub fn begin(&mut self, command: u64, bytes: ByteCount) -> Result<(), AllocError>
-        ensures ok { OnOk result (self.new.commands.items
-            ≡ self.old.commands.items ++ record { command = command; bytes = bytes } ∷ []) }
-        ensures err { OnErr result (self.new.commands.items ≡ self.old.commands.items) }
+    /// A command was started, whose build asks by this count. There is room for it, so that no
+    /// command runs whose bytes nobody counts.
+    pub fn begin(&mut self, command: u64, bytes: ByteCount)
+        requires room { vec_len self.old.commands < vec_capacity self.old.commands }
+        ensures { self.new.commands.items
+            ≡ self.old.commands.items ++ record { command = command; bytes = bytes } ∷ [] }
     {
-        match self.commands.push(CountedCommand { command, bytes }) {
-            Ok(()) => Ok(()),
-            Err(_) => Err(AllocError),
-        }
+        self.commands.push_reserved(CountedCommand { command, bytes });
     }
 
     /// The build of a command asks no more.

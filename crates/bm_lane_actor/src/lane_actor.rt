@@ -317,10 +317,7 @@ where
         let before = self.state.connection();
         let outcome = self.state.start(self.rt, self.alloc, argv);
         match outcome {
-            OrderOutcome::Started(command) => {
-                // There is room for it.
-                let _ = self.commands.begin(command, bytes);
-            }
+            OrderOutcome::Started(command) => self.commands.begin(command, bytes),
             OrderOutcome::Full => self.events.tell(LaneEvent::Filled),
             OrderOutcome::Interrupted
             | OrderOutcome::Later

@@ -1,21 +1,19 @@
-//! Replays of recorded sessions, and input that is refused.
+//! Replays whose input comes in pieces, fails or is refused, whose memory is refused, and random
+//! schedules. What the lines of a script are answered is data: `tests/replay`.
 
 ghost use Rattle.std.specs.Prelude.{◌≤◌};
 
 mod faults;
-mod forms;
 mod memory;
 mod messages;
 mod pieces;
-mod rows;
 mod schedules;
-mod viewing;
+mod scripts;
 mod words;
 
 use bm_replay::replay_run;
 use std::alloc::{AllocError, Global};
 use std::io::Read;
-use std::process::Abort;
 
 /// What a replay printed, and its exit status.
 #[derive(Drop)]
@@ -31,11 +29,6 @@ impl Replayed {
         self.status == status
             && self.output.as_slice() == output.as_bytes()
             && self.faults.as_slice() == faults.as_bytes()
-    }
-
-    /// What stands on its output.
-    fn printed(&self) -> &str {
-        std::str::from_utf8(self.output.as_slice()).unwrap_or("no text")
     }
 }
 
@@ -86,24 +79,4 @@ fn add_line(text: &mut String, word: &str, line: &str) -> Result<(), AllocError>
     text.push_str(word)?;
     text.push_str(line)?;
     text.push('\n')
-}
-
-/// The replay of the script gives these answers and ends well.
-pub fn assert_answers(
-    rt: &(impl AllocGlobal + Abort),
-    capacity: u32,
-    script: &[&str],
-    answers: &[&str],
-)
-    requires some { 1 ≤ capacity }
-    requires few { capacity ≤ 65536 }
-{
-    let script = script_text(rt.alloc(), script).expect(rt, "memory for a script");
-    let replayed = replay(rt.alloc(), capacity, script.as_bytes());
-    let answers = joined(rt.alloc(), answers).expect(rt, "memory for answers");
-    assert_printed(rt, &replayed, answers.as_str());
-}
-
-fn assert_printed(rt: &impl Abort, replayed: &Replayed, answers: &str) {
-    assert!(rt; replayed.is(0, answers, ""), "{}", replayed.printed());
 }

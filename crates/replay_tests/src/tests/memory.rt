@@ -3,9 +3,9 @@
 
 ghost use Rattle.std.specs.Prelude.{◌≤◌};
 
-use super::rows::{LOST, LOST_ANSWERS, RESUMED, RESUMED_ANSWERS};
-use super::viewing::{
-    FULL, FULL_ANSWERS, NAMED, NAMED_ANSWERS, SLICED, SLICED_ANSWERS, VIEWED, VIEWED_ANSWERS,
+use super::scripts::{
+    FULL, FULL_ANSWERS, LOST, LOST_ANSWERS, NAMED, NAMED_ANSWERS, RESUMED, RESUMED_ANSWERS, SLICED,
+    SLICED_ANSWERS, VIEWED, VIEWED_ANSWERS,
 };
 use super::{Replayed, answers_all, joined, replay, script_text};
 use std::alloc::{AllocError, Global};
