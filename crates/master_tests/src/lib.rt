@@ -1,10 +1,8 @@
-//! Tests of a build master, from what it decides by to its threads, each library in a module of its
-//! own.
+//! Tests of what a build master decides by, and of what its threads are given. What it does with
+//! them is tested from outside, by the scripts of `tests`.
 #![tactic(auto)]
 
 #[cfg(test)]
 mod lanes;
-#[cfg(test)]
-mod master_threads;
 #[cfg(test)]
 mod operator;
