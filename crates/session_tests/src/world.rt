@@ -1,18 +1,15 @@
 //! Tests of `bm_world`.
 //!
-//! Worked scripts, and random ones beside a plain world.
+//! Worked scripts. Random ones are played by `tests/random_replays`, over the program.
 
 ghost use Rattle.std.specs.Prelude.{◌≤◌};
 
-mod plain;
-mod random;
 mod rows;
 mod says;
 mod script;
 
 use bm_session::{Results, Session};
 use bm_world::*;
-use random::agree;
 use says::Says;
 use script::{Script, step};
 use std::alloc::{AllocError, Global};
@@ -271,5 +268,16 @@ fn runs(alloc: Global, rows: &[Row]) -> bool {
     match answers {
         Some(answers) => are_said(rows, answers.as_slice()),
         None => false,
+    }
+}
+
+/// Whether two looks see the same.
+fn agree(a: &Answer, b: &Answer) -> bool {
+    match (a, b) {
+        (Answer::NoLog, Answer::NoLog) => true,
+        (Answer::Chunk(x), Answer::Chunk(y)) => {
+            x.first_line == y.first_line && x.lines == y.lines && x.content.is(&y.content)
+        }
+        _ => false,
     }
 }
