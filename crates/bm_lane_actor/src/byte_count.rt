@@ -77,7 +77,8 @@ impl ByteCounts {
         ensures { self.new.commands.items
             ≡ self.old.commands.items ++ record { command = command; bytes = bytes } ∷ [] }
     {
-        self.commands.push_reserved(CountedCommand { command, bytes });
+        self.commands
+            .push_reserved(CountedCommand { command, bytes });
     }
 
     /// The build of a command asks no more.
