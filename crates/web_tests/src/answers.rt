@@ -2,14 +2,14 @@
 ghost use Rattle.std.specs.Prelude.{◌≡◌, ◌<◌, length};
 
 use crate::lanes::shown;
-use crate::loopback::{is_back, service_of};
 use crate::rows::{ODD, ONE, Row, THREE, WIRE};
 use bm_http::Routes;
 use bm_lane::{Blank, Ends, Viewer, Yard, open};
+use bm_web_server::LogService;
 use std::alloc::Global;
 use std::marker::Brand;
 use std::process::Abort;
-use std::sync::Wait;
+use std::sync::{Arc, Wait};
 use std::test::Fail;
 
 fn gives<Y: Yard>(routes: &Routes, alloc: Global, viewers: &mut [Viewer<Y>], row: &Row) -> bool
@@ -111,6 +111,40 @@ fn three_blanks<W: Wait + Copy + Drop>(
 ) -> Option<((Blank<W>, Blank<W>), Blank<W>)> {
     let two = open(rt, alloc, 8, 1).ok().zip(open(rt, alloc, 8, 1).ok());
     two.zip(open(rt, alloc, 8, 1).ok())
+}
+
+// The service of these viewers, held twice. None where there are none.
+fn service_of<Y: Yard>(
+    alloc: Global,
+    viewers: Vec<Viewer<Y>>,
+) -> Option<(Arc<LogService<Y>>, Arc<LogService<Y>>)> {
+    if viewers.is_empty() {
+        return None;
+    }
+    let service = LogService::new(alloc, viewers).ok()?;
+    let service = Arc::new(alloc, service).ok()?;
+    let held = Arc::try_clone(&service).ok();
+    Some(service).zip(held)
+}
+
+// Whether the viewers are those of lane 0, 1 and so on.
+fn are_of_their_lanes<Y: Yard>(viewers: &[Viewer<Y>]) -> bool {
+    let mut lane = 0u64;
+    for viewer in viewers {
+        if viewer.lane() != lane {
+            return false;
+        }
+        lane = lane.saturating_add(1);
+    }
+    true
+}
+
+// Whether nobody else holds the service of so many lanes, which gives the viewer of each back.
+fn is_back<Y: Yard>(service: Arc<LogService<Y>>, lanes: usize) -> bool {
+    match LogService::into_viewers(service) {
+        Some(viewers) => viewers.len() == lanes && are_of_their_lanes(viewers.as_slice()),
+        None => false,
+    }
 }
 
 #[test]

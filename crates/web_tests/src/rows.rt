@@ -6,11 +6,11 @@ pub type Reply = (u16, &'static str);
 /// A method, a target and the answer.
 pub type Row = (&'static str, &'static str, Reply);
 
-/// Where a path names no page.
-pub const NO_PAGE: Reply = (404, r#"{"error":"no such page"}"#);
+// Where a path names no page.
+const NO_PAGE: Reply = (404, r#"{"error":"no such page"}"#);
 
-/// Where the method isn't GET.
-pub const NOT_ALLOWED: Reply = (405, r#"{"error":"method not allowed"}"#);
+// Where the method isn't GET.
+const NOT_ALLOWED: Reply = (405, r#"{"error":"method not allowed"}"#);
 
 const NO_LOG: Reply = (404, r#"{"error":"no such log"}"#);
 
@@ -64,12 +64,9 @@ const SECOND_OPEN: Reply = (
     r#"{"logchunks":[{"content":"oc\n","firstline":1,"logid":1}],"meta":{}}"#,
 );
 
-/// A request that is answered with lines.
-pub const LINES: Row = ("GET", "/api/v2/logs/0/contents?offset=0&limit=10", LINE);
-
-/// Over the first lane alone, by the routes and over the wire: each check comes before the next.
+/// Over the first lane alone: each check comes before the next.
 pub const WIRE: &[Row] = &[
-    LINES,
+    ("GET", "/api/v2/logs/0/contents?offset=0&limit=10", LINE),
     ("GET", "/api/v2/logs/2/contents", NO_LOG),
     ("GET", "/api/v2/logs/0/contents?offset=x", BAD_NUMBER),
     (
