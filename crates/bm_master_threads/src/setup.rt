@@ -78,12 +78,18 @@ fn coordinator_of<Y: Yard, O: Drop>(
     })
 }
 
-// The logs that these see. None where memory is wanting, or there is no lane, which never comes.
-fn logs_of<Y: Yard>(alloc: Global, viewers: Vec<Viewer<Y>>) -> Option<Arc<LogService<Y>>> {
+/// A handle of the logs that the web serves.
+type Logs<Y> = Arc<LogService<Y>>;
+
+// The logs that these see, for the thread that serves them and for the end. None where memory is
+// wanting, or there is no lane, which never comes.
+fn logs_of<Y: Yard>(alloc: Global, viewers: Vec<Viewer<Y>>) -> Option<(Logs<Y>, Logs<Y>)> {
     if viewers.is_empty() {
         return None;
     }
-    Arc::new(alloc, LogService::new(alloc, viewers).ok()?).ok()
+    let logs = Arc::new(alloc, LogService::new(alloc, viewers).ok()?).ok()?;
+    let served = Arc::try_clone(&logs).ok();
+    served.zip(Some(logs))
 }
 
 /// What all threads share, and what each of them owns, before the first of them starts. With these
@@ -130,7 +136,7 @@ where
     let shared = SharedState::new(rt, alloc, config, handles, sender, writers);
     let (made, logs) = shared.zip(coordinator).zip(logs_of(alloc, web_viewers))?;
     let (shared, coordinator) = made;
-    let served = Arc::try_clone(&logs).ok()?;
+    let (served, logs) = logs;
     let owned = ThreadOwned {
         states,
         mailboxes,
