@@ -1,4 +1,5 @@
-"""A master over steps, for `tests/bad_steps` and `tests/cut_steps`, and how their parts are run."""
+"""A master over steps, for `tests/builds`, `tests/bad_steps` and `tests/cut_steps`, and how their
+parts are run."""
 
 import asyncio
 import contextlib
@@ -97,6 +98,11 @@ def build(*steps, worker="w0"):
 
 
 ONE_WORKER = 'worker = [{ name = "w0", password = "p" }]\n'
+
+
+def resumable(ticks):
+    """One worker, whose session may be resumed within so many ticks."""
+    return f'worker = [{{ name = "w0", password = "p", resume_ticks = {ticks} }}]\n'
 
 
 def run(parts, names):
