@@ -1,5 +1,5 @@
-//! Replays whose input comes in pieces, fails or is refused, whose memory is refused, and random
-//! schedules. What the lines of a script are answered is data: `tests/replay`.
+//! Replays whose input comes in pieces, fails or is refused, and whose memory is refused. What the
+//! lines of a script are answered is data: `tests/replay`.
 
 ghost use Rattle.std.specs.Prelude.{◌≤◌};
 
@@ -7,7 +7,6 @@ mod faults;
 mod memory;
 mod messages;
 mod pieces;
-mod schedules;
 mod scripts;
 mod words;
 

@@ -2,8 +2,6 @@
 ghost use Rattle.std.specs.Prelude.{◌≡◌, ◌<◌, ◌≤◌};
 
 use super::calls::{Answer, Call};
-use super::hostile::Came;
-use super::hostile::verdicts::Verdict;
 use super::lengths::Long;
 use super::links::{Links, goes_down};
 use super::resumed::Case;
@@ -205,9 +203,7 @@ impl<Y: Yard, W: Wait + Drop> LinkedLane<Y, W> {
             Trial::Plays(rows) => Outcome::Played(self.plays(rt, rows)),
             Trial::Ends(end) => Outcome::Seen(self.ends(rt, end)),
             Trial::Outlives(end) => Outcome::Seen(self.outlives(rt, end)),
-            Trial::Tells(bytes, verdict) => Outcome::Played(self.tells(rt, alloc, bytes, verdict)),
             Trial::Goes(case) => Outcome::Seen(self.goes_through(rt, alloc, case)),
-            Trial::Comes(bytes) => Outcome::Came(self.comes(rt, alloc, bytes)),
         }
     }
 }
@@ -221,12 +217,8 @@ pub(crate) enum Trial<'a> {
     Ends(End),
     /// The links of a session are cut and resumed, where memory is refused or not.
     Outlives(End),
-    /// A message with these bytes comes, and this is to come of it.
-    Tells(&'a [u8], Verdict),
     /// The links of a session come and go.
     Goes(Case),
-    /// A message with these bytes comes.
-    Comes(&'a [u8]),
 }
 
 /// What came of a trial.
@@ -234,7 +226,6 @@ pub(crate) enum Trial<'a> {
 pub(crate) enum Outcome {
     Played(bool),
     Seen(Option<Watch>),
-    Came(Came),
     /// There was no lane.
     Nothing,
 }

@@ -6,7 +6,6 @@ mod refused;
 use super::super::both::end_of_head;
 use super::super::calls::{Answer, CLOSED, HEARD, NOTED};
 use super::super::failing::{begins, ended_right};
-use super::super::hostile::payload;
 use super::super::watch::{End, Step, Watch};
 use super::super::{
     AGREED, ANSWER, ANSWER_ONE, ANSWER_THREE, ANSWER_TWO, AUTH, AUTH_S, CLOSE, CODE_TWO,
@@ -304,9 +303,12 @@ impl LinkedWorker {
 /// What the second link reads behind its handshake.
 static SECOND: [&[u8]; 6] = [RESUMED, ORDER, ANSWER, ANSWER_ONE, ANSWER_TWO, ANSWER_THREE];
 
+/// Whether this is the message in the frame at the place, whose first six bytes are the frame's own.
 fn is_request(sent: &Sent, place: usize) -> bool {
     match REQUESTS.get(place) {
-        Some(frame) => { payload(frame) == sent.bytes.as_slice() && sent.seq == place as u64 }
+        Some(frame) => {
+            frame.get(6..) == Some(sent.bytes.as_slice()) && sent.seq == place as u64
+        }
         None => false,
     }
 }
