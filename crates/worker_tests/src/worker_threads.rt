@@ -2,7 +2,6 @@
 //!
 //! The worker against a master of the tests, over the loopback.
 
-mod cut;
 mod lanes;
 mod master;
 mod memory;
@@ -18,7 +17,7 @@ use std::random::RandomSource;
 use std::sync::atomic::AtomicU64;
 use std::sync::{Arc, Wait};
 use std::thread;
-use std::thread::Threads;
+use std::thread::{JoinHandle, Threads};
 use std::time::{Clock, Duration};
 
 /// Whether small messages leave the stream at once, and a read of it waits so many milliseconds at
@@ -74,6 +73,34 @@ where
     }
 }
 
+/// Starts a worker that connects with the address once, and names no session.
+fn worker_at<R>(rt: R, address: SocketAddr) -> Option<JoinHandle<u8>>
+where
+    R: Wait
+        + Threads
+        + Clock
+        + RandomSource
+        + AllocGlobal
+        + Net<Listener = TcpListener, Stream = TcpStream>
+        + Processes<Started = SystemProcess>
+        + Copy
+        + Drop
+        + Send
+        + Sync
+        + 'static,
+{
+    let worker = thread::spawn(&rt, move || {
+        let mut is_first = true;
+        let dial = |_: Duration| {
+            let stream = if is_first { dial(&rt, address) } else { None };
+            is_first = false;
+            stream
+        };
+        work_run(&rt, dial, "w0", "p", None)
+    });
+    worker.ok()
+}
+
 /// Lets a worker work for the master that the script is, and answers what the worker's status was.
 /// None where the script met its end.
 pub fn status_under<R, F>(rt: R, script: F) -> Option<u8>
@@ -95,16 +122,7 @@ where
 {
     let listener = TcpListener::bind(&rt, "127.0.0.1:0").ok()?;
     let address = listener.local_addr().ok()?;
-    let worker = thread::spawn(&rt, move || {
-        let mut is_first = true;
-        let dial = |_: Duration| {
-            let stream = if is_first { dial(&rt, address) } else { None };
-            is_first = false;
-            stream
-        };
-        work_run(&rt, dial, "w0", "p", None)
-    })
-    .ok()?;
+    let worker = worker_at(rt, address)?;
     let done = played(rt.alloc(), &listener, script);
     let status = worker.join(&rt);
     match done {

@@ -1,106 +1,32 @@
-//! The worker against a master's link and its lane, through cuts of its connections.
+//! The worker against a master's link and its lane.
 
 ghost use Rattle.std.specs.Prelude.{◌≡◌};
 
 mod logs;
 mod outcome;
 
-use super::cut::{Cut, Unit};
-use super::{FAILING, dial, waiting};
+use super::{FAILING, waiting, worker_at};
 use bm_lane::{Blank, Drained, Ends, Yard, open, same_lane, settle};
 use bm_lines::{STDIO, Text};
 use bm_link::{Ask, MasterLink, ResumeState, User, are_short};
 use bm_session::Results;
-use bm_worker_threads::{ReadyStream, work_run};
+use bm_worker_threads::ReadyStream;
 use bumpalo::Bump;
 use outcome::{Log, log_in};
 use std::alloc::{AllocError, AllocGlobal, Global};
 use std::marker::Brand;
-use std::net::{Net, SocketAddr, TcpListener, TcpStream};
+use std::net::{Net, TcpListener, TcpStream};
 use std::process::{Processes, SystemProcess};
 use std::random::RandomSource;
 use std::sync::Wait;
-use std::thread;
-use std::thread::{JoinHandle, Threads};
-use std::time::{Clock, Duration};
+use std::thread::Threads;
+use std::time::Clock;
 
 /// The most items that wait in a lane's queue.
 const CAPACITY: usize = 64;
 
-/// The most connections of a worker.
-const MOST_CONNECTIONS: u32 = 12;
-
 /// The most turns of a connection.
 const MOST_TURNS: u32 = 100_000;
-
-/// What a command does.
-#[derive(Clone, Copy)]
-enum Task {
-    /// It says a line over each of its pipes, and fails.
-    Fail,
-    /// It counts to 9.
-    Count,
-}
-
-impl Task {
-    /// Its line for a shell.
-    fn line(self) -> &'static str {
-        match self {
-            Task::Fail => FAILING,
-            Task::Count => "seq 1 9",
-        }
-    }
-}
-
-/// After how much a connection is cut that isn't cut.
-const UNCUT: usize = usize::MAX;
-
-/// How many connections are cut near their beginnings, and how many after them further on.
-const IN_A_ROW: usize = 4;
-
-/// After how many bytes or calls the first connections of a worker are cut: one after the other one
-/// later, from each of two places.
-#[derive(Clone, Copy)]
-struct Cuts {
-    unit: Unit,
-    early: usize,
-    late: usize,
-}
-
-/// No connection is cut.
-const NO_CUTS: Cuts = Cuts {
-    unit: Unit::Byte,
-    early: UNCUT,
-    late: UNCUT,
-};
-
-impl Cuts {
-    /// After how much a connection is cut, behind so many others.
-    fn left(self, made: usize) -> usize {
-        if made < IN_A_ROW {
-            self.early.saturating_add(made)
-        } else if made < 2 * IN_A_ROW {
-            self.late.saturating_add(made - IN_A_ROW)
-        } else {
-            UNCUT
-        }
-    }
-
-    /// Whether a worker may end with this status. One that is cut after it was told to leave finds
-    /// no master any more, and gives up.
-    fn may_end(self, status: u8) -> bool {
-        status == 0 || status == 1 && self.early != UNCUT
-    }
-}
-
-/// What a worker does.
-#[derive(Clone, Copy)]
-struct Run {
-    task: Task,
-    /// The session that it names, if any, which its later connections resume.
-    session: Option<&'static str>,
-    cuts: Cuts,
-}
 
 /// A master's end of a worker's connection.
 type Link = MasterLink<ReadyStream<TcpStream>>;
@@ -130,13 +56,13 @@ fn user_of(alloc: Global) -> Result<User, AllocError> {
 }
 
 impl<Y: Yard, W: Wait + Drop> CommandLane<Y, W> {
-    /// A lane without a link, whose sessions are resumed or not. No user is known, and there is no
+    /// A lane without a link, whose sessions aren't resumed. No user is known, and there is no
     /// command to start.
-    fn new(alloc: Global, ends: Ends<Y, W>, resumable: bool) -> CommandLane<Y, W> {
+    fn new(alloc: Global, ends: Ends<Y, W>) -> CommandLane<Y, W> {
         CommandLane {
             alloc,
             ends,
-            carry: ResumeState::new(alloc, resumable),
+            carry: ResumeState::new(alloc, false),
             users: Vec::new(alloc),
             argv: Vec::new(alloc),
         }
@@ -163,25 +89,15 @@ impl<Y: Yard, W: Wait + Drop> CommandLane<Y, W> {
 }
 
 impl<Y: Yard, W: Wait + Drop> CommandLane<Y, W> {
-    /// Whether the command has ended over one of the next connections, which are served in turn.
-    fn serves_all<R: Wait + Net<Listener = TcpListener, Stream = TcpStream>>(
+    /// Whether the command has ended, and its worker left, by the end of the next connection.
+    fn serves<R: Wait + Net<Listener = TcpListener, Stream = TcpStream>>(
         &mut self,
         rt: &R,
         listener: &TcpListener,
     ) -> bool {
-        for _ in 0..MOST_CONNECTIONS {
-            let Ok((stream, _)) = listener.accept() else {
-                return false;
-            };
-            if self.serves(rt, stream) {
-                return true;
-            }
-        }
-        false
-    }
-
-    /// Whether the command has ended, and its worker left, by the end of a connection.
-    fn serves<R: Wait>(&mut self, rt: &R, stream: TcpStream) -> bool {
+        let Ok((stream, _)) = listener.accept() else {
+            return false;
+        };
         match link_over(self.alloc, stream) {
             Some(mut link) => {
                 let is_served = self.serves_over(rt, &mut link);
@@ -197,16 +113,15 @@ impl<Y: Yard, W: Wait + Drop> CommandLane<Y, W> {
         self.is_joined(rt, &mut arena, link) && self.is_left(rt, &mut arena, link)
     }
 
-    /// Whether the worker has logged in, and the command was started over this connection or an
-    /// earlier one.
+    /// Whether the worker has logged in, and the command was started.
     fn is_joined<R: Wait>(&mut self, rt: &R, arena: &mut Bump, link: &mut Link) -> bool {
         let (alloc, users) = (self.alloc, self.users.as_slice());
         let (reader, carry) = (&mut self.ends.reader, &mut self.carry);
         let argv = self.argv.as_slice();
         link.login(alloc, arena, users).is_ok()
             && link.attach(rt, alloc, reader, carry).is_ok()
-            && (reader.next_command() != 0
-                || are_short(argv) && link.start(rt, alloc, reader, carry, argv).is_ok())
+            && are_short(argv)
+            && link.start(rt, alloc, reader, carry, argv).is_ok()
     }
 
     /// Whether the worker was told to leave once the command had ended, by the end of the
@@ -263,43 +178,8 @@ impl<Y: Yard, W: Wait + Drop> CommandLane<Y, W> {
     }
 }
 
-/// Starts the worker of a run.
-fn worker_of<R>(rt: R, address: SocketAddr, run: Run) -> Option<JoinHandle<u8>>
-where
-    R: Wait
-        + Threads
-        + Clock
-        + RandomSource
-        + AllocGlobal
-        + Net<Listener = TcpListener, Stream = TcpStream>
-        + Processes<Started = SystemProcess>
-        + Copy
-        + Drop
-        + Send
-        + Sync
-        + 'static,
-{
-    let worker = thread::spawn(&rt, move || {
-        let mut made = 0usize;
-        let dial = |_: Duration| {
-            let left = run.cuts.left(made);
-            made = made.saturating_add(1);
-            match dial(&rt, address) {
-                Some(stream) => Some(Cut::new(stream, run.cuts.unit, left)),
-                None => None,
-            }
-        };
-        work_run(&rt, dial, "w0", "p", run.session)
-    });
-    worker.ok()
-}
-
-/// Whether a desk served the worker of a run, and the worker then left.
-fn has_served<Y: Yard, W: Wait + Drop, R>(
-    rt: R,
-    desk: &mut CommandLane<Y, W>,
-    run: Run,
-) -> Option<bool>
+/// Whether a desk served a worker, and the worker then left.
+fn has_served<Y: Yard, W: Wait + Drop, R>(rt: R, desk: &mut CommandLane<Y, W>) -> Option<bool>
 where
     R: Wait
         + Threads
@@ -316,14 +196,14 @@ where
 {
     let listener = TcpListener::bind(&rt, "127.0.0.1:0").ok()?;
     let address = listener.local_addr().ok()?;
-    let worker = worker_of(rt, address, run)?;
-    let is_served = desk.serves_all(&rt, &listener);
+    let worker = worker_at(rt, address)?;
+    let is_served = desk.serves(&rt, &listener);
     drop(listener);
-    Some(run.cuts.may_end(worker.join(&rt)) && is_served)
+    Some(worker.join(&rt) == 0 && is_served)
 }
 
-/// What the lane of a new desk has of the command of a run, once it is settled.
-fn log_at<Y: Yard, W: Wait + Drop, R>(rt: R, mut desk: CommandLane<Y, W>, run: Run) -> Option<Log>
+/// What the lane of a new desk has of its command, once it is settled.
+fn log_at<Y: Yard, W: Wait + Drop, R>(rt: R, mut desk: CommandLane<Y, W>) -> Option<Log>
 where
     R: Wait
         + Threads
@@ -338,15 +218,15 @@ where
         + Sync
         + 'static,
 {
-    if desk.is_ready(run.task.line()) && has_served(rt, &mut desk, run) == Some(true) {
+    if desk.is_ready(FAILING) && has_served(rt, &mut desk) == Some(true) {
         desk.log(&rt)
     } else {
         None
     }
 }
 
-/// What a lane has of the command of a run. Its sessions are resumed where the run's has a name.
-fn log_over<Y: Yard, W: Wait + Drop, R>(rt: R, blank: Blank<W>, run: Run) -> Option<Log>
+/// What this lane has of its command.
+fn log_over<Y: Yard, W: Wait + Drop, R>(rt: R, blank: Blank<W>) -> Option<Log>
 where
     R: Wait
         + Threads
@@ -363,12 +243,11 @@ where
     requires { (blank.queue ≡ Y.queue 0) × (blank.copy ≡ Y.copy 0) }
 {
     let ends = blank.ends::<Y>(rt.alloc(), 0).ok()?;
-    let desk = CommandLane::new(rt.alloc(), ends, run.session.is_some());
-    log_at(rt, desk, run)
+    log_at(rt, CommandLane::new(rt.alloc(), ends))
 }
 
-/// What a new lane has of the command of a run.
-fn log_of<R>(rt: R, run: Run) -> Option<Log>
+/// What a new lane has of its command.
+fn log_of<R>(rt: R) -> Option<Log>
 where
     R: Wait
         + Threads
@@ -384,5 +263,5 @@ where
         + 'static,
 {
     let blank = open(rt, rt.alloc(), CAPACITY, 1).ok()?;
-    log_over::<Brand, R, R>(rt, blank, run)
+    log_over::<Brand, R, R>(rt, blank)
 }

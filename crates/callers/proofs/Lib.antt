@@ -1,0 +1,3 @@
+mod LaneTraces
+mod SessionTraces
+mod ValueAnswers
