@@ -1,3 +1,7 @@
 mod LaneTraces
 mod SessionTraces
 mod ValueAnswers
+mod LinkReads
+mod LinkFaults
+mod LinkTurns
+mod LinkCalls

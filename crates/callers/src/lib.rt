@@ -5,6 +5,7 @@
 #![tactic(auto)]
 
 mod lane;
+mod link;
 mod session;
 mod store;
 mod value;
@@ -13,6 +14,12 @@ pub use lane::{
     answered_event_is_recorded_once, drained_items_are_published, end_with_room_is_not_busy,
     lines_are_of_all_that_was_seen, log_that_was_seen_is_there, settled_lane_keeps_what_was_said,
     unshown_item_is_held,
+};
+pub use link::{
+    busy_lane_keeps_its_link, failed_link_hears_nothing, failed_read_leaves_nothing_to_send,
+    message_in_hand_is_not_passed_over, noted_event_was_taken, order_is_kept_as_it_was_sent,
+    order_keeps_its_number, refused_login_is_told_why, session_is_cut_after_a_fault,
+    untaken_request_is_not_answered,
 };
 pub use session::{
     ended_command_gets_no_lines, giving_up_ends_older_commands, new_session_counts_anew,

@@ -1,0 +1,189 @@
+//! Callers of a master's link.
+
+ghost use Rattle.std.specs.Prelude.{◌≡◌, ◌≢◌, ◌∷◌, ◌++◌, [], true, is_some, codes, IfSome, IfOk, IfErr};
+ghost use mathlib.Core.List.{IsPrefix};
+ghost use Rattle.bm_link.specs.declared.credentials.Named.{Named};
+ghost use Rattle.bm_link.specs.declared.fault.LinkFault.TheVariants as fault;
+ghost use Rattle.bm_link.specs.declared.parts.Stage.TheVariants as stage;
+ghost use Rattle.bm_link.specs.declared.parts.Turn.TheVariants as turned;
+ghost use Rattle.bm_lane.specs.declared.refusals.HearRefusal.TheVariants as hearing;
+ghost use Rattle.bm_session.specs.declared.event.Event.{Event as LaneEvent};
+ghost use Rattle.bm_session.specs.declared.event.Event.TheVariants.{Cut};
+ghost use Rattle.bm_session.specs.declared.refusal.Refusal.TheVariants.{AlreadyUp};
+ghost use Rattle.bm_session.specs.Trace.{refusal, orders};
+ghost use Rattle.bm_work.specs.declared.sent.Sent.{Sent as SentOrder};
+ghost use Rattle.bm_link.specs.Sending.{SendsBytes};
+ghost use Rattle.bm_link.specs.Texts.{AreShort};
+ghost use Rattle.callers.specs.Link.{BeginsWithBinary, LeavesException};
+
+use bm_lane::{ReaderEnd, Yard};
+use bm_lines::Text;
+use bm_link::{Ask, Attached, LinkFault, MasterLink, ResumeState, Turn};
+use bumpalo::Bump;
+use std::alloc::Global;
+use std::io::{Read, Write};
+use std::sync::Wait;
+
+/// A turn doesn't fail because its lane is busy.
+pub fn busy_lane_keeps_its_link<S: Read + Write + Drop, Y: Yard, R: Wait>(
+    link: &mut MasterLink<S>,
+    rt: &R,
+    alloc: Global,
+    arena: &mut Bump,
+    reader: &mut ReaderEnd<Y>,
+    resume_state: &mut ResumeState,
+) -> Result<Turn, LinkFault>
+    ensures { result ≢ Err (fault.Lane hearing.Busy) }
+{
+    link.turn(rt, alloc, arena, reader, resume_state)
+}
+
+/// An event that a turn calls noted was taken by the lane.
+pub fn noted_event_was_taken<S: Read + Write + Drop, Y: Yard, R: Wait>(
+    link: &mut MasterLink<S>,
+    rt: &R,
+    alloc: Global,
+    arena: &mut Bump,
+    reader: &mut ReaderEnd<Y>,
+    resume_state: &mut ResumeState,
+) -> Result<Turn, LinkFault>
+    ensures { result ≡ Ok turned.Noted
+        → (e : LaneEvent) × (reader.new.trace ≡ reader.old.trace ++ e ∷ []) }
+{
+    link.turn(rt, alloc, arena, reader, resume_state)
+}
+
+/// A binary message whose bytes have come whole isn't passed over.
+pub fn message_in_hand_is_not_passed_over<S: Read + Write + Drop, Y: Yard, R: Wait>(
+    link: &mut MasterLink<S>,
+    rt: &R,
+    alloc: Global,
+    arena: &mut Bump,
+    reader: &mut ReaderEnd<Y>,
+    resume_state: &mut ResumeState,
+) -> Result<Turn, LinkFault>
+    requires { BeginsWithBinary link.old.socket }
+    ensures { result ≢ Ok turned.Dropped }
+{
+    link.turn(rt, alloc, arena, reader, resume_state)
+}
+
+/// While an event waits, a turn sends nothing unless the lane took it.
+pub fn untaken_request_is_not_answered<S: Read + Write + Drop, Y: Yard, R: Wait>(
+    link: &mut MasterLink<S>,
+    rt: &R,
+    alloc: Global,
+    arena: &mut Bump,
+    reader: &mut ReaderEnd<Y>,
+    resume_state: &mut ResumeState,
+) -> Result<Turn, LinkFault>
+    ensures { (e : LaneEvent) → link.old.kept ≡ Some e
+        → ¬ IsPrefix (reader.old.trace ++ e ∷ []) reader.new.trace
+        → link.new.socket ≡ link.old.socket }
+{
+    link.turn(rt, alloc, arena, reader, resume_state)
+}
+
+/// Where nothing has come, a turn whose stream fails leaves nothing to be sent.
+pub fn failed_read_leaves_nothing_to_send<S: Read + Write + Drop, Y: Yard, R: Wait>(
+    link: &mut MasterLink<S>,
+    rt: &R,
+    alloc: Global,
+    arena: &mut Bump,
+    reader: &mut ReaderEnd<Y>,
+    resume_state: &mut ResumeState,
+) -> Result<Turn, LinkFault>
+    requires came { (link.old.socket.input ≡ []) × (S.remaining link.old.socket.stream ≡ Some []) }
+    requires waits { (link.old.kept ≡ None) × (link.old.socket.output ≡ []) }
+    ensures { result ≡ Err fault.Stream → link.new.socket.output ≡ [] }
+{
+    link.turn(rt, alloc, arena, reader, resume_state)
+}
+
+/// After a turn that failed the next one hears nothing: it fails, or waits for the lane.
+pub fn failed_link_hears_nothing<S: Read + Write + Drop, Y: Yard, R: Wait>(
+    link: &mut MasterLink<S>,
+    rt: &R,
+    alloc: Global,
+    arena: &mut Bump,
+    reader: &mut ReaderEnd<Y>,
+    resume_state: &mut ResumeState,
+) -> Option<Result<Turn, LinkFault>>
+    ensures { IfSome result (λ next. IfOk next (λ t. t ≡ turned.Busy)) }
+{
+    match link.turn(rt, alloc, arena, reader, resume_state) {
+        Ok(_) => None,
+        Err(_) => Some(link.turn(rt, alloc, arena, reader, resume_state)),
+    }
+}
+
+/// A link that fails as it asks has its lane cut, where the session's text is kept.
+pub fn session_is_cut_after_a_fault<S: Read + Write + Drop, Y: Yard, R: Wait>(
+    link: &mut MasterLink<S>,
+    rt: &R,
+    alloc: Global,
+    arena: &mut Bump,
+    reader: &mut ReaderEnd<Y>,
+    resume_state: &mut ResumeState,
+) -> Result<(), LinkFault>
+    requires up { link.old.stage ≡ stage.Up }
+    requires named { is_some resume_state.old.text ≡ true }
+    requires fits { refusal reader.old.trace Cut ≡ None }
+    ensures { IfErr result (λ _. reader.new.trace ≡ reader.old.trace ++ Cut ∷ []) }
+{
+    match link.ask(alloc, resume_state, Ask::Keepalive) {
+        Ok(()) => Ok(()),
+        Err(why) => {
+            let _ = link.turn(rt, alloc, arena, reader, resume_state);
+            Err(why)
+        }
+    }
+}
+
+/// A worker whose lane is up already is told so by an exception, or is told nothing.
+pub fn refused_login_is_told_why<S: Read + Write + Drop, Y: Yard, R: Wait>(
+    link: &mut MasterLink<S>,
+    rt: &R,
+    alloc: Global,
+    reader: &mut ReaderEnd<Y>,
+    resume_state: &mut ResumeState,
+) -> Result<Attached, LinkFault>
+    ensures { (login : Named) → link.old.login ≡ Some login
+        → result ≡ Err (fault.Lane (hearing.Session AlreadyUp))
+        → LeavesException S.contents login.seq (codes "already up") link.old.socket
+        link.new.socket }
+{
+    link.attach(rt, alloc, reader, resume_state)
+}
+
+/// An order is kept under the number that the lane gave to it.
+pub fn order_keeps_its_number<S: Read + Write + Drop, Y: Yard, R: Wait>(
+    link: &mut MasterLink<S>,
+    rt: &R,
+    alloc: Global,
+    reader: &mut ReaderEnd<Y>,
+    resume_state: &mut ResumeState,
+    argv: &[Text],
+) -> Result<u64, LinkFault>
+    requires { AreShort argv.now }
+    ensures { IfOk result (λ _. (o : SentOrder) × (o.seq ≡ orders reader.old.trace)
+        × (resume_state.new.orders ≡ resume_state.old.orders ++ o ∷ [])) }
+{
+    link.start(rt, alloc, reader, resume_state, argv)
+}
+
+/// An order is kept with the bytes that were sent.
+pub fn order_is_kept_as_it_was_sent<S: Read + Write + Drop, Y: Yard, R: Wait>(
+    link: &mut MasterLink<S>,
+    rt: &R,
+    alloc: Global,
+    reader: &mut ReaderEnd<Y>,
+    resume_state: &mut ResumeState,
+    command: u64,
+) -> Result<(), LinkFault>
+    ensures { IfOk result (λ _. (o : SentOrder)
+        × (resume_state.new.orders ≡ resume_state.old.orders ++ o ∷ [])
+        × SendsBytes S.contents o.bytes link.old.socket link.new.socket) }
+{
+    link.interrupt(rt, alloc, reader, resume_state, command)
+}
