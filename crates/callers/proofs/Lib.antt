@@ -1,7 +1,10 @@
 mod LaneTraces
+mod LinkCalls
+mod LinkFaults
+mod LinkReads
+mod LinkTurns
+mod QueueGivenUp
+mod RunnerTells
 mod SessionTraces
 mod ValueAnswers
-mod LinkReads
-mod LinkFaults
-mod LinkTurns
-mod LinkCalls
+mod WorkNumbers
