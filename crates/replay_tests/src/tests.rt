@@ -1,13 +1,10 @@
-//! Replays whose input comes in pieces, fails or is refused, and whose memory is refused. What the
-//! lines of a script are answered is data: `tests/replay`.
+//! Replays whose input comes in pieces, fails or is refused. What the lines of a script are answered
+//! is data: `tests/replay`.
 
 ghost use Rattle.std.specs.Prelude.{◌≤◌};
 
 mod faults;
-mod memory;
-mod messages;
 mod pieces;
-mod scripts;
 mod words;
 
 use bm_replay::replay_run;
@@ -54,28 +51,12 @@ pub fn answers_all(alloc: Global, capacity: u32, script: &[u8], answers: &str) -
     replay(alloc, capacity, script).is(0, answers, "")
 }
 
-/// The lines of a script as its text. A message in hex stands for the line that takes it in.
-pub fn script_text(alloc: Global, script: &[&str]) -> Result<String, AllocError> {
-    let mut text = String::new(alloc);
-    for line in script {
-        let word = if line.starts_with('8') { "in " } else { "" };
-        add_line(&mut text, word, line)?;
-    }
-    Ok(text)
-}
-
 /// The lines as a text, each with its line end.
-pub fn joined(alloc: Global, lines: &[&str]) -> Result<String, AllocError> {
+pub fn text_of(alloc: Global, lines: &[&str]) -> Result<String, AllocError> {
     let mut text = String::new(alloc);
     for line in lines {
-        add_line(&mut text, "", line)?;
+        text.push_str(line)?;
+        text.push('\n')?;
     }
     Ok(text)
-}
-
-/// Puts a word, a line and its line end behind the text.
-fn add_line(text: &mut String, word: &str, line: &str) -> Result<(), AllocError> {
-    text.push_str(word)?;
-    text.push_str(line)?;
-    text.push('\n')
 }

@@ -1,6 +1,6 @@
 //! Input and output that a replay refuses or that fail.
 
-use super::{replay, script_text};
+use super::{replay, text_of};
 use bm_replay::{read_up_to, replay_run};
 use std::alloc::{AllocError, Global};
 use std::io;
@@ -100,7 +100,7 @@ const OTHER_FORMS: [&str; 25] = [
 
 /// Whether the line ends a replay after the answers before, and is told by its number.
 fn is_told(alloc: Global, line: &str) -> bool {
-    match script_text(alloc, &["up", "", line, "go"]) {
+    match text_of(alloc, &["up", "", line, "go"]) {
         Ok(script) => {
             replay(alloc, 4, script.as_bytes()).is(1, "ok\n", "line 3: not understood\n")
         }
