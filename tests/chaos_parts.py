@@ -4,8 +4,6 @@ and what readers have seen."""
 import collections
 import os
 import random
-import socket
-import struct
 import sys
 import threading
 
@@ -31,14 +29,6 @@ def fault(text):
     if len(FAULTS) < 20:
         print(f"FAULT: {text}", flush=True)
     FAULTS.append(text)
-
-
-def reset(writer):
-    """Ends a connection without a farewell: what is on its way is dropped."""
-    end = writer.get_extra_info("socket")
-    if end is not None and end.fileno() >= 0:
-        end.setsockopt(socket.SOL_SOCKET, socket.SO_LINGER, struct.pack("ii", 1, 0))
-    writer.transport.abort()
 
 
 class Shelf:

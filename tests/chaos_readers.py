@@ -11,7 +11,8 @@ import socket
 import threading
 import time
 
-from chaos_parts import CHANCE, FIGURES, fault, reset
+from chaos_parts import CHANCE, FIGURES, fault
+from wire import reset
 
 MOST_AT_ONCE = 4_000
 # A reader that takes nothing for 30 seconds is cut.

@@ -9,7 +9,8 @@ import time
 
 import wire
 from chaos_builds import LINKED, STRANGER, WORKERS
-from chaos_parts import CHANCE, FIGURES, fault, reset
+from chaos_parts import CHANCE, FIGURES, fault
+from wire import reset
 
 MOST_GUESTS = 256
 # A connection that doesn't log in is closed after so many seconds, as is promised;

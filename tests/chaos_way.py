@@ -5,7 +5,8 @@ import asyncio
 import contextlib
 import math
 
-from chaos_parts import CHANCE, FIGURES, MOST_SECONDS, reset
+from chaos_parts import CHANCE, FIGURES, MOST_SECONDS
+from wire import reset
 
 
 class Ride:

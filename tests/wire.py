@@ -10,6 +10,7 @@ import base64
 import contextlib
 import hashlib
 import os
+import socket
 import struct
 
 # MessagePack
@@ -118,6 +119,17 @@ def unpacked(data):
     if unpacker.at != len(data):
         raise ValueError("bytes behind the value")
     return value
+
+
+# Connections
+
+
+def reset(writer):
+    """Ends a connection without a farewell: what is on its way is dropped."""
+    end = writer.get_extra_info("socket")
+    if end is not None and end.fileno() >= 0:
+        end.setsockopt(socket.SOL_SOCKET, socket.SO_LINGER, struct.pack("ii", 1, 0))
+    writer.transport.abort()
 
 
 # WebSockets
