@@ -306,9 +306,7 @@ static SECOND: [&[u8]; 6] = [RESUMED, ORDER, ANSWER, ANSWER_ONE, ANSWER_TWO, ANS
 /// Whether this is the message in the frame at the place, whose first six bytes are the frame's own.
 fn is_request(sent: &Sent, place: usize) -> bool {
     match REQUESTS.get(place) {
-        Some(frame) => {
-            frame.get(6..) == Some(sent.bytes.as_slice()) && sent.seq == place as u64
-        }
+        Some(frame) => { frame.get(6..) == Some(sent.bytes.as_slice()) && sent.seq == place as u64 }
         None => false,
     }
 }
