@@ -1,0 +1,120 @@
+"""Logs of a build master, as its chunk server answers them. Of Python's own library alone."""
+
+import http.client
+import json
+import time
+import unicodedata
+import urllib.parse
+
+# Lines of one request: a long log comes in pieces.
+MOST_LINES = 10_000
+# Seconds that an answer may take.
+PATIENCE = 60
+# Seconds between two looks at a log that doesn't grow: they double from the first to the second.
+FIRST_PAUSE, LAST_PAUSE = 0.05, 1.0
+
+
+class Gone(Exception):
+    """The server can't be reached, or doesn't speak as a chunk server does."""
+
+
+class Server:
+    """A chunk server, over one connection that is opened anew where it was closed."""
+
+    def __init__(self, web):
+        parts = urllib.parse.urlsplit(web if "://" in web else f"http://{web}")
+        if parts.scheme != "http" or not parts.hostname or not parts.port:
+            raise ValueError(web)
+        self.connection = http.client.HTTPConnection(parts.hostname, parts.port, timeout=PATIENCE)
+
+    def ask(self, path, **query):
+        """The answer's JSON; None where there is no such log yet,
+        or the server has no memory just now."""
+        target = f"/api/v2/logs/{path}?{urllib.parse.urlencode(query)}"
+        try:
+            status, body = self.answer(target)
+        except (OSError, http.client.HTTPException) as fault:
+            raise Gone(str(fault) or type(fault).__name__) from fault
+        if status == 503:
+            return None
+        said = spoken(body)
+        if status == 404 and said.get("error") == "no such log":
+            return None
+        if status == 200 and ("logs" in said or "logchunks" in said):
+            return said
+        raise Gone(f"no chunk server answers there (status {status} for {plain(target)})")
+
+    def answer(self, target):
+        """Asks once more where the connection was closed since the last answer,
+        as an idle one is."""
+        try:
+            return self.answer_once(target)
+        except (http.client.RemoteDisconnected, ConnectionResetError, BrokenPipeError):
+            return self.answer_once(target)
+
+    def answer_once(self, target):
+        try:
+            self.connection.request("GET", target)
+            answer = self.connection.getresponse()
+            return answer.status, answer.read()
+        except BaseException:
+            self.connection.close()
+            raise
+
+    def state(self, log, name="stdio"):
+        """Whether the log's command has ended, and how many lines the log has; None where there
+        is no such log yet."""
+        said = self.ask(log, name=name)
+        return None if said is None else (said["logs"][0]["complete"], said["logs"][0]["num_lines"])
+
+    def lines(self, log, offset, name="stdio"):
+        """The log's next lines with their letters, at most MOST_LINES of them."""
+        said = self.ask(f"{log}/contents", name=name, offset=offset, limit=MOST_LINES)
+        return said["logchunks"][0]["content"].split("\n")[:-1] if said else []
+
+
+def spoken(body):
+    """What an answer says; nothing where it isn't a chunk server's."""
+    try:
+        said = json.loads(body)
+    except ValueError:
+        return {}
+    return said if isinstance(said, dict) else {}
+
+
+def pieces(server, log, name, absent):
+    """The log's lines, piece by piece as they come, to the end of its command. `absent` is called
+    once where there is no such log yet."""
+    shown, pause, is_told = 0, FIRST_PAUSE, False
+    while True:
+        lines = server.lines(log, shown, name)
+        shown += len(lines)
+        if lines:
+            yield lines
+            pause = FIRST_PAUSE
+            if len(lines) < MOST_LINES:
+                time.sleep(pause)
+            continue
+        # Only where nothing came it is asked whether the log has ended: no line waits for that.
+        state = server.state(log, name)
+        if state and state[0] and shown >= state[1]:
+            return
+        if state is None and not is_told:
+            is_told = True
+            absent()
+        if state is None and name != "stdio" and has_ended(server, log):
+            return
+        if state is None or shown >= state[1]:
+            pause = min(LAST_PAUSE, 2 * pause)
+            time.sleep(pause)
+
+
+def has_ended(server, log):
+    """Whether the log's command has ended: then it gets no other log."""
+    state = server.state(log)
+    return state is not None and state[0]
+
+
+def plain(text):
+    """A text as a terminal may show it: a control character is its number, but for tabs."""
+    return "".join(sign if sign == "\t" or unicodedata.category(sign) != "Cc" else f"\\x{ord(sign):02x}" for sign in text)

@@ -1,0 +1,83 @@
+"""What is shown of a run: a line for each build that moves on a terminal, and else a line for each
+thing that happens."""
+
+import sys
+import threading
+
+from chunks import plain
+
+# The most lines of builds that a terminal shows at once.
+MOST_SHOWN = 12
+CLEAR = "\033[J"
+UP = "\033[{}A"
+
+
+class Board:
+    """Standard output and standard error. Lines may come from several threads."""
+
+    def __init__(self, is_quiet):
+        self.is_quiet = is_quiet
+        self.is_terminal = sys.stdout.isatty() and not is_quiet
+        self.drawn = 0
+        self.rows = []
+        self.lock = threading.RLock()
+
+    def say(self, text):
+        """Prints text."""
+        with self.lock:
+            self.wipe()
+            print(text, flush=True)
+            self.draw()
+
+    def tell(self, text, is_fault):
+        """Prints a line of what happens: a fault on standard error, and else what the lines of
+        builds don't show already."""
+        with self.lock:
+            if is_fault:
+                self.wipe()
+                print(text, file=sys.stderr, flush=True)
+                self.draw()
+            elif not self.is_quiet and not self.is_terminal:
+                print(text, flush=True)
+
+    def show(self, builds):
+        """Shows a line for each build that runs."""
+        if not self.is_terminal:
+            return
+        running = [build for build in builds if "began" in build and "result" not in build]
+        over = sum("result" in build for build in builds)
+        rows = [f"build {build['number']} on {plain(build['worker'])}: {plain(build.get('step', ''))}" for build in running[:MOST_SHOWN]]
+        if len(running) > MOST_SHOWN:
+            rows.append(f"and {len(running) - MOST_SHOWN} more")
+        with self.lock:
+            self.wipe()
+            self.rows = [row[:100] for row in rows + [f"{over} builds over"]]
+            self.draw()
+
+    def wipe(self):
+        if self.drawn:
+            sys.stdout.write("\r" + UP.format(self.drawn) + CLEAR)
+            self.drawn = 0
+
+    def draw(self):
+        if self.is_terminal and self.rows:
+            sys.stdout.write("".join(f"{row}\n" for row in self.rows))
+            sys.stdout.flush()
+            self.drawn = len(self.rows)
+
+    def end(self):
+        with self.lock:
+            self.wipe()
+            self.rows = []
+            sys.stdout.flush()
+
+
+def summary(builds):
+    """A table of the builds: build, worker, result, seconds, the step that failed."""
+    rows = [("build", "worker", "result", "seconds", "failing step")]
+    for number in sorted(builds):
+        build = builds[number]
+        seconds = f"{build['ended'] - build['began']:.1f}" if "began" in build and "ended" in build else "-"
+        rows.append((str(number), plain(build.get("worker", "-")), build.get("result", "not over"), seconds, plain(build.get("failing", "-"))))
+    widths = [max(len(row[column]) for row in rows) for column in range(5)]
+    return ["  ".join(cell.ljust(width) for cell, width in zip(row, widths)).rstrip() for row in rows]
