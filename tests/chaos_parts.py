@@ -7,9 +7,11 @@ import random
 import sys
 import threading
 
+from seeds import count_of, seeds_of
+
 HERE = os.path.dirname(os.path.abspath(__file__))
-SEED = int(sys.argv[1]) if len(sys.argv) > 1 else 1
-LINES = int(sys.argv[2]) if len(sys.argv) > 2 else 1_000_000
+(SEED,) = seeds_of(sys.argv[1:])
+LINES = count_of(sys.argv[1:], 1_000_000)
 # Only a long run takes the minute in which a dark connection is noticed,
 # and the half one of a reader that stopped.
 IS_LONG = LINES >= 500_000

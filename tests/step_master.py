@@ -3,13 +3,17 @@ parts are run."""
 
 import asyncio
 import contextlib
+import http.client
+import json
 import os
 import queue
 import re
 import subprocess
+import sys
 import tempfile
 import threading
 import time
+from concurrent.futures import ThreadPoolExecutor
 
 import wire
 
@@ -65,6 +69,26 @@ class Master:
         self.workers.append(worker)
         return worker
 
+    def asks(self, path):
+        """What the web answers to a request."""
+        link = http.client.HTTPConnection(self.web, timeout=MOST_SECONDS)
+        link.request("GET", path)
+        answer = json.loads(link.getresponse().read())
+        link.close()
+        return answer
+
+    def completes(self, number):
+        """Waits until the web has all of a log whose command has ended."""
+        end = time.monotonic() + MOST_SECONDS
+        while not self.asks(f"/api/v2/logs/{number}")["logs"][0]["complete"]:
+            assert time.monotonic() < end, f"log {number} isn't complete"
+            time.sleep(0.01)
+
+    def log(self, number):
+        """The lines of a log whose command has ended."""
+        self.completes(number)
+        return self.asks(f"/api/v2/logs/{number}/contents")["logchunks"][0]["content"].splitlines()
+
     def rest(self, seconds=MOST_SECONDS):
         """Ends the input, and waits for the master's end. Its status."""
         self.process.stdin.close()
@@ -105,19 +129,41 @@ def resumable(ticks):
     return f'worker = [{{ name = "w0", password = "p", resume_ticks = {ticks} }}]\n'
 
 
+def chosen(parts, names):
+    """The parts of these names, or all. None where a name is that of no part, which is told."""
+    known = [part.__name__ for part in parts]
+    if not set(names) <= set(known):
+        print(f"usage: {sys.argv[0]} [{' | '.join(known)}]", file=sys.stderr)
+        return None
+    return [part for part in parts if not names or part.__name__ in names]
+
+
+def holds(part):
+    """Whether a part holds, which is told."""
+    begun = time.monotonic()
+    try:
+        part()
+    except (AssertionError, OSError, subprocess.TimeoutExpired, wire.Closed, asyncio.TimeoutError) as fault:
+        print(f"FAILED  {part.__name__}: {fault!r}", flush=True)
+        return False
+    shows = " ".join(part.__doc__.split())
+    print(f"holds   {shows} ({time.monotonic() - begun:.0f} s)", flush=True)
+    return True
+
+
 def run(parts, names):
-    """Runs the parts of these names, or all. The status is 1 where one doesn't hold."""
-    failed = 0
-    for part in parts:
-        if names and part.__name__ not in names:
-            continue
-        begun = time.monotonic()
-        try:
-            part()
-        except (AssertionError, OSError, subprocess.TimeoutExpired, wire.Closed, asyncio.TimeoutError) as fault:
-            print(f"FAILED  {part.__name__}: {fault!r}", flush=True)
-            failed += 1
-        else:
-            shows = " ".join(part.__doc__.split())
-            print(f"holds   {shows} ({time.monotonic() - begun:.0f} s)", flush=True)
-    return 1 if failed else 0
+    """Runs the parts of these names, or all. The status is 1 where one doesn't hold, and 2 where a
+    name is that of no part."""
+    parts = chosen(parts, names)
+    if parts is None:
+        return 2
+    return 0 if all([holds(part) for part in parts]) else 1
+
+
+def run_beside(parts, names):
+    """As `run`, for parts that mostly wait: they go on side by side."""
+    parts = chosen(parts, names)
+    if parts is None:
+        return 2
+    with ThreadPoolExecutor(len(parts)) as pool:
+        return 0 if all(list(pool.map(holds, parts))) else 1
