@@ -56,7 +56,9 @@ impl Processes {
         process: RunningCommand,
     ) -> Result<(), AllocError> {
         let RunningCommand {
-            number, mut child, ..
+            number,
+            mut child,
+            ..
         } = process;
         // A child that can't be killed has ended, or runs as another user.
         let _ = child.kill();

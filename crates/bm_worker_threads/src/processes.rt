@@ -12,9 +12,7 @@ use crate::running_command::RunningCommand;
 use crate::starting::{permits, started};
 use crate::sweeping::Sweeper;
 use bm_lines::{Letter, Text};
-use bm_outbox::{
-    Outbox, OutboxEntry, Pipes, Ready, StartFault, StopCause, Sweep, next_turn,
-};
+use bm_outbox::{Outbox, OutboxEntry, Pipes, Ready, StartFault, StopCause, Sweep, next_turn};
 use bm_work::Argv;
 use crossbeam_channel::{Receiver, Sender};
 use std::alloc::{AllocError, Global};
@@ -22,8 +20,8 @@ use std::collections::VecDeque;
 use std::io::Read;
 use std::process::Child;
 use std::sync::Wait;
-use std::time::{Clock, Duration, Instant};
 use std::thread;
+use std::time::{Clock, Duration, Instant};
 
 /// How much mail lies before the owner until the threads wait in turn.
 pub const MOST_MAIL: usize = 16;

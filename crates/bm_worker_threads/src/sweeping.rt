@@ -9,9 +9,10 @@ use std::time::Duration;
 use std::{io, thread};
 
 /// Kills what carries a mark, its first word, and looks again until two looks in turn find nothing.
-/// A word that is no mark could stand in any process, and nothing is looked for then. A killed process whose parent hasn't asked for its end has no environment
-/// any more, and isn't found. A process that is found in the last round isn't ended by a kill: the
-/// script says so, and goes on behind itself.
+/// A word that is no mark could stand in any process, and nothing is looked for then. A killed
+/// process whose parent hasn't asked for its end has no environment any more, and isn't found. One
+/// that is found in the last round isn't ended by a kill: the script says so, and goes on behind
+/// itself.
 const KILL: &str = r#"
 case $1 in buildworker-?*.?*.) ;; *) exit 5 ;; esac
 PATH=$PATH:/usr/bin:/bin
@@ -37,8 +38,8 @@ done
 exit 4
 "#;
 
-/// Kills what commands of workers left that are no longer there. The first word is what the marks of
-/// this user's workers begin with, the second what this worker's own environment has of them.
+/// Kills what commands of workers left that are no longer there. The first word is what the marks
+/// of this user's workers begin with, the second what this worker's own environment has of them.
 const KILL_ORPHANS: &str = r#"
 case $1 in buildworker-?*.?*.) ;; *) exit 5 ;; esac
 PATH=$PATH:/usr/bin:/bin
@@ -90,8 +91,8 @@ impl Sweeper {
         Sweeper::of(script(alloc, KILL, &[mark]), rt)
     }
 
-    /// Looks for what workers left that are no longer there, and kills it. Their marks begin so. What
-    /// carries a mark that is among this worker's own is let be.
+    /// Looks for what workers left that are no longer there, and kills it. Their marks begin so.
+    /// What carries a mark that is among this worker's own is let be.
     pub(crate) fn kill_orphans<R: Host>(
         rt: &R,
         alloc: Global,

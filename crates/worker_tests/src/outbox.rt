@@ -225,8 +225,8 @@ fn what_is_left_is_told_before_the_reason(rt: HostRuntime) -> Result<(), Fail> {
     let mut worker = worker_of(alloc).ok_or("no command")?;
     let mut outbox = Outbox::new(alloc);
     let end = CommandEnd::Stopped(StopCause::NoMemory, Leftover::Process);
-    let is_told =
-        outbox.end(alloc, 0, end).is_ok() && tells_each(alloc, &mut worker, &mut outbox, &LEFT);
+    let is_told = outbox.end(alloc, 0, end).is_ok()
+        && tells_each(alloc, &mut worker, &mut outbox, &LEFT);
     assert!(rt; is_told);
     Ok(())
 }

@@ -12,7 +12,10 @@ fn a_worker_that_never_logged_in_connects_ten_times(rt: HostRuntime) {
     let mut tries = Tries::new();
     for made in 0..20u64 {
         let want = if made < 10 { Some(10) } else { None };
-        assert!(rt; pauses(&mut tries, ConnectFault::NoAnswer, made, want), "try {made}");
+        assert!(rt;
+            pauses(&mut tries, ConnectFault::NoAnswer, made, want),
+            "try {made}"
+        );
     }
 }
 
@@ -46,7 +49,10 @@ fn ten_refused_logins_end_a_known_worker(rt: HostRuntime) {
     let mut tries = Tries::new();
     tries.answered();
     for made in 0..10u64 {
-        assert!(rt; pauses(&mut tries, ConnectFault::Refused, made, Some(10)), "try {made}");
+        assert!(rt;
+            pauses(&mut tries, ConnectFault::Refused, made, Some(10)),
+            "try {made}"
+        );
     }
     assert!(rt; pauses(&mut tries, ConnectFault::Refused, 10, None));
     tries.heard();
