@@ -9,11 +9,13 @@ use Rattle.std.specs.declared.collections.VecDeque.{VecDeque}
 use Rattle.bm_outbox.specs.Stopping.{Ends, IsOwnEnd}
 use Rattle.bm_outbox.specs.Turns.{has_end, has_text, or_else}
 use Rattle.bm_outbox.specs.declared.command_end.CommandEnd.{CommandEnd}
+use Rattle.bm_outbox.specs.declared.command_end.CommandEnd.TheVariants as command_end
 use Rattle.bm_outbox.specs.declared.outbox_entry.OutboxEntry.{OutboxEntry}
 use Rattle.bm_outbox.specs.declared.outbox_entry.OutboxEntry.TheVariants as entry
 use Rattle.bm_outbox.specs.declared.said.Said.{Said}
 use Rattle.bm_outbox.specs.declared.turn.Ready.{Ready}
 use Rattle.bm_outbox.specs.declared.turn.Ready.TheVariants as ready
+use Rattle.bm_worker_threads.specs.Givers.{giver}
 use Rattle.bm_worker_threads.specs.Turns.{ready_with, ready_of, turn_of, HasSome, IsOwn, IsReady, TellsAt, TellsOf}
 use Rattle.bm_worker_threads.specs.declared.running_command.RunningCommand.{RunningCommand}
 
@@ -49,7 +51,8 @@ told_end (Err e) at all running process end k old new within is texts ended left
 
 -- its end is its own
 pub own_end : (process : RunningCommand) (end : CommandEnd) (k : ℕ) → process.ended ≡ Some end → k ≡ process.pipes.command → IsOwnEnd k end
-own_end process end k ended same = subst (λ j. IsOwnEnd j end) (sym same) (process.own end ended)
+own_end process (command_end.Code code) k ended same = subst (λ e. giver process.pipes.command e ≡ process.pipes.command) ended process.own ∙ sym same
+own_end process (command_end.Stopped why left) k ended same = tt
 
 -- it has something to tell
 pub never_idle : (at : ℕ) (all : List RunningCommand) (process : RunningCommand) → IsReady at all → at < length all → process ≡ slice_index_or all at process

@@ -1,10 +1,9 @@
 -- Of which command is told next.
 use Rattle.std.specs.Prelude.{◌≡◌, Bool, true, false, ◌||◌, ℕ, nat_lt, List, [], ◌∷◌, ◌++◌, length, map, slice_get, Option, Some, None, ⊤}
 use Rattle.std.specs.List.{remove}
-use Rattle.std.specs.Option.{ForSome}
 use Rattle.std.specs.declared.alloc.Global.{Global}
 use Rattle.std.specs.declared.collections.VecDeque.{VecDeque}
-use Rattle.bm_outbox.specs.Stopping.{Ends, IsOwnEnd}
+use Rattle.bm_outbox.specs.Stopping.{Ends}
 use Rattle.bm_outbox.specs.Turns.{next_turn}
 use Rattle.bm_outbox.specs.declared.command_end.CommandEnd.{CommandEnd}
 use Rattle.bm_outbox.specs.declared.outbox_entry.OutboxEntry.{OutboxEntry}
@@ -12,6 +11,7 @@ use Rattle.bm_outbox.specs.declared.outbox_entry.OutboxEntry.TheVariants as entr
 use Rattle.bm_outbox.specs.declared.said.Said.{Said}
 use Rattle.bm_outbox.specs.declared.turn.Ready.{Ready}
 use Rattle.bm_outbox.specs.declared.turn.Ready.TheVariants as ready
+use Rattle.bm_worker_threads.specs.Givers.{giver}
 use Rattle.bm_worker_threads.specs.declared.running_command.RunningCommand.{RunningCommand}
 
 -- a text where there is one and it may be said, and the end of a command whose texts were told
@@ -41,7 +41,7 @@ IsReady at running = (process : RunningCommand) → slice_get running at ≡ Som
 
 -- an exit code by which it ended was given by its own pipes
 abbrev pub IsOwn : RunningCommand → Type 0
-IsOwn process = ForSome process.ended (IsOwnEnd process.pipes.command)
+IsOwn process = giver process.pipes.command process.ended ≡ process.pipes.command
 
 -- this text of a command is told: it waits behind all that waits, and the command, whose other
 -- texts are kept, goes behind the others

@@ -1,8 +1,7 @@
 //! A command whose process was started.
 
 ghost use Rattle.std.specs.Prelude.{◌≡◌};
-ghost use Rattle.std.specs.Option.{ForSome};
-ghost use Rattle.bm_outbox.specs.Stopping.{IsOwnEnd};
+ghost use Rattle.bm_worker_threads.specs.Givers.{giver};
 
 use crate::elapsed::millis_since;
 use crate::sweeping::Sweeper;
@@ -36,7 +35,7 @@ pub(crate) struct RunningCommand {
     pub(crate) stop: Option<Stop>,
     /// How it ended, once that is known.
     pub(crate) ended: Option<CommandEnd>,
-    pub(crate) ghost own: { ForSome ended (IsOwnEnd pipes.command) },
+    pub(crate) ghost own: { giver pipes.command ended ≡ pipes.command },
 }
 
 impl RunningCommand {
