@@ -1,4 +1,5 @@
 -- What a build's port to a lane is.
+use mathlib.Core.List.{IsPrefix}
 use Rattle.std.specs.Prelude.{◌≡◌, ◌⊎◌, ℕ, ◌-◌, ◌^◌, Bool, true, false, not, ◌&&◌, List, [], ◌∷◌, ◌++◌, if◌then◌else◌, Option, Some, None, Result, Ok, Err}
 use Rattle.bm_session.specs.declared.results.Results.{Results}
 use Rattle.bm_session.specs.declared.results.Results.TheVariants.{Retry, Exception, Cancelled}
@@ -49,6 +50,7 @@ is_left_out cancelled always_run = cancelled && not always_run
 
 -- why a step isn't started whose order came to this, and isn't tried again
 abbrev pub start_refusal : OrderOutcome → StartRefusal
+start_refusal outcome.Cancelled = why.Cancelled
 start_refusal outcome.Full = why.Full
 start_refusal outcome.TooLong = why.TooLong
 start_refusal _ = why.Lost
@@ -94,7 +96,15 @@ Sees old k said new =
 abbrev pub no_command : ℕ
 no_command = 2 ^ 64 - 1
 
--- what a build is told of its command; of none, that it was cancelled
+-- the viewer has looked, and may have seen more; nothing else has changed
+abbrev pub Waits : PortView → PortView → Type 0
+Waits old new =
+    (new.viewer.lane ≡ old.viewer.lane) × IsPrefix old.viewer.seen new.viewer.seen
+    × (new.meter ≡ old.meter) × (new.told ≡ old.told) × (new.refused ≡ old.refused)
+
+-- What a build is told of its command, once it has waited for a tick or for that command's end; of
+-- none, that it was cancelled.
 abbrev pub Polls : PortView → ℕ → Polled → Type 0
 Polls old k said =
-    ((k ≡ no_command) × (said ≡ Ended Cancelled)) ⊎ ((new : PortView) × Sees old k said new)
+    ((k ≡ no_command) × (said ≡ Ended Cancelled))
+    ⊎ ((waited : PortView) × (new : PortView) × Waits old waited × Sees waited k said new)

@@ -3,34 +3,33 @@
 ghost use Rattle.std.specs.Prelude.{◌≡◌};
 ghost use Rattle.bm_lane_actor.specs.LaneEvents.{loss_of};
 
-use crate::byte_count::{ByteCount, ByteCounts};
+use crate::byte_count::ByteCounts;
 use crate::connection_state::ConnectionState;
 use crate::drain_gate::DrainGate;
 use crate::lane_event::{EventSink, LaneEvent, event_after, loss_of};
-use crate::lane_request::{LaneRequest, LaneSignal};
+use crate::lane_request::{CancelFlag, LaneRequest, LaneSignal, StartOrder};
 use crate::lane_state::{Awaited, LaneState};
 use crate::mailbox::{Mailbox, NextRequest};
 use crate::order_outcome::OrderOutcome;
 use crate::peer_timer::{PeerAction, PeerTimer};
 use crate::stream::WorkerStream;
-use bm_board::Words;
 use bm_lane::{ReaderEnd, Yard};
-use bm_latent::{TICK_MS, millis};
+use bm_latent::{TICK_MS, TickCounter, millis};
 use bm_link::{Attached, LinkFault, MasterLink, Turn, are_short};
 use bm_operator::LossCause;
 use bumpalo::Bump;
 use crossbeam_channel::Sender;
 use std::alloc::Global;
 use std::sync::Wait;
-use std::thread;
+use std::sync::atomic::Ordering;
 use std::time::{Clock, Duration, Instant};
 
-/// How long an actor waits for a request before it looks at its signals and at a silent link, in
+/// How long an actor waits at its mailbox before it looks how long its worker has been silent, in
 /// milliseconds.
-const GLANCE_MS: u64 = 500;
+const GLANCE_MS: u64 = 5_000;
 
-/// How many requests are taken at most between two ticks.
-const REQUESTS_A_TICK: u32 = 64;
+/// How long, where another link waits for a sign of life.
+const WANTED_GLANCE_MS: u64 = 500;
 
 /// The most bytes that the arena of a lane's messages takes, and what it keeps after a message.
 const MOST_ARENA_BYTES: usize = 32 * 1_048_576;
@@ -55,8 +54,10 @@ struct LaneActor<'a, Y: Yard, T, R: Wait + Clock + Drop> {
     events: T,
     /// The commands that were started whose end no build has seen, and what their updates carried.
     commands: ByteCounts,
-    /// Whether the last turn heard something.
+    /// Whether a read of the link may give something.
     is_lively: bool,
+    /// The ticks of a lane that is cut, from the cut on.
+    ticks: Option<TickCounter>,
     /// Why a cut lane is given up.
     why: LossCause,
 }
@@ -68,8 +69,16 @@ fn arena_of(alloc: Global) -> Bump {
     arena
 }
 
-/// Serves a lane until it gets the signal `Leave`. It obeys each request, and hears the worker. It
-/// asks a silent one for a sign of life, and counts ticks while the lane is cut. After each event
+/// Whether there is a flag, and it is set.
+fn is_set(flag: &Option<CancelFlag>) -> bool {
+    match flag {
+        Some(flag) => flag.load(Ordering::SeqCst),
+        None => false,
+    }
+}
+
+/// Serves a lane until it gets the signal `Leave`. It waits at the mailbox alone. It obeys each
+/// request, and hears the worker where the signal `Readable` says that a read won't wait. It asks a silent one for a sign of life, and counts ticks while the lane is cut. After each event
 /// it wakes the gate. What happens to the lane it tells before it takes or answers a request after
 /// that.
 ///
@@ -102,6 +111,7 @@ where
         events,
         commands: ByteCounts::new(alloc),
         is_lively: false,
+        ticks: None,
         why: LossCause::Expired,
     };
     for _ in rt.forever() {
@@ -119,30 +129,56 @@ where
     T: EventSink + Drop,
     R: Wait + Clock + Drop,
 {
-    /// Waits for what the lane waits for, and does what comes. False once it is told to leave.
+    /// Waits at the mailbox, and does what comes. False once it is told to leave.
     fn goes_on(&mut self, mailbox: &Mailbox<WorkerStream<R>>) -> bool {
         if mailbox.takes(LaneSignal::Leave) {
             return false;
         }
         self.takes_signals(mailbox);
         self.watch();
-        let is_lively = self.is_lively || !self.commands.is_empty() || self.waiting.is_some();
-        match self.state.awaited(is_lively) {
-            Awaited::Request | Awaited::Glance => {
-                self.takes(mailbox.wait_for(self.rt, Duration::from_millis(GLANCE_MS)))
+        let awaited = self.state.awaited(self.is_lively);
+        self.count_ticks(awaited);
+        let next = match awaited {
+            Awaited::Request | Awaited::Glance => mailbox.wait_for(self.rt, self.glance()),
+            Awaited::Message => mailbox.look(self.rt),
+            Awaited::Tick => mailbox.wait_for(self.rt, Duration::from_millis(TICK_MS)),
+        };
+        self.takes(next)
+    }
+
+    /// How long it waits for a request at most.
+    fn glance(&self) -> Duration {
+        Duration::from_millis(if self.waiting.is_some() {
+            WANTED_GLANCE_MS
+        } else {
+            GLANCE_MS
+        })
+    }
+
+    /// Counts the ticks of a lane that is cut: one that isn't awaited any more is given up.
+    fn count_ticks(&mut self, awaited: Awaited) {
+        if awaited != Awaited::Tick {
+            self.ticks = None;
+            return;
+        }
+        let now = self.age();
+        let ended = match &mut self.ticks {
+            Some(ticks) => ticks.told(now),
+            None => {
+                self.ticks = Some(TickCounter::new(TICK_MS, now.unwrap_or(0)));
+                return self.expire();
             }
-            Awaited::Message => self.takes(mailbox.look(self.rt)),
-            Awaited::Tick => {
-                self.expire();
-                thread::sleep(self.rt, Duration::from_millis(TICK_MS));
-                self.tick();
-                self.takes_all(mailbox)
-            }
+        };
+        for _ in 0..ended {
+            self.tick();
         }
     }
 
     /// Does what signals ask for.
     fn takes_signals(&mut self, mailbox: &Mailbox<WorkerStream<R>>) {
+        if mailbox.takes(LaneSignal::Readable) {
+            self.is_lively = true;
+        }
         if mailbox.takes(LaneSignal::ShutDown) {
             self.why = LossCause::Dismissed;
             self.state.shut_down(self.alloc);
@@ -167,23 +203,14 @@ where
         true
     }
 
-    /// Obeys all that was in the mailbox.
-    fn takes_all(&mut self, mailbox: &Mailbox<WorkerStream<R>>) -> bool {
-        for _ in 0..REQUESTS_A_TICK {
-            match mailbox.look(self.rt) {
-                NextRequest::Request(request) => self.obeys(request),
-                NextRequest::Nothing => return true,
-                NextRequest::Left => return false,
-            }
-        }
-        true
-    }
-
     /// Obeys a request.
     fn obeys(&mut self, request: LaneRequest<WorkerStream<R>>) {
         match request {
             LaneRequest::Attach(link) => self.attach(link),
-            LaneRequest::Start(words, bytes, answer) => self.start(&words, bytes, &answer),
+            LaneRequest::Start(order, answer) => {
+                let outcome = self.start(order);
+                let _ = answer.send(self.rt, outcome);
+            }
             LaneRequest::Interrupt(command, answer) => self.interrupt(command, &answer),
             LaneRequest::Seen(command) => self.commands.end(command),
             LaneRequest::Settle(answer) => {
@@ -195,22 +222,27 @@ where
 
     /// Wakes the gate, and tells how the lane went on from where it stood.
     fn note(&mut self, before: ConnectionState, cause: LossCause) {
-        self.gate.wake(self.place);
+        self.gate.ring(self.place);
         if let Some(event) = event_after(before, self.state.connection(), cause) {
             self.events.tell(event);
         }
     }
 
-    /// The time in milliseconds, for the timer.
-    fn now(&self) -> u64 {
+    /// How long the actor is there, in milliseconds. None where the clock fails.
+    fn age(&self) -> Option<u64> {
         let passed = match &self.began {
             Some(began) => began.elapsed(self.rt),
-            None => return 0,
+            None => return None,
         };
         match passed {
-            Ok(passed) => millis(passed),
-            Err(_) => 0,
+            Ok(passed) => Some(millis(passed)),
+            Err(_) => None,
         }
+    }
+
+    /// The time in milliseconds, for the timer.
+    fn now(&self) -> u64 {
+        self.age().unwrap_or(0)
     }
 
     /// What is to be done about the worker now.
@@ -281,7 +313,7 @@ where
 
     /// A link has taken the lane up, which was in the state `before`.
     fn welcome(&mut self, attached: Attached, before: ConnectionState) {
-        self.gate.wake(self.place);
+        self.gate.ring(self.place);
         self.why = LossCause::Expired;
         self.peer = PeerTimer::new(self.came(), self.now());
         if attached == Attached::Resumed {
@@ -303,29 +335,37 @@ where
     }
 
     /// Starts a command. The words of a configuration are short enough. A plan by which others
-    /// come is refused here, before its order is kept to be sent again.
-    fn start(&mut self, words: &Words, bytes: ByteCount, answer: &Sender<OrderOutcome, Global>) {
+    /// come is refused here, before its order is kept to be sent again. The flag is looked at last:
+    /// who set it before the lane took the order knows that no command follows.
+    fn start(&mut self, order: StartOrder) -> OrderOutcome {
+        let StartOrder {
+            words,
+            bytes,
+            cancelled,
+        } = order;
         let argv = words.as_slice();
         if !are_short(argv) {
-            let _ = answer.send(self.rt, OrderOutcome::TooLong);
-            return;
+            return OrderOutcome::TooLong;
         }
         if self.commands.reserve().is_err() {
-            let _ = answer.send(self.rt, OrderOutcome::Later);
-            return;
+            return OrderOutcome::Later;
         }
         let before = self.state.connection();
+        if is_set(&cancelled) {
+            return OrderOutcome::Cancelled;
+        }
         let outcome = self.state.start(self.rt, self.alloc, argv);
         match outcome {
             OrderOutcome::Started(command) => self.commands.begin(command, bytes),
             OrderOutcome::Full => self.events.tell(LaneEvent::Filled),
             OrderOutcome::Interrupted
+            | OrderOutcome::Cancelled
             | OrderOutcome::Later
             | OrderOutcome::Refused
             | OrderOutcome::TooLong => {}
         }
         self.note(before, LossCause::Stream);
-        let _ = answer.send(self.rt, outcome);
+        outcome
     }
 
     fn interrupt(&mut self, command: u64, answer: &Sender<OrderOutcome, Global>) {
@@ -339,23 +379,45 @@ where
     fn turn(&mut self) {
         let before = self.state.connection();
         let took = self.gate.took(self.place);
-        let came = self.came();
         self.is_lively = true;
         match self.state.turn(self.rt, self.alloc, &mut self.arena) {
-            Ok(Turn::Quiet) => self.is_lively = came != self.came(),
-            Ok(Turn::Busy) => self.gate.wait_for_place(self.place, took),
-            Ok(Turn::Heard) => {
-                if let Some(event) = self.state.last_event() {
-                    self.commands.note(event);
-                }
-                self.gate.wake(self.place);
-            }
-            Ok(Turn::Noted | Turn::Dropped) => self.gate.wake(self.place),
+            Ok(Turn::Quiet) => self.is_lively = !self.is_drained(),
+            Ok(Turn::Busy) => self.wait_for_place(took),
+            Ok(Turn::Heard) => self.heard(),
+            Ok(Turn::Noted) => self.gate.ring(self.place),
+            Ok(Turn::Dropped) => self.gate.wake(self.place),
             Err(fault) => self.note(before, loss_of(fault)),
         }
         if self.arena.allocated_bytes() > MOST_KEPT_BYTES {
             self.arena = arena_of(self.alloc);
         }
+    }
+
+    /// Whether a read of the link gives nothing until `Readable` comes.
+    fn is_drained(&self) -> bool {
+        match self.state.stream() {
+            Some(stream) => stream.is_drained(),
+            None => true,
+        }
+    }
+
+    /// Counts what was heard, and wakes the gate; for what is more than lines the builds too.
+    fn heard(&mut self) {
+        let is_lines = match self.state.last_event() {
+            Some(event) => self.commands.note(event),
+            None => false,
+        };
+        if is_lines {
+            self.gate.wake(self.place);
+        } else {
+            self.gate.ring(self.place);
+        }
+    }
+
+    /// Waits until the lane's queue has room; a tick at most.
+    fn wait_for_place(&self, took: u64) {
+        self.gate
+            .wait_for_drain(self.place, took, Duration::from_millis(TICK_MS));
     }
 
     fn tick(&mut self) {
@@ -382,9 +444,9 @@ where
             if state.give_up(rt) {
                 break;
             }
-            gate.wait_for_place(place, took);
+            gate.wait_for_drain(place, took, Duration::from_millis(TICK_MS));
         }
-        gate.wake(place);
+        gate.ring(place);
         state.into_reader()
     }
 }

@@ -35,7 +35,7 @@ pub use connection_state::ConnectionState;
 pub use drain_gate::DrainGate;
 pub use lane_actor::serve_lane;
 pub use lane_event::{EventSink, LaneEvent, event_of, fills, remark_of};
-pub use lane_request::{LaneRequest, LaneSignal};
+pub use lane_request::{CancelFlag, LaneRequest, LaneSignal, StartOrder};
 pub use lane_state::LaneState;
 pub use login::log_in;
 pub use login_limit::{LoginLimit, MOST_PENDING_LOGINS};

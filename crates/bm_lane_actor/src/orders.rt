@@ -4,15 +4,14 @@ ghost use Rattle.std.specs.Prelude.{◌≡◌};
 ghost use Rattle.bm_lane_actor.specs.Ports.{is_left_out, start_refusal};
 
 use crate::byte_count::ByteCount;
-use crate::lane_request::LaneRequest;
+use crate::lane_request::{CancelFlag, LaneRequest, StartOrder};
 use crate::mailbox::LaneHandle;
 use crate::order_outcome::OrderOutcome;
-use bm_board::{StepPlan, Words};
+use bm_board::StepPlan;
 use bm_latent::TICK_MS;
 use bm_operator::StartRefusal;
 use crossbeam_channel::bounded;
 use std::alloc::Global;
-use std::sync::atomic::{AtomicBool, Ordering};
 use std::sync::{Arc, Wait};
 use std::thread;
 use std::time::{Clock, Duration};
@@ -29,13 +28,21 @@ fn try_start<S: Drop, R: Wait + Clock>(
     rt: &R,
     alloc: Global,
     handle: &LaneHandle<S>,
-    argv: &Words,
+    step: &StepPlan,
+    cancelled: &CancelFlag,
     bytes: &ByteCount,
 ) -> Option<OrderOutcome> {
     let (answer, answers) = bounded(alloc, 1).ok()?;
-    let words = argv.copy().ok()?;
-    let bytes = Arc::try_clone(bytes).ok()?;
-    if !handle.tell(rt, LaneRequest::Start(words, bytes, answer)) {
+    let order = StartOrder {
+        words: step.argv.copy().ok()?,
+        bytes: Arc::try_clone(bytes).ok()?,
+        cancelled: if step.always_run {
+            None
+        } else {
+            Some(Arc::try_clone(cancelled).ok()?)
+        },
+    };
+    if !handle.tell(rt, LaneRequest::Start(order, answer)) {
         return Some(OrderOutcome::Refused);
     }
     match handle.answer(rt, &answers) {
@@ -84,6 +91,7 @@ fn start_refusal(outcome: OrderOutcome) -> StartRefusal
     ensures { result ≡ start_refusal outcome }
 {
     match outcome {
+        OrderOutcome::Cancelled => StartRefusal::Cancelled,
         OrderOutcome::Full => StartRefusal::Full,
         OrderOutcome::TooLong => StartRefusal::TooLong,
         OrderOutcome::Started(_)
@@ -93,27 +101,25 @@ fn start_refusal(outcome: OrderOutcome) -> StartRefusal
     }
 }
 
-/// Starts a step's command once the lane is up.
+/// Starts a step's command once the lane is up. Whether the build is cancelled is looked at by the
+/// lane's actor alone, as the last thing before it takes the order.
 ///
 /// # Errors
 ///
 /// `Lost` where the lane is given up, or refuses. `Full` where it has had as many events as it
 /// may. `TooLong` where the words are more than an order can have. `Cancelled` where the step
-/// doesn't always run and its build is cancelled while it waits. `Memory` where that is wanting.
+/// doesn't always run and its build is cancelled before the lane takes the order. `Memory` where that is wanting.
 /// Nothing is started then.
 pub(crate) fn start<S: Drop, R: Wait + Clock>(
     rt: &R,
     alloc: Global,
     handle: &LaneHandle<S>,
     step: &StepPlan,
-    cancelled: &AtomicBool,
+    cancelled: &CancelFlag,
     bytes: &ByteCount,
 ) -> Result<u64, StartRefusal> {
     for _ in rt.forever() {
-        if is_left_out(cancelled.load(Ordering::SeqCst), step.always_run) {
-            return Err(StartRefusal::Cancelled);
-        }
-        match try_start(rt, alloc, handle, &step.argv, bytes) {
+        match try_start(rt, alloc, handle, step, cancelled, bytes) {
             Some(OrderOutcome::Started(command)) => return Ok(command),
             Some(OrderOutcome::Later) => thread::sleep(rt, Duration::from_millis(TICK_MS)),
             Some(outcome) => return Err(start_refusal(outcome)),

@@ -4,11 +4,12 @@
 ghost use Rattle.std.specs.Prelude.{◌≡◌, ◌≤◌, ◌++◌, ◌∷◌, [], List, false, codes, length, IfSome};
 ghost use Rattle.bm_runner.specs.declared.port.Told.{Told};
 ghost use Rattle.bm_runner.specs.Port.{IsAsking, asked};
-ghost use Rattle.bm_lane_actor.specs.Ports.{Begins, Looks, Polls, Sees, at_limits, is_lost, polled, ticked, with_meter};
+ghost use Rattle.bm_lane_actor.specs.Ports.{Begins, Looks, Polls, Sees, Waits, at_limits, is_lost, polled, ticked, with_meter};
 ghost use Rattle.bm_lane_actor.specs.StepMeter.{fresh};
 
 use crate::byte_count::ByteCount;
-use crate::lane_request::LaneRequest;
+use crate::drain_gate::DrainGate;
+use crate::lane_request::{CancelFlag, LaneRequest};
 use crate::mailbox::LaneHandle;
 use crate::orders::{interrupt, is_left_out, start, wait_until_told};
 use crate::step_meter::StepMeter;
@@ -22,10 +23,10 @@ use bm_session::Results;
 use bm_store::{LogState, ViewRefusal};
 use std::alloc::Global;
 use std::marker::Model;
-use std::sync::atomic::{AtomicBool, AtomicU64, Ordering};
+use std::sync::atomic::{AtomicU64, Ordering};
 use std::sync::{Arc, Wait};
 use std::thread;
-use std::time::{Clock, Duration};
+use std::time::{Clock, Duration, Instant};
 
 /// How many bytes a line of headers may have that is told of.
 const MOST_SAID: usize = 256;
@@ -34,6 +35,10 @@ const MOST_SAID: usize = 256;
 pub trait Watch {
     /// The step was started as this command of its lane.
     fn started(&mut self, step: &StepPlan, command: u64);
+
+    /// The build obeys a cancel: no step is started any more but those that always run. It may be
+    /// told more than once.
+    fn cancelled(&mut self);
 
     /// The command has reached a limit of its step, and is interrupted.
     fn stopped(&mut self, command: u64, limit: StepLimit);
@@ -49,17 +54,21 @@ pub trait Watch {
 /// The number of no command: that of a step whose build was cancelled before it was started.
 const NO_COMMAND: u64 = u64::MAX;
 
-/// The port of a build. Once a tick it asks how its command does. It waits with a start or an
+/// The port of a build. It asks how its command does once a tick, and at once where it has ended. It waits with a start or an
 /// interruption until the lane is up or was given up. It says that a command ended by a loss once
 /// the lane's actor has told of that loss. The viewer is one of the lane whose handle it has.
 #[derive(Drop)]
-pub struct LanePort<'a, Y: Yard, S, R, W> {
+pub struct LanePort<'a, Y: Yard, S, R: Wait + Clock + Drop, W> {
     rt: &'a R,
     alloc: Global,
     handle: LaneHandle<S>,
     viewer: Viewer<Y>,
+    /// What rings where the lane's viewers may see more.
+    gate: &'a DrainGate<R>,
+    /// How often a command of the lane may have ended by the last look at which all that was drained.
+    ends: u64,
     /// Set once the build is cancelled.
-    cancelled: &'a AtomicBool,
+    cancelled: &'a CancelFlag,
     /// Whether a cancel came before a step that always runs: it waits for the next one that
     /// doesn't.
     is_held: bool,
@@ -72,7 +81,7 @@ pub struct LanePort<'a, Y: Yard, S, R, W> {
     refused: bool,
 }
 
-impl<'a, Y: Yard, S, R, W> Model for LanePort<'a, Y, S, R, W> {
+impl<'a, Y: Yard, S, R: Wait + Clock + Drop, W> Model for LanePort<'a, Y, S, R, W> {
     ghost use Rattle.std.specs.Prelude.{◌≡◌};
     ghost use Rattle.bm_lane_actor.specs.Ports.{PortView};
 
@@ -124,14 +133,33 @@ fn is_lost(outcome: Results) -> bool
     outcome == Results::Retry
 }
 
-impl<'a, Y: Yard, S: Drop, R: Wait + Clock, W: Watch + Drop> LanePort<'a, Y, S, R, W> {
+/// What is left of a tick that began then, if it isn't over. Where the clock fails it is waited for
+/// here.
+fn left_of_tick<R: Wait + Clock>(rt: &R, began: &Option<Instant>) -> Option<Duration> {
+    let tick = Duration::from_millis(TICK_MS);
+    let passed = match began {
+        Some(began) => began.elapsed(rt).ok(),
+        None => None,
+    };
+    match passed {
+        Some(passed) if passed < tick => tick.checked_sub(passed),
+        Some(_) => None,
+        None => {
+            thread::sleep(rt, tick);
+            None
+        }
+    }
+}
+
+impl<'a, Y: Yard, S: Drop, R: Wait + Clock + Drop, W: Watch + Drop> LanePort<'a, Y, S, R, W> {
     /// A port that has started nothing. It takes no memory.
     pub fn over(
         rt: &'a R,
         alloc: Global,
         viewer: Viewer<Y>,
         handle: LaneHandle<S>,
-        cancelled: &'a AtomicBool,
+        gate: &'a DrainGate<R>,
+        cancelled: &'a CancelFlag,
         watch: W,
     ) -> LanePort<'a, Y, S, R, W>
         requires { viewer.lane ≡ handle }
@@ -142,6 +170,8 @@ impl<'a, Y: Yard, S: Drop, R: Wait + Clock, W: Watch + Drop> LanePort<'a, Y, S, 
             alloc,
             handle,
             viewer,
+            gate,
+            ends: 0,
             cancelled,
             is_held: false,
             meter: StepMeter::new(0, 0),
@@ -160,7 +190,8 @@ impl<'a, Y: Yard, S: Drop, R: Wait + Clock, W: Watch + Drop> LanePort<'a, Y, S, 
     }
 }
 
-impl<'a, Y: Yard, S: Drop, R: Wait + Clock, W: Watch + Drop> Port for LanePort<'a, Y, S, R, W> {
+impl<'a, Y: Yard, S: Drop, R: Wait + Clock + Drop, W: Watch + Drop> Port
+    for LanePort<'a, Y, S, R, W> {
     ghost told = { λ p. p.told };
 
     ghost refused = { λ p. p.refused };
@@ -190,9 +221,12 @@ impl<'a, Y: Yard, S: Drop, R: Wait + Clock, W: Watch + Drop> Port for LanePort<'
             self.entries.note(k, said);
             return said;
         }
-        thread::sleep(self.rt, Duration::from_millis(TICK_MS));
+        self.wait(k);
         let said = self.see(k);
         self.entries.note(k, said);
+        if said == Polled::Cancel {
+            self.watch.cancelled();
+        }
         if let Polled::Ended(outcome) = said {
             self.handle.tell(self.rt, LaneRequest::Seen(k));
             if is_lost(outcome) {
@@ -209,7 +243,7 @@ impl<'a, Y: Yard, S: Drop, R: Wait + Clock, W: Watch + Drop> Port for LanePort<'
     }
 }
 
-impl<'a, Y: Yard, S: Drop, R: Wait + Clock, W: Watch + Drop> LanePort<'a, Y, S, R, W> {
+impl<'a, Y: Yard, S: Drop, R: Wait + Clock + Drop, W: Watch + Drop> LanePort<'a, Y, S, R, W> {
     /// Starts the step's command, with room for its entry. A cancel ends one step: where this one
     /// always runs, that is the next that doesn't.
     ///
@@ -237,6 +271,7 @@ impl<'a, Y: Yard, S: Drop, R: Wait + Clock, W: Watch + Drop> LanePort<'a, Y, S, 
         self.bytes = Some(bytes);
         if step.always_run && self.cancelled.swap(false, Ordering::SeqCst) {
             self.is_held = true;
+            self.watch.cancelled();
         }
         match self.entries.begin(command) {
             Ok(()) => {}
@@ -244,6 +279,38 @@ impl<'a, Y: Yard, S: Drop, R: Wait + Clock, W: Watch + Drop> LanePort<'a, Y, S, 
         }
         self.watch.started(step, command);
         Ok(command)
+    }
+
+    /// All that had been put into the lane's queue when it was told of so many ends was looked at.
+    fn has_looked(&mut self, ends: u64)
+        ensures { self.new ≡ self.old }
+    {
+        self.ends = ends;
+    }
+
+    /// Waits until the command is seen to have ended, or a tick is over. Once the actor has told of
+    /// what may be its end, it looks whenever the pool has shown the lane's viewers more.
+    fn wait(&mut self, k: u64)
+        ensures { Waits self.old self.new }
+    {
+        let place = self.handle.lane() as usize;
+        let began = Instant::now(self.rt).ok();
+        let heard = self.gate.ends(place);
+        for _ in self.rt.forever() {
+            let ends = self.gate.ends(place);
+            let took = self.gate.took(place);
+            if let Polled::Ended(_) = self.look(k) {
+                return;
+            }
+            let Some(left) = left_of_tick(self.rt, &began) else {
+                return self.has_looked(heard);
+            };
+            if ends == self.ends {
+                self.gate.wait_for_end(place, ends, left);
+            } else {
+                self.gate.wait_for_drain(place, took, left);
+            }
+        }
     }
 
     // How the command does, by what the viewer sees and by the limits of its step.

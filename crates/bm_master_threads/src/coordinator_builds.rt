@@ -71,7 +71,7 @@ where
         self.ends(number, result.unwrap_or(Results::Retry), viewer);
     }
 
-    /// Cancels a build, where it has not ended.
+    /// Cancels a build, where it has not ended. A running one tells that it obeys.
     pub fn cancel(&mut self, number: u64) {
         match self.queue.cancel(number) {
             Cancelled::Waiting => self.remark(&Remark::BuildEnded {
@@ -82,7 +82,6 @@ where
                 if let Some(cancelled) = self.shared.cancels.get(number as usize) {
                     cancelled.store(true, Ordering::SeqCst);
                 }
-                self.remark(&Remark::BuildCancelled { build: number });
             }
             Cancelled::Nothing => {}
         }

@@ -1,10 +1,11 @@
 //! What all threads of a master share.
 
 use crate::events::EventSender;
+use crate::sockets::SocketRegistry;
 use crate::web::WebStop;
 use bm_config::Config;
 use bm_lane::{WriterEnd, Yard};
-use bm_lane_actor::{DrainGate, LaneHandle, LoginLimit, WorkerStream};
+use bm_lane_actor::{CancelFlag, DrainGate, LaneHandle, LoginLimit, WorkerStream};
 use bm_lanes::users_of;
 use bm_link::User;
 use std::alloc::{AllocError, Global};
@@ -19,13 +20,15 @@ pub struct SharedState<Y: Yard, R: Wait + Clock + Drop> {
     pub alloc: Global,
     pub config: Config,
     /// For each build, whether its step is to be cancelled.
-    pub cancels: Vec<AtomicBool>,
+    pub cancels: Vec<CancelFlag>,
     /// Who may log in.
     pub users: Vec<User>,
     /// By what the lanes' actors are reached.
     pub lanes: Vec<LaneHandle<WorkerStream<R>>>,
     /// By what the coordinator is reached.
     pub events: EventSender<Y>,
+    /// By what the acceptor is woken, and told of connections.
+    pub sockets: SocketRegistry,
     /// How many connections without a login there may be.
     pub logins: LoginLimit,
     /// The writers' ends, which the pool drains.
@@ -46,6 +49,7 @@ impl<Y: Yard, R: Wait + Clock + Copy + Drop> SharedState<Y, R> {
         config: Config,
         lanes: Vec<LaneHandle<WorkerStream<R>>>,
         events: EventSender<Y>,
+        sockets: SocketRegistry,
         writers: Vec<Mutex<WriterEnd<Y, R>>>,
     ) -> Option<SharedState<Y, R>> {
         let drain_gate = DrainGate::new(*rt, alloc, writers.len(), config.writers as usize).ok();
@@ -64,6 +68,7 @@ impl<Y: Yard, R: Wait + Clock + Copy + Drop> SharedState<Y, R> {
             users,
             lanes,
             events,
+            sockets,
             logins: LoginLimit::new(),
             writers,
             drain_gate,
@@ -74,10 +79,10 @@ impl<Y: Yard, R: Wait + Clock + Copy + Drop> SharedState<Y, R> {
 }
 
 // A flag for each build, which isn't set.
-fn flags_of(alloc: Global, builds: usize) -> Result<Vec<AtomicBool>, AllocError> {
+fn flags_of(alloc: Global, builds: usize) -> Result<Vec<CancelFlag>, AllocError> {
     let mut flags = Vec::with_capacity(alloc, builds)?;
     for _ in 0..builds {
-        flags.push(AtomicBool::new(false))?;
+        flags.push(Arc::new(alloc, AtomicBool::new(false))?)?;
     }
     Ok(flags)
 }
