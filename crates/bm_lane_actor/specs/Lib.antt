@@ -15,6 +15,10 @@ pub mod LoginRefusals
 -- carries.
 pub mod Ports
 pub mod ByteCount
+-- StopOrders: which order to interrupt a command is sent, and which is kept. ReadWatch: when a link
+-- is read no more until something comes.
+pub mod StopOrders
+pub mod ReadWatch
 -- What a gate of a pool answers, and how many connections may wait for their login.
 pub mod Gates
 pub mod LoginLimits

@@ -23,10 +23,10 @@ const REST_MS: u64 = 500;
 struct LaneFlags {
     /// 1 where the queue may have an item that no worker goes for.
     full: AtomicU64,
-    /// How many items were taken from it.
+    /// A count that grows with each item taken from it, and with each cancel of a build.
     took: AtomicU64,
-    /// How often something was put into it by which a command may have ended.
-    ends: AtomicU64,
+    /// How often the lane's builds were called to look.
+    calls: AtomicU64,
     /// How many wait until more were taken.
     waits: AtomicU64,
 }
@@ -96,7 +96,7 @@ impl<R: Wait + Clock + Drop> DrainGate<R> {
             lanes.push(LaneFlags {
                 full: AtomicU64::new(0),
                 took: AtomicU64::new(0),
-                ends: AtomicU64::new(0),
+                calls: AtomicU64::new(0),
                 waits: AtomicU64::new(0),
             })?;
         }
@@ -128,27 +128,38 @@ impl<R: Wait + Clock + Drop> DrainGate<R> {
         }
     }
 
-    /// Tells that the lane may have an item by which a command ends.
+    /// Tells that the lane may have an item by which a command ends, or takes orders again: its
+    /// builds are called.
     pub(crate) fn ring(&self, lane: usize) {
         if let Some(flags) = self.lanes.get(lane) {
-            flags.ends.fetch_add(1, Ordering::SeqCst);
-            flags.ends.wake_all();
+            flags.calls.fetch_add(1, Ordering::SeqCst);
+            flags.calls.wake_all();
         }
         self.wake(lane);
     }
 
-    /// How often the lane was told to have such an item.
-    pub(crate) fn ends(&self, lane: usize) -> u64 {
+    /// Calls the lane's builds whatever they wait for: one of them was cancelled.
+    pub fn call_builds(&self, lane: usize) {
+        if let Some(flags) = self.lanes.get(lane) {
+            flags.calls.fetch_add(1, Ordering::SeqCst);
+            flags.calls.wake_all();
+            flags.took.fetch_add(1, Ordering::SeqCst);
+            flags.took.wake_all();
+        }
+    }
+
+    /// How often the lane's builds were called.
+    pub(crate) fn calls(&self, lane: usize) -> u64 {
         match self.lanes.get(lane) {
-            Some(flags) => flags.ends.load(Ordering::SeqCst),
+            Some(flags) => flags.calls.load(Ordering::SeqCst),
             None => 0,
         }
     }
 
-    /// Waits until that was told more often than so; `most` at most.
-    pub(crate) fn wait_for_end(&self, lane: usize, ends: u64, most: Duration) {
+    /// Waits until they were called more often than so; `most` at most.
+    pub(crate) fn wait_for_call(&self, lane: usize, calls: u64, most: Duration) {
         if let Some(flags) = self.lanes.get(lane) {
-            flags.ends.park_timeout(&self.rt, low(ends), most);
+            flags.calls.park_timeout(&self.rt, low(calls), most);
         }
     }
 
@@ -159,7 +170,7 @@ impl<R: Wait + Clock + Drop> DrainGate<R> {
         self.wakes.wake_all();
     }
 
-    /// How many items were taken from the lane's queue.
+    /// A count that grows with each item that is taken from the lane's queue, once it is shown.
     pub(crate) fn took(&self, lane: usize) -> u64 {
         match self.lanes.get(lane) {
             Some(flags) => flags.took.load(Ordering::SeqCst),
@@ -167,8 +178,7 @@ impl<R: Wait + Clock + Drop> DrainGate<R> {
         }
     }
 
-    /// Waits until more items were taken from the lane's queue than that, and so shown; `most` at
-    /// most.
+    /// Waits until that count is another one; `most` at most.
     pub(crate) fn wait_for_drain(&self, lane: usize, took: u64, most: Duration) {
         if let Some(flags) = self.lanes.get(lane) {
             flags.waits.fetch_add(1, Ordering::SeqCst);

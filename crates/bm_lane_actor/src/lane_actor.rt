@@ -6,22 +6,21 @@ ghost use Rattle.bm_lane_actor.specs.LaneEvents.{loss_of};
 use crate::byte_count::ByteCounts;
 use crate::connection_state::ConnectionState;
 use crate::drain_gate::DrainGate;
-use crate::lane_event::{EventSink, LaneEvent, event_after, loss_of};
-use crate::lane_request::{CancelFlag, LaneRequest, LaneSignal, StartOrder};
+use crate::lane_event::{EventSink, event_after, loss_of};
+use crate::lane_request::{LaneRequest, LaneSignal};
 use crate::lane_state::{Awaited, LaneState};
 use crate::mailbox::{Mailbox, NextRequest};
-use crate::order_outcome::OrderOutcome;
-use crate::peer_timer::{PeerAction, PeerTimer};
+use crate::peer_timer::PeerTimer;
+use crate::read_watch::ReadWatch;
+use crate::stop_orders::StopOrders;
 use crate::stream::WorkerStream;
 use bm_lane::{ReaderEnd, Yard};
-use bm_latent::{TICK_MS, TickCounter, millis};
-use bm_link::{Attached, LinkFault, MasterLink, Turn, are_short};
+use bm_latent::{TICK_MS, TickCounter};
+use bm_link::{LinkFault, MasterLink, Turn};
 use bm_operator::LossCause;
 use bumpalo::Bump;
-use crossbeam_channel::Sender;
 use std::alloc::Global;
 use std::sync::Wait;
-use std::sync::atomic::Ordering;
 use std::time::{Clock, Duration, Instant};
 
 /// How long an actor waits at its mailbox before it looks how long its worker has been silent, in
@@ -38,28 +37,34 @@ const MOST_KEPT_BYTES: usize = 1_048_576;
 
 /// The actor of a lane at work.
 #[derive(Drop)]
-struct LaneActor<'a, Y: Yard, T, R: Wait + Clock + Drop> {
-    rt: &'a R,
-    alloc: Global,
-    state: LaneState<Y, WorkerStream<R>>,
-    arena: Bump,
+pub(crate) struct LaneActor<'a, Y: Yard, T, R: Wait + Clock + Drop> {
+    pub(crate) rt: &'a R,
+    pub(crate) alloc: Global,
+    /// The lane, with its link.
+    pub(crate) state: LaneState<Y, WorkerStream<R>>,
+    /// Where messages are read.
+    pub(crate) arena: Bump,
     /// Since when the timer counts. None where the clock failed: it then counts nothing.
-    began: Option<Instant>,
+    pub(crate) began: Option<Instant>,
     /// How long the worker has been silent.
-    peer: PeerTimer,
+    pub(crate) peer: PeerTimer,
     /// A link that has logged in while the lane is up, until its worker lives or is given up.
-    waiting: Option<MasterLink<WorkerStream<R>>>,
-    gate: &'a DrainGate<R>,
-    place: usize,
-    events: T,
+    pub(crate) waiting: Option<MasterLink<WorkerStream<R>>>,
+    pub(crate) gate: &'a DrainGate<R>,
+    /// The number of the lane.
+    pub(crate) place: usize,
+    /// Who is told what happens to the lane.
+    pub(crate) events: T,
     /// The commands that were started whose end no build has seen, and what their updates carried.
-    commands: ByteCounts,
+    pub(crate) commands: ByteCounts,
     /// Whether a read of the link may give something.
-    is_lively: bool,
+    pub(crate) reads: ReadWatch,
+    /// The commands that are to be interrupted once the lane takes that order.
+    pub(crate) stops: StopOrders,
     /// The ticks of a lane that is cut, from the cut on.
-    ticks: Option<TickCounter>,
+    pub(crate) ticks: Option<TickCounter>,
     /// Why a cut lane is given up.
-    why: LossCause,
+    pub(crate) why: LossCause,
 }
 
 /// An arena for a lane's messages.
@@ -69,16 +74,9 @@ fn arena_of(alloc: Global) -> Bump {
     arena
 }
 
-/// Whether there is a flag, and it is set.
-fn is_set(flag: &Option<CancelFlag>) -> bool {
-    match flag {
-        Some(flag) => flag.load(Ordering::SeqCst),
-        None => false,
-    }
-}
-
 /// Serves a lane until it gets the signal `Leave`. It waits at the mailbox alone. It obeys each
-/// request, and hears the worker where the signal `Readable` says that a read won't wait. It asks a silent one for a sign of life, and counts ticks while the lane is cut. After each event
+/// request, and hears the worker once the signal `Readable` says that a read may give something. It
+/// asks a silent one for a sign of life, and counts ticks while the lane is cut. After each event
 /// it wakes the gate. What happens to the lane it tells before it takes or answers a request after
 /// that.
 ///
@@ -110,7 +108,8 @@ where
         place: mailbox.lane() as usize,
         events,
         commands: ByteCounts::new(alloc),
-        is_lively: false,
+        reads: ReadWatch::new(),
+        stops: StopOrders::new(alloc),
         ticks: None,
         why: LossCause::Expired,
     };
@@ -136,7 +135,8 @@ where
         }
         self.takes_signals(mailbox);
         self.watch();
-        let awaited = self.state.awaited(self.is_lively);
+        self.send_stop();
+        let awaited = self.state.awaited(self.reads.may_give());
         self.count_ticks(awaited);
         let next = match awaited {
             Awaited::Request | Awaited::Glance => mailbox.wait_for(self.rt, self.glance()),
@@ -177,18 +177,18 @@ where
     /// Does what signals ask for.
     fn takes_signals(&mut self, mailbox: &Mailbox<WorkerStream<R>>) {
         if mailbox.takes(LaneSignal::Readable) {
-            self.is_lively = true;
+            self.reads.told();
         }
         if mailbox.takes(LaneSignal::ShutDown) {
             self.why = LossCause::Dismissed;
             self.state.shut_down(self.alloc);
-            self.is_lively = true;
+            self.reads.told();
             self.expire();
         }
         if mailbox.takes(LaneSignal::Ended) {
             self.why = LossCause::Ended;
             self.state.dismiss();
-            self.is_lively = true;
+            self.reads.told();
             self.expire();
         }
     }
@@ -211,7 +211,10 @@ where
                 let outcome = self.start(order);
                 let _ = answer.send(self.rt, outcome);
             }
-            LaneRequest::Interrupt(command, answer) => self.interrupt(command, &answer),
+            LaneRequest::Interrupt(command, answer) => {
+                let is_kept = self.keep_stop(command);
+                let _ = answer.send(self.rt, is_kept);
+            }
             LaneRequest::Seen(command) => self.commands.end(command),
             LaneRequest::Settle(answer) => {
                 let _ = answer.send(self.rt, ());
@@ -220,168 +223,26 @@ where
         }
     }
 
-    /// Wakes the gate, and tells how the lane went on from where it stood.
-    fn note(&mut self, before: ConnectionState, cause: LossCause) {
-        self.gate.ring(self.place);
+    /// Wakes the gate, and tells how the lane went on from where it stood. Then its builds are
+    /// called.
+    pub(crate) fn note(&mut self, before: ConnectionState, cause: LossCause) {
         if let Some(event) = event_after(before, self.state.connection(), cause) {
             self.events.tell(event);
+            self.gate.ring(self.place);
+        } else {
+            self.gate.wake(self.place);
         }
-    }
-
-    /// How long the actor is there, in milliseconds. None where the clock fails.
-    fn age(&self) -> Option<u64> {
-        let passed = match &self.began {
-            Some(began) => began.elapsed(self.rt),
-            None => return None,
-        };
-        match passed {
-            Ok(passed) => Some(millis(passed)),
-            Err(_) => None,
-        }
-    }
-
-    /// The time in milliseconds, for the timer.
-    fn now(&self) -> u64 {
-        self.age().unwrap_or(0)
-    }
-
-    /// What is to be done about the worker now.
-    fn peer_action(&mut self) -> PeerAction {
-        let (came, now) = (self.came(), self.now());
-        match self.state.connection() {
-            ConnectionState::Up => self.peer.look(came, now),
-            ConnectionState::Cut | ConnectionState::Down => PeerAction::Nothing,
-        }
-    }
-
-    /// Asks a silent worker for a sign of life. Where it is taken for dead, and nothing of it waits
-    /// to be read, its link fails at once. Then another link waits no longer.
-    fn watch(&mut self) {
-        let mut action = self.peer_action();
-        if action == PeerAction::GiveUp {
-            self.turn();
-            action = self.peer_action();
-        }
-        match action {
-            PeerAction::Nothing => {}
-            PeerAction::Ask => self.state.ping(),
-            PeerAction::GiveUp => {
-                if let Some(stream) = self.state.stream() {
-                    stream.give_up();
-                }
-                self.turn();
-            }
-        }
-        let is_wanted = action == PeerAction::Nothing && self.peer.is_wanted();
-        if !is_wanted || self.state.connection() != ConnectionState::Up {
-            if let Some(link) = self.waiting.take() {
-                self.admit(link);
-            }
-        }
-    }
-
-    /// A link comes. Where the lane is up it is looked first whether that still holds. Then its
-    /// worker is asked for a sign of life, and the link waits for that.
-    fn attach(&mut self, link: MasterLink<WorkerStream<R>>) {
-        if self.state.connection() == ConnectionState::Up {
-            self.turn();
-            self.watch();
-        }
-        if self.state.connection() != ConnectionState::Up || self.waiting.is_some() {
-            return self.admit(link);
-        }
-        self.state.ping();
-        let now = self.now();
-        self.peer.want(now);
-        self.waiting = Some(link);
-    }
-
-    /// A link takes the lane up, or is told why not.
-    fn admit(&mut self, link: MasterLink<WorkerStream<R>>) {
-        let before = self.state.connection();
-        let from = link.get_ref().from();
-        let answer = self.state.attach(self.rt, self.alloc, link);
-        match answer {
-            Ok(attached) => self.welcome(attached, before),
-            Err(fault) => {
-                self.note(before, LossCause::Replaced);
-                self.events.tell(LaneEvent::Declined(fault, from));
-            }
-        }
-        self.is_lively = true;
-    }
-
-    /// A link has taken the lane up, which was in the state `before`.
-    fn welcome(&mut self, attached: Attached, before: ConnectionState) {
-        self.gate.ring(self.place);
-        self.why = LossCause::Expired;
-        self.peer = PeerTimer::new(self.came(), self.now());
-        if attached == Attached::Resumed {
-            self.events.tell(LaneEvent::Resumed);
-            return;
-        }
-        if before == ConnectionState::Cut {
-            self.events.tell(LaneEvent::Lost(LossCause::Replaced));
-        }
-        self.events.tell(LaneEvent::Attached);
-    }
-
-    /// A count of what came from the worker by the lane's link.
-    fn came(&self) -> u64 {
-        match self.state.stream() {
-            Some(stream) => stream.heard(),
-            None => 0,
-        }
-    }
-
-    /// Starts a command. The words of a configuration are short enough. A plan by which others
-    /// come is refused here, before its order is kept to be sent again. The flag is looked at last:
-    /// who set it before the lane took the order knows that no command follows.
-    fn start(&mut self, order: StartOrder) -> OrderOutcome {
-        let StartOrder {
-            words,
-            bytes,
-            cancelled,
-        } = order;
-        let argv = words.as_slice();
-        if !are_short(argv) {
-            return OrderOutcome::TooLong;
-        }
-        if self.commands.reserve().is_err() {
-            return OrderOutcome::Later;
-        }
-        let before = self.state.connection();
-        if is_set(&cancelled) {
-            return OrderOutcome::Cancelled;
-        }
-        let outcome = self.state.start(self.rt, self.alloc, argv);
-        match outcome {
-            OrderOutcome::Started(command) => self.commands.begin(command, bytes),
-            OrderOutcome::Full => self.events.tell(LaneEvent::Filled),
-            OrderOutcome::Interrupted
-            | OrderOutcome::Cancelled
-            | OrderOutcome::Later
-            | OrderOutcome::Refused
-            | OrderOutcome::TooLong => {}
-        }
-        self.note(before, LossCause::Stream);
-        outcome
-    }
-
-    fn interrupt(&mut self, command: u64, answer: &Sender<OrderOutcome, Global>) {
-        let before = self.state.connection();
-        let outcome = self.state.interrupt(self.rt, self.alloc, command);
-        self.note(before, LossCause::Stream);
-        let _ = answer.send(self.rt, outcome);
     }
 
     /// Hears the worker.
-    fn turn(&mut self) {
+    pub(crate) fn turn(&mut self) {
         let before = self.state.connection();
         let took = self.gate.took(self.place);
-        self.is_lively = true;
-        match self.state.turn(self.rt, self.alloc, &mut self.arena) {
-            Ok(Turn::Quiet) => self.is_lively = !self.is_drained(),
+        let answer = self.state.turn(self.rt, self.alloc, &mut self.arena);
+        let is_drained = self.is_drained();
+        self.reads.turned(&answer, is_drained);
+        match answer {
+            Ok(Turn::Quiet) => {}
             Ok(Turn::Busy) => self.wait_for_place(took),
             Ok(Turn::Heard) => self.heard(),
             Ok(Turn::Noted) => self.gate.ring(self.place),
@@ -415,17 +276,19 @@ where
     }
 
     /// Waits until the lane's queue has room; a tick at most.
-    fn wait_for_place(&self, took: u64) {
+    pub(crate) fn wait_for_place(&self, took: u64) {
         self.gate
             .wait_for_drain(self.place, took, Duration::from_millis(TICK_MS));
     }
 
+    /// A tick of a cut lane has passed.
     fn tick(&mut self) {
         let before = self.state.connection();
         self.state.tick(self.rt);
         self.note(before, self.why);
     }
 
+    /// A cut lane whose worker is awaited no more is given up.
     fn expire(&mut self) {
         let before = self.state.connection();
         self.state.expire(self.rt);

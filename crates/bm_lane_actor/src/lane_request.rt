@@ -29,8 +29,9 @@ pub enum LaneRequest<S> {
     Attach(MasterLink<S>),
     /// Start a command, and answer what came of it.
     Start(StartOrder, Sender<OrderOutcome, Global>),
-    /// Interrupt this command, and answer what came of it.
-    Interrupt(u64, Sender<OrderOutcome, Global>),
+    /// Interrupt this command as soon as the lane takes that order. Answer whether it is kept until
+    /// then: it isn't where memory is wanting.
+    Interrupt(u64, Sender<bool, Global>),
     /// The build of this command, which was started, asks for it no more.
     Seen(u64),
     /// Answer once all that happened to the lane so far was told.

@@ -4,6 +4,7 @@ ghost use Rattle.std.specs.Prelude.{◌≡◌};
 ghost use Rattle.bm_lane_actor.specs.Ports.{is_left_out, start_refusal};
 
 use crate::byte_count::ByteCount;
+use crate::drain_gate::DrainGate;
 use crate::lane_request::{CancelFlag, LaneRequest, StartOrder};
 use crate::mailbox::LaneHandle;
 use crate::order_outcome::OrderOutcome;
@@ -51,22 +52,24 @@ fn try_start<S: Drop, R: Wait + Clock>(
     }
 }
 
-/// What the actor answers to an interruption; `Refused` where it has left, or memory is wanting.
-fn try_interrupt<S: Drop, R: Wait + Clock>(
+/// Hands the lane's actor the order to interrupt a command. It keeps the order until its lane can
+/// send it, so nobody waits for a lane that is cut. False where memory is wanting for that: it is
+/// to be tried again.
+pub(crate) fn interrupt<S: Drop, R: Wait + Clock>(
     rt: &R,
     alloc: Global,
     handle: &LaneHandle<S>,
     command: u64,
-) -> OrderOutcome {
+) -> bool {
     let Ok((answer, answers)) = bounded(alloc, 1) else {
-        return OrderOutcome::Refused;
+        return false;
     };
     if !handle.tell(rt, LaneRequest::Interrupt(command, answer)) {
-        return OrderOutcome::Refused;
+        return true;
     }
     match handle.answer(rt, &answers) {
-        Some(outcome) => outcome,
-        None => OrderOutcome::Refused,
+        Some(is_kept) => is_kept,
+        None => true,
     }
 }
 
@@ -101,45 +104,35 @@ fn start_refusal(outcome: OrderOutcome) -> StartRefusal
     }
 }
 
-/// Starts a step's command once the lane is up. Whether the build is cancelled is looked at by the
-/// lane's actor alone, as the last thing before it takes the order.
+/// Starts a step's command once the lane is up. An order that is to come later is tried again once
+/// the gate rings for the lane's builds, and each tick. Whether the build is cancelled is looked at
+/// by the lane's actor alone, as the last thing before it takes the order.
 ///
 /// # Errors
 ///
 /// `Lost` where the lane is given up, or refuses. `Full` where it has had as many events as it
 /// may. `TooLong` where the words are more than an order can have. `Cancelled` where the step
-/// doesn't always run and its build is cancelled before the lane takes the order. `Memory` where that is wanting.
-/// Nothing is started then.
-pub(crate) fn start<S: Drop, R: Wait + Clock>(
+/// doesn't always run and its build is cancelled before the lane takes the order. `Memory` where
+/// that is wanting. Nothing is started then.
+pub(crate) fn start<S: Drop, R: Wait + Clock + Drop>(
     rt: &R,
     alloc: Global,
+    gate: &DrainGate<R>,
     handle: &LaneHandle<S>,
     step: &StepPlan,
     cancelled: &CancelFlag,
     bytes: &ByteCount,
 ) -> Result<u64, StartRefusal> {
+    let place = handle.lane() as usize;
+    let tick = Duration::from_millis(TICK_MS);
     for _ in rt.forever() {
+        let calls = gate.calls(place);
         match try_start(rt, alloc, handle, step, cancelled, bytes) {
             Some(OrderOutcome::Started(command)) => return Ok(command),
-            Some(OrderOutcome::Later) => thread::sleep(rt, Duration::from_millis(TICK_MS)),
+            Some(OrderOutcome::Later) => gate.wait_for_call(place, calls, tick),
             Some(outcome) => return Err(start_refusal(outcome)),
             None => return Err(StartRefusal::Memory),
         }
     }
     unreachable!()
-}
-
-/// Interrupts a command once the lane is up, or does nothing once it is given up.
-pub(crate) fn interrupt<S: Drop, R: Wait + Clock>(
-    rt: &R,
-    alloc: Global,
-    handle: &LaneHandle<S>,
-    command: u64,
-) {
-    for _ in rt.forever() {
-        match try_interrupt(rt, alloc, handle, command) {
-            OrderOutcome::Later => thread::sleep(rt, Duration::from_millis(TICK_MS)),
-            _ => return,
-        }
-    }
 }

@@ -1,10 +1,10 @@
 //! A build's port to its worker's lane: it sends requests by the lane's handle, and looks through a
 //! viewer of its own.
 
-ghost use Rattle.std.specs.Prelude.{◌≡◌, ◌≤◌, ◌++◌, ◌∷◌, [], List, false, codes, length, IfSome};
+ghost use Rattle.std.specs.Prelude.{◌≡◌, ◌++◌, ◌∷◌, [], List, false};
 ghost use Rattle.bm_runner.specs.declared.port.Told.{Told};
 ghost use Rattle.bm_runner.specs.Port.{IsAsking, asked};
-ghost use Rattle.bm_lane_actor.specs.Ports.{Begins, Looks, Polls, Sees, Waits, at_limits, is_lost, polled, ticked, with_meter};
+ghost use Rattle.bm_lane_actor.specs.Ports.{Begins, Looks, Polls, Sees, Waits, at_limits, ticked, with_meter};
 ghost use Rattle.bm_lane_actor.specs.StepMeter.{fresh};
 
 use crate::byte_count::ByteCount;
@@ -12,15 +12,16 @@ use crate::drain_gate::DrainGate;
 use crate::lane_request::{CancelFlag, LaneRequest};
 use crate::mailbox::LaneHandle;
 use crate::orders::{interrupt, is_left_out, start, wait_until_told};
+use crate::port_log::{header_in, is_lost, polled};
 use crate::step_meter::StepMeter;
+use crate::watch::Watch;
 use bm_board::StepPlan;
 use bm_lane::{Viewer, Yard};
 use bm_latent::TICK_MS;
 use bm_lines::{STDIO, Text};
-use bm_operator::{StartRefusal, StepLimit};
+use bm_operator::StartRefusal;
 use bm_runner::{Entries, Polled, Port};
 use bm_session::Results;
-use bm_store::{LogState, ViewRefusal};
 use std::alloc::Global;
 use std::marker::Model;
 use std::sync::atomic::{AtomicU64, Ordering};
@@ -28,45 +29,32 @@ use std::sync::{Arc, Wait};
 use std::thread;
 use std::time::{Clock, Duration, Instant};
 
-/// How many bytes a line of headers may have that is told of.
-const MOST_SAID: usize = 256;
-
-/// Who is told of a build's steps as they run.
-pub trait Watch {
-    /// The step was started as this command of its lane.
-    fn started(&mut self, step: &StepPlan, command: u64);
-
-    /// The build obeys a cancel: no step is started any more but those that always run. It may be
-    /// told more than once.
-    fn cancelled(&mut self);
-
-    /// The command has reached a limit of its step, and is interrupted.
-    fn stopped(&mut self, command: u64, limit: StepLimit);
-
-    /// The step was not started. Where its build was cancelled before, that cancel is carried out.
-    fn refused(&mut self, step: &StepPlan, why: StartRefusal);
-
-    /// The command ended so. `said` is what its worker said last of one that ended EXCEPTION,
-    /// where that is a short line of headers behind the first.
-    fn ended(&mut self, command: u64, outcome: Results, said: Option<Text>);
-}
-
 /// The number of no command: that of a step whose build was cancelled before it was started.
 const NO_COMMAND: u64 = u64::MAX;
 
-/// The port of a build. It asks how its command does once a tick, and at once where it has ended. It waits with a start or an
-/// interruption until the lane is up or was given up. It says that a command ended by a loss once
-/// the lane's actor has told of that loss. The viewer is one of the lane whose handle it has.
+/// Whether the lane's actor has the order to interrupt a command.
+#[derive(Clone, Copy, PartialEq, Eq)]
+enum Interruption {
+    NotWanted,
+    /// It is to be handed over: memory was wanting for that.
+    Wanted,
+    HandedOver,
+}
+
+/// The port of a build. It asks how its command does once a tick, and at once where it has ended.
+/// It waits with a start until the lane is up or was given up, with an interruption for nothing. It
+/// says that a command ended by a loss once the lane's actor has told of that loss. The viewer is
+/// one of the lane whose handle it has.
 #[derive(Drop)]
 pub struct LanePort<'a, Y: Yard, S, R: Wait + Clock + Drop, W> {
     rt: &'a R,
     alloc: Global,
     handle: LaneHandle<S>,
     viewer: Viewer<Y>,
-    /// What rings where the lane's viewers may see more.
+    /// What calls the lane's builds, and tells that its viewers may see more.
     gate: &'a DrainGate<R>,
-    /// How often a command of the lane may have ended by the last look at which all that was drained.
-    ends: u64,
+    /// How often it had called when the last tick that is over began.
+    calls: u64,
     /// Set once the build is cancelled.
     cancelled: &'a CancelFlag,
     /// Whether a cancel came before a step that always runs: it waits for the next one that
@@ -76,6 +64,7 @@ pub struct LanePort<'a, Y: Yard, S, R: Wait + Clock + Drop, W> {
     meter: StepMeter,
     /// What the updates of its command carried.
     bytes: Option<ByteCount>,
+    interruption: Interruption,
     watch: W,
     entries: Entries,
     refused: bool,
@@ -95,42 +84,6 @@ impl<'a, Y: Yard, S, R: Wait + Clock + Drop, W> Model for LanePort<'a, Y, S, R, 
     } };
 
     ghost invariant = { λ p. p.viewer.lane ≡ p.handle };
-}
-
-/// What a look at the log of a command says of it. A refused look says that it runs.
-fn polled(state: Result<LogState, ViewRefusal>, is_cancelled: bool) -> Polled
-    ensures { result ≡ polled is_cancelled state }
-{
-    match state {
-        Ok(
-            LogState {
-                ended: Some(outcome),
-                ..
-            },
-        ) => Polled::Ended(outcome),
-        _ if is_cancelled => Polled::Cancel,
-        _ => Polled::Running,
-    }
-}
-
-/// What a line of a log says, where it is one of headers, and no longer than is told of it.
-fn header_in(alloc: Global, line: &str) -> Option<Text>
-    ensures { IfSome result (λ said. (line.now ≡ codes "h" ++ (said ++ codes "\n"))
-        × (length said ≤ 256)) }
-{
-    let said = line.strip_prefix("h")?.strip_suffix("\n")?;
-    if said.len() <= MOST_SAID {
-        Text::from_str(alloc, said).ok()
-    } else {
-        None
-    }
-}
-
-/// Whether a command that ended so did by the loss of its lane.
-fn is_lost(outcome: Results) -> bool
-    ensures { result ≡ is_lost outcome }
-{
-    outcome == Results::Retry
 }
 
 /// What is left of a tick that began then, if it isn't over. Where the clock fails it is waited for
@@ -171,11 +124,12 @@ impl<'a, Y: Yard, S: Drop, R: Wait + Clock + Drop, W: Watch + Drop> LanePort<'a,
             handle,
             viewer,
             gate,
-            ends: 0,
+            calls: 0,
             cancelled,
             is_held: false,
             meter: StepMeter::new(0, 0),
             bytes: None,
+            interruption: Interruption::NotWanted,
             watch,
             entries: Entries::new(alloc),
             refused: false,
@@ -239,7 +193,7 @@ impl<'a, Y: Yard, S: Drop, R: Wait + Clock + Drop, W: Watch + Drop> Port
     }
 
     fn interrupt(&mut self, k: u64) {
-        interrupt(self.rt, self.alloc, &self.handle, k);
+        self.stop(k);
     }
 }
 
@@ -262,13 +216,14 @@ impl<'a, Y: Yard, S: Drop, R: Wait + Clock + Drop, W: Watch + Drop> LanePort<'a,
         let Ok(bytes) = Arc::new(self.alloc, AtomicU64::new(0)) else {
             return Err(StartRefusal::Memory);
         };
-        let (rt, alloc) = (self.rt, self.alloc);
-        let command = match start(rt, alloc, &self.handle, step, self.cancelled, &bytes) {
+        let (rt, alloc, gate) = (self.rt, self.alloc, self.gate);
+        let command = match start(rt, alloc, gate, &self.handle, step, self.cancelled, &bytes) {
             Ok(command) => command,
             Err(why) => return Err(why),
         };
         self.meter = StepMeter::new(step.max_bytes, step.timeout_ticks);
         self.bytes = Some(bytes);
+        self.interruption = Interruption::NotWanted;
         if step.always_run && self.cancelled.swap(false, Ordering::SeqCst) {
             self.is_held = true;
             self.watch.cancelled();
@@ -281,32 +236,59 @@ impl<'a, Y: Yard, S: Drop, R: Wait + Clock + Drop, W: Watch + Drop> LanePort<'a,
         Ok(command)
     }
 
-    /// All that had been put into the lane's queue when it was told of so many ends was looked at.
-    fn has_looked(&mut self, ends: u64)
+    /// What the gate had called for when the tick began was looked at until it was over.
+    fn has_looked(&mut self, calls: u64)
         ensures { self.new ≡ self.old }
     {
-        self.ends = ends;
+        self.calls = calls;
     }
 
-    /// Waits until the command is seen to have ended, or a tick is over. Once the actor has told of
-    /// what may be its end, it looks whenever the pool has shown the lane's viewers more.
+    /// Has the command interrupted, but once. Where memory is wanting for that, the next tick tries
+    /// again.
+    fn stop(&mut self, k: u64)
+        ensures { self.new ≡ self.old }
+    {
+        if self.interruption == Interruption::HandedOver {
+            return;
+        }
+        self.interruption = if interrupt(self.rt, self.alloc, &self.handle, k) {
+            Interruption::HandedOver
+        } else {
+            Interruption::Wanted
+        };
+    }
+
+    /// Does at once what need not wait for the end of a tick: a cancel is told and obeyed.
+    fn obey(&mut self, k: u64, seen: Polled)
+        ensures { self.new ≡ self.old }
+    {
+        if seen == Polled::Cancel {
+            self.watch.cancelled();
+            self.stop(k);
+        }
+    }
+
+    /// Waits until the command is seen to have ended, or a tick is over. Once the gate has called
+    /// for what may be its end, it looks whenever the pool has shown the lane's viewers more.
     fn wait(&mut self, k: u64)
         ensures { Waits self.old self.new }
     {
         let place = self.handle.lane() as usize;
         let began = Instant::now(self.rt).ok();
-        let heard = self.gate.ends(place);
+        let called = self.gate.calls(place);
         for _ in self.rt.forever() {
-            let ends = self.gate.ends(place);
+            let calls = self.gate.calls(place);
             let took = self.gate.took(place);
-            if let Polled::Ended(_) = self.look(k) {
+            let seen = self.look(k);
+            if let Polled::Ended(_) = seen {
                 return;
             }
+            self.obey(k, seen);
             let Some(left) = left_of_tick(self.rt, &began) else {
-                return self.has_looked(heard);
+                return self.has_looked(called);
             };
-            if ends == self.ends {
-                self.gate.wait_for_end(place, ends, left);
+            if calls == self.calls {
+                self.gate.wait_for_call(place, calls, left);
             } else {
                 self.gate.wait_for_drain(place, took, left);
             }
@@ -357,8 +339,8 @@ impl<'a, Y: Yard, S: Drop, R: Wait + Clock + Drop, W: Watch + Drop> LanePort<'a,
     }
 
     /// What is to be said of a command that was seen so, a tick later, when its updates have
-    /// carried so many bytes. Where it has reached a limit of its step it is interrupted, and its
-    /// end is waited for, but not for ever.
+    /// carried so many bytes. Where it has reached a limit of its step it is interrupted. The end
+    /// of one that was interrupted is waited for, but not for ever.
     fn limited(&mut self, k: u64, seen: Polled, bytes: u64) -> Polled
         ensures said { result ≡ at_limits self.old.meter bytes seen }
         ensures meter { self.new ≡ with_meter self.old (ticked self.old.meter bytes seen) }
@@ -366,12 +348,16 @@ impl<'a, Y: Yard, S: Drop, R: Wait + Clock + Drop, W: Watch + Drop> LanePort<'a,
         if let Polled::Ended(outcome) = seen {
             return Polled::Ended(self.meter.outcome(outcome));
         }
-        if let Some(limit) = self.meter.tick(bytes) {
+        let is_cancel = seen == Polled::Cancel;
+        let reached = self.meter.tick(bytes, is_cancel);
+        if let Some(limit) = reached {
             self.watch.stopped(k, limit);
-            interrupt(self.rt, self.alloc, &self.handle, k);
+        }
+        if reached.is_some() || self.interruption == Interruption::Wanted {
+            self.stop(k);
         }
         if self.meter.is_given_up() {
-            Polled::Ended(Results::Exception)
+            Polled::Ended(self.meter.given_up_result())
         } else {
             seen
         }

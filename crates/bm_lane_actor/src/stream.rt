@@ -2,6 +2,7 @@
 
 ghost use Rattle.std.specs.Io.{WritesAtMost};
 
+use crate::read_watch::{LastRead, is_drained};
 use mio::unix::SourceFd;
 use mio::{Interest, Registry, Token};
 use std::alloc::Global;
@@ -43,8 +44,8 @@ const MOST_WRITES: u32 = 10_000;
 /// - Until it has logged in, a read that met nothing is made again, until the time for a login is
 ///   over or the master ends.
 /// - Then a read waits for nothing: who reads is woken once there is more. After the time of a turn
-///   it says that nothing came, whatever comes. What was read stays with who reads, and the rest is read by the next
-///   turn.
+///   it says that nothing came, whatever comes. What was read stays with who reads, and the rest is
+///   read by the next turn.
 /// - A write fails where the worker reads too slowly. Once the master ends it has a tenth of a
 ///   second.
 /// - Once the worker is given up, each call fails.
@@ -60,8 +61,7 @@ pub struct WorkerStream<R> {
     /// How many reads gave something.
     heard: AtomicU64,
     is_given_up: AtomicBool,
-    /// Whether the last read met nothing: whoever waits is told of what comes from then on.
-    is_drained: bool,
+    last_read: LastRead,
     /// Set once the master ends.
     is_over: Arc<AtomicBool, Global>,
     /// When the turn's first read was made.
@@ -101,7 +101,7 @@ impl<R: Clock> WorkerStream<R> {
             is_logged_in: AtomicBool::new(false),
             heard: AtomicU64::new(0),
             is_given_up: AtomicBool::new(false),
-            is_drained: false,
+            last_read: LastRead::NotMade,
             is_over,
             turn_began: None,
             spent: Duration::from_secs(0),
@@ -128,9 +128,10 @@ impl<R: Clock> WorkerStream<R> {
         self.heard.load(Ordering::SeqCst)
     }
 
-    /// Whether the last read met nothing. Else there may be more, of which nobody is told.
+    /// Whether the connection had nothing more by its last read. Else there may be more, of which
+    /// nobody is told.
     pub(crate) fn is_drained(&self) -> bool {
-        self.is_drained
+        is_drained(self.last_read)
     }
 
     /// The worker is taken for dead.
@@ -241,7 +242,7 @@ impl<R: Wait + Clock> WorkerStream<R> {
 impl<R: Clock> Read for WorkerStream<R> {
     fn read(&mut self, buf: &mut [u8]) -> io::Result<usize> {
         self.spent = Duration::from_secs(0);
-        self.is_drained = false;
+        self.last_read = LastRead::NotMade;
         for _ in 0..MOST_READS {
             if self.is_ended() {
                 return Err(aborted());
@@ -252,12 +253,13 @@ impl<R: Clock> Read for WorkerStream<R> {
             match self.stream.read(buf) {
                 Ok(count) => {
                     self.heard.fetch_add(1, Ordering::SeqCst);
+                    self.last_read = LastRead::Gave;
                     return Ok(count);
                 }
                 Err(error) if self.reads_again(error.kind()) => {}
                 Err(error) => {
                     self.turn_began = None;
-                    self.is_drained = true;
+                    self.last_read = LastRead::MetNothing;
                     return Err(error);
                 }
             }

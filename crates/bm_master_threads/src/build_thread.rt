@@ -193,9 +193,12 @@ where
     let (rt, alloc, gate) = (&shared.rt, shared.alloc, &shared.drain_gate);
     let number = assignment.number as usize;
     let build = shared.config.builds.as_slice().get(number);
-    let (Some(build), Some(cancelled)) = (build, shared.cancels.get(number)) else {
+    let (Some(build), Some(cancel)) = (build, shared.cancels.get(number)) else {
         return Err(assignment.viewer);
     };
+    cancel
+        .lane
+        .store(assignment.worker as u64, Ordering::SeqCst);
     let (Ok(events), Ok(steps)) = (shared.events.copy(), shared.events.copy()) else {
         return Err(assignment.viewer);
     };
@@ -209,7 +212,7 @@ where
     // The task follows the thread, so that it isn't lost where there is none.
     let thread = scope.spawn(move || {
         if let Ok(task) = take.recv(rt) {
-            run(rt, alloc, build, task, gate, cancelled, events, steps);
+            run(rt, alloc, build, task, gate, &cancel.flag, events, steps);
         }
     });
     if thread.is_err() {
