@@ -7,9 +7,11 @@ pub mod ResumeTimer
 pub mod PeerTimer
 pub mod StepMeter
 -- LaneEvents: what is told of a lane, and what follows. Login: what a connection is once it has
--- logged in. LoginRefusals: why another one was not taken up.
+-- logged in. LoginFates: what becomes of it at a lane that is up. LoginRefusals: why another one was
+-- not taken up.
 pub mod LaneEvents
 pub mod Login
+pub mod LoginFates
 pub mod LoginRefusals
 -- Ports: what a build's port to a lane is, and answers. ByteCount: how many bytes an update
 -- carries.

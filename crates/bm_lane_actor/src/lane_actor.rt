@@ -28,7 +28,7 @@ use std::time::{Clock, Duration, Instant};
 const GLANCE_MS: u64 = 5_000;
 
 /// How long, where another link waits for a sign of life.
-const WANTED_GLANCE_MS: u64 = 500;
+const WANTED_GLANCE_MS: u64 = 100;
 
 /// The most bytes that the arena of a lane's messages takes, and what it keeps after a message.
 const MOST_ARENA_BYTES: usize = 32 * 1_048_576;

@@ -3,6 +3,7 @@
 use crate::connection_state::ConnectionState;
 use crate::lane_actor::LaneActor;
 use crate::lane_event::{EventSink, LaneEvent};
+use crate::login_fate::{LoginFate, WaitingFate, login_fate, waiting_fate};
 use crate::peer_timer::{PeerAction, PeerTimer};
 use crate::stream::WorkerStream;
 use bm_lane::Yard;
@@ -45,7 +46,8 @@ where
     }
 
     /// Asks a silent worker for a sign of life. Where it is taken for dead, and nothing of it waits
-    /// to be read, its link fails at once. Then another link waits no longer.
+    /// to be read, its link fails at once. Then another link waits no longer. One whose peer has left
+    /// is let go.
     pub(crate) fn watch(&mut self) {
         let mut action = self.peer_action();
         if action == PeerAction::GiveUp {
@@ -63,10 +65,20 @@ where
             }
         }
         let is_wanted = action == PeerAction::Nothing && self.peer.is_wanted();
-        if !is_wanted || self.state.connection() != ConnectionState::Up {
-            if let Some(link) = self.waiting.take() {
-                self.admit(link);
-            }
+        let is_awaited = is_wanted && self.state.connection() == ConnectionState::Up;
+        self.look_at_waiting(is_awaited);
+    }
+
+    /// Goes on with a link that waits. `is_awaited`: it isn't known yet whether the worker of the
+    /// lane's link lives.
+    fn look_at_waiting(&mut self, is_awaited: bool) {
+        let Some(link) = self.waiting.take() else {
+            return;
+        };
+        match waiting_fate(is_awaited, link.get_ref().has_left()) {
+            WaitingFate::Admit => self.admit(link),
+            WaitingFate::Wait => self.waiting = Some(link),
+            WaitingFate::Drop => {}
         }
     }
 
@@ -77,18 +89,34 @@ where
     }
 
     /// A link comes. Where the lane is up it is looked first whether that still holds. Then its
-    /// worker is asked for a sign of life, and the link waits for that.
+    /// worker is asked for a sign of life, and the link waits for that. A second link of the lane's
+    /// own worker, which has left those before, waits in the place of the first.
     pub(crate) fn attach(&mut self, link: MasterLink<WorkerStream<R>>) {
         if self.state.connection() == ConnectionState::Up {
             self.turn();
             self.watch();
         }
-        if self.state.connection() != ConnectionState::Up || self.waiting.is_some() {
-            return self.admit(link);
+        let is_up = self.state.connection() == ConnectionState::Up;
+        match login_fate(is_up, self.waiting.is_some(), self.state.names_kept(&link)) {
+            LoginFate::Admit => self.admit(link),
+            LoginFate::Wait => {
+                self.ask();
+                let now = self.now();
+                self.peer.want(now);
+                self.waiting = Some(link);
+            }
+            LoginFate::TakePlace => self.take_place(link),
         }
-        self.ask();
-        let now = self.now();
-        self.peer.want(now);
+    }
+
+    /// A link of the lane's own worker waits in the place of the one that does. Another worker's is
+    /// told that the lane is up.
+    fn take_place(&mut self, link: MasterLink<WorkerStream<R>>) {
+        if let Some(first) = self.waiting.take() {
+            if !self.state.names_kept(&first) {
+                self.admit(first);
+            }
+        }
         self.waiting = Some(link);
     }
 

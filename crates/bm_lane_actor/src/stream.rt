@@ -134,6 +134,16 @@ impl<R: Clock> WorkerStream<R> {
         is_drained(self.last_read)
     }
 
+    /// Whether the peer has closed the connection, or it has failed, and nothing of it is left to
+    /// read. One that has logged in is not waited for.
+    pub(crate) fn has_left(&self) -> bool {
+        let mut byte = [0u8; 1];
+        match self.stream.peek(&mut byte) {
+            Ok(count) => count == 0,
+            Err(error) => error.kind() != ErrorKind::Interrupted && !meets_nothing(error.kind()),
+        }
+    }
+
     /// The worker is taken for dead.
     pub(crate) fn give_up(&self) {
         self.is_given_up.store(true, Ordering::SeqCst);

@@ -31,13 +31,17 @@ fn refuse<Y: Yard, R: Wait + Clock + Drop>(
 }
 
 // Serves a connection up to its login, and tells the coordinator where that is refused.
-fn welcome<Y, R>(shared: &SharedState<Y, R>, stream: WorkerStream<R>, from: SocketAddr)
+fn welcome<Y, R>(
+    shared: &SharedState<Y, R>,
+    stream: WorkerStream<R>,
+    from: SocketAddr,
+    began: Option<Instant>,
+)
 where
     Y: Yard + Send + Sync,
     R: Wait + Clock + Copy + Drop,
 {
     let rt = &shared.rt;
-    let began = Instant::now(rt).ok();
     let (users, lanes) = (shared.users.as_slice(), shared.lanes.as_slice());
     let mut name = None;
     let sockets = &shared.sockets.connections;
@@ -68,10 +72,13 @@ where
     if !shared.logins.enter(rt) {
         return refuse(shared, from, LoginRefusal::Crowded);
     }
+    // Before the time for the login begins, so that one which ran out is told as that, however late
+    // its thread starts.
+    let began = Instant::now(rt).ok();
     let stream = WorkerStream::new(*rt, stream, from, is_over);
     let thread = scope.spawn(move || {
         let stream = stream;
-        welcome(shared, stream, from);
+        welcome(shared, stream, from, began);
         shared.logins.leave(rt);
     });
     if thread.is_err() {
