@@ -55,13 +55,6 @@ impl ByteCounts {
         }
     }
 
-    /// Whether there is no such command.
-    pub fn is_empty(&self) -> bool
-        ensures { result ≡ not (nat_lt 0 (length self.now.commands.items)) }
-    {
-        self.commands.is_empty()
-    }
-
     /// Makes room for one command more. Want of memory changes nothing.
     pub fn reserve(&mut self) -> Result<(), AllocError>
         ensures commands { self.new.commands.items ≡ self.old.commands.items }
@@ -89,10 +82,10 @@ impl ByteCounts {
         self.commands.retain(|counted| command != counted.command);
     }
 
-    /// The worker said this.
-    pub fn note(&self, event: &Event) {
+    /// The worker said this. The answer is whether it said lines alone, by which no command ends.
+    pub fn note(&self, event: &Event) -> bool {
         let Event::In(_, Body::Update { command, batch, .. }) = event else {
-            return;
+            return false;
         };
         for counted in self.commands.iter() {
             if counted.command == *command {
@@ -100,5 +93,6 @@ impl ByteCounts {
                 counted.bytes.fetch_add(bytes, Ordering::SeqCst);
             }
         }
+        true
     }
 }

@@ -14,6 +14,8 @@ pub enum OrderOutcome {
     Started(u64),
     /// The command was interrupted.
     Interrupted,
+    /// Nothing was done: the build was cancelled before the lane took the order.
+    Cancelled,
     /// Nothing was done, and it may be tried again: the lane is cut and may be resumed, or it is
     /// busy.
     Later,

@@ -109,6 +109,9 @@ where
         match event {
             MasterEvent::Step(step) => return self.hear_step(&step),
             MasterEvent::Refused(refused) => return self.hear_refused(&refused),
+            MasterEvent::Cancelling(build) => {
+                return self.remark(&Remark::BuildCancelled { build });
+            }
             MasterEvent::Paused => return self.remark(&Remark::AcceptingPaused),
             MasterEvent::Lane(worker, event) => self.hear_lane(worker, event),
             MasterEvent::Ended(build) => self.hear_build(build),

@@ -71,7 +71,8 @@ where
         self.ends(number, result.unwrap_or(Results::Retry), viewer);
     }
 
-    /// Cancels a build, where it has not ended.
+    /// Cancels a build, where it has not ended. A running one is called, and tells itself that it
+    /// obeys.
     pub fn cancel(&mut self, number: u64) {
         match self.queue.cancel(number) {
             Cancelled::Waiting => self.remark(&Remark::BuildEnded {
@@ -79,10 +80,11 @@ where
                 result: Results::Cancelled,
             }),
             Cancelled::Running => {
-                if let Some(cancelled) = self.shared.cancels.get(number as usize) {
-                    cancelled.store(true, Ordering::SeqCst);
+                if let Some(cancel) = self.shared.cancels.get(number as usize) {
+                    cancel.flag.store(true, Ordering::SeqCst);
+                    let lane = cancel.lane.load(Ordering::SeqCst) as usize;
+                    self.shared.drain_gate.call_builds(lane);
                 }
-                self.remark(&Remark::BuildCancelled { build: number });
             }
             Cancelled::Nothing => {}
         }

@@ -25,6 +25,7 @@ mod remarks;
 mod serving;
 mod setup;
 mod shared_state;
+mod sockets;
 mod threads;
 mod web;
 mod worker_entry;
