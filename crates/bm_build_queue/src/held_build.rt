@@ -72,7 +72,8 @@ impl<Y: Yard> HeldBuild<Y> {
         self.ended < self.commands.len()
     }
 
-    /// Looks whether the first of its commands that may be open has ended. False where none is left.
+    /// Looks whether the first of its commands that may be open has ended. False where none is
+    /// left.
     pub fn look(&mut self) -> bool
         ensures none { slice_get self.old.commands self.old.ended ≡ None
             → (self.new ≡ self.old) × (result ≡ false) }

@@ -324,6 +324,9 @@ where
             | OrderOutcome::Refused
             | OrderOutcome::TooLong => {}
         }
+        // What a start waits for is said by the worker: starts that are tried again don't keep the
+        // actor from hearing it.
+        self.is_lively = true;
         self.note(before, LossCause::Stream);
         let _ = answer.send(self.rt, outcome);
     }
