@@ -53,6 +53,7 @@ where
             OrderOutcome::Later => self.wait_while_up(took),
             OrderOutcome::Interrupted
             | OrderOutcome::Cancelled
+            | OrderOutcome::Crowded
             | OrderOutcome::Refused
             | OrderOutcome::TooLong => {}
         }

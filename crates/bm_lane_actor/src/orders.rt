@@ -100,6 +100,7 @@ fn start_refusal(outcome: OrderOutcome) -> StartRefusal
         OrderOutcome::Started(_)
         | OrderOutcome::Interrupted
         | OrderOutcome::Later
+        | OrderOutcome::Crowded
         | OrderOutcome::Refused => StartRefusal::Lost,
     }
 }
@@ -129,7 +130,9 @@ pub(crate) fn start<S: Drop, R: Wait + Clock + Drop>(
         let calls = gate.calls(place);
         match try_start(rt, alloc, handle, step, cancelled, bytes) {
             Some(OrderOutcome::Started(command)) => return Ok(command),
-            Some(OrderOutcome::Later) => gate.wait_for_call(place, calls, tick),
+            Some(OrderOutcome::Later | OrderOutcome::Crowded) => gate.wait_for_call(
+                place, calls, tick,
+            ),
             Some(outcome) => return Err(start_refusal(outcome)),
             None => return Err(StartRefusal::Memory),
         }
