@@ -9,7 +9,7 @@ use bm_lane_actor::{CancelFlag, DrainGate, LaneHandle, LoginLimit, WorkerStream}
 use bm_lanes::users_of;
 use bm_link::User;
 use std::alloc::{AllocError, Global};
-use std::sync::atomic::{AtomicBool, AtomicU64};
+use std::sync::atomic::{AtomicBool, AtomicU64, Ordering};
 use std::sync::{Arc, Mutex, Wait};
 use std::time::Clock;
 
@@ -19,7 +19,20 @@ pub struct BuildCancel {
     /// Set by the coordinator, cleared by the build once a step has ended by it.
     pub flag: CancelFlag,
     /// The number of the lane on which the build runs, once it does.
-    pub lane: AtomicU64,
+    lane: AtomicU64,
+}
+
+impl BuildCancel {
+    /// The build begins on this lane.
+    pub fn begins(&self, lane: usize) {
+        self.lane.store(lane as u64, Ordering::SeqCst);
+    }
+
+    /// The build is to be cancelled. The answer is the lane on which it runs.
+    pub fn set(&self) -> usize {
+        self.flag.store(true, Ordering::SeqCst);
+        self.lane.load(Ordering::SeqCst) as usize
+    }
 }
 
 /// What all threads of a master share. Each list is in the order of the lanes, but for `cancels`.
