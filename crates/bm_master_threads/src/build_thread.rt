@@ -201,12 +201,7 @@ where
     R: Wait + Clock + Threads + Drop + Send + Sync + 's,
 {
     let (rt, alloc, gate) = (&shared.rt, shared.alloc, &shared.drain_gate);
-    let build = shared
-        .config
-        .builds
-        .as_slice()
-        .get(assignment.number as usize);
-    let (Some(build), Some(cancel)) = (build, shared.cancels.get(assignment.number as usize)) else {
+    let Some((build, cancel)) = shared.build(assignment.number) else {
         return Err(assignment.viewer);
     };
     cancel.begins(assignment.worker);

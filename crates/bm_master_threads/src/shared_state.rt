@@ -3,6 +3,7 @@
 use crate::events::EventSender;
 use crate::sockets::SocketRegistry;
 use crate::web::WebStop;
+use bm_board::Build;
 use bm_config::Config;
 use bm_lane::{WriterEnd, Yard};
 use bm_lane_actor::{CancelFlag, DrainGate, LaneHandle, LoginLimit, WorkerStream};
@@ -97,6 +98,14 @@ impl<Y: Yard, R: Wait + Clock + Copy + Drop> SharedState<Y, R> {
             is_over,
             web_stop: WebStop::new(),
         })
+    }
+}
+
+impl<Y: Yard, R: Wait + Clock + Drop> SharedState<Y, R> {
+    /// The build of this number, and by what it is cancelled.
+    pub fn build(&self, number: u64) -> Option<(&Build, &BuildCancel)> {
+        let build = self.config.builds.as_slice().get(number as usize)?;
+        Some((build, self.cancels.get(number as usize)?))
     }
 }
 
