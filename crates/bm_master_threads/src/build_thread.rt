@@ -46,6 +46,24 @@ struct StepReporter<'s, Y: Yard, R: Wait + Clock> {
 }
 
 impl<'s, Y: Yard, R: Wait + Clock> StepReporter<'s, Y, R> {
+    // Tells of the steps of this build, of which nothing happened yet.
+    fn new(
+        rt: &'s R,
+        events: EventSender<Y>,
+        build: u64,
+        cancelled: &'s CancelFlag,
+    ) -> StepReporter<'s, Y, R> {
+        StepReporter {
+            rt,
+            events,
+            build,
+            name: None,
+            is_stopped: false,
+            is_told: false,
+            cancelled,
+        }
+    }
+
     // The cancel has ended its step: the next is another one.
     fn obeyed(&mut self) {
         self.is_told = false;
@@ -131,15 +149,7 @@ where
         viewer,
         lane,
     } = task;
-    let reporter = StepReporter {
-        rt,
-        events: steps,
-        build: number,
-        name: None,
-        is_stopped: false,
-        is_told: false,
-        cancelled,
-    };
+    let reporter = StepReporter::new(rt, steps, number, cancelled);
     let mut port = LanePort::over(rt, alloc, viewer, lane, gate, cancelled, reporter);
     let result = match run_build(alloc, build, &mut port, TURNS) {
         Ok(report) => Some(report.result),
@@ -191,14 +201,10 @@ where
     R: Wait + Clock + Threads + Drop + Send + Sync + 's,
 {
     let (rt, alloc, gate) = (&shared.rt, shared.alloc, &shared.drain_gate);
-    let number = assignment.number as usize;
-    let build = shared.config.builds.as_slice().get(number);
-    let (Some(build), Some(cancel)) = (build, shared.cancels.get(number)) else {
+    let Some((build, cancel)) = shared.build(assignment.number) else {
         return Err(assignment.viewer);
     };
-    cancel
-        .lane
-        .store(assignment.worker as u64, Ordering::SeqCst);
+    cancel.begins(assignment.worker);
     let (Ok(events), Ok(steps)) = (shared.events.copy(), shared.events.copy()) else {
         return Err(assignment.viewer);
     };
@@ -209,7 +215,7 @@ where
         Ok(task) => task,
         Err(assignment) => return Err(assignment.viewer),
     };
-    // The task follows the thread, so that it isn't lost where there is none.
+    // The task follows the thread, so that it isn't lost.
     let thread = scope.spawn(move || {
         if let Ok(task) = take.recv(rt) {
             run(rt, alloc, build, task, gate, &cancel.flag, events, steps);

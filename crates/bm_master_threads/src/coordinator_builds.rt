@@ -9,7 +9,6 @@ use bm_lane::{Viewer, Yard};
 use bm_operator::{OutputLine, Remark};
 use bm_session::Results;
 use std::io::Write;
-use std::sync::atomic::Ordering;
 use std::thread::Scope;
 
 impl<'s, Y, R, O> Coordinator<'s, Y, R, O>
@@ -112,9 +111,7 @@ where
             }),
             Cancelled::Running => {
                 if let Some(cancel) = self.shared.cancels.get(number as usize) {
-                    cancel.flag.store(true, Ordering::SeqCst);
-                    let lane = cancel.lane.load(Ordering::SeqCst) as usize;
-                    self.shared.drain_gate.call_builds(lane);
+                    self.shared.drain_gate.call_builds(cancel.set());
                 }
             }
             Cancelled::Nothing => {}

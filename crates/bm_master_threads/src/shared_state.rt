@@ -3,13 +3,14 @@
 use crate::events::EventSender;
 use crate::sockets::SocketRegistry;
 use crate::web::WebStop;
+use bm_board::Build;
 use bm_config::Config;
 use bm_lane::{WriterEnd, Yard};
 use bm_lane_actor::{CancelFlag, DrainGate, LaneHandle, LoginLimit, WorkerStream};
 use bm_lanes::users_of;
 use bm_link::User;
 use std::alloc::{AllocError, Global};
-use std::sync::atomic::{AtomicBool, AtomicU64};
+use std::sync::atomic::{AtomicBool, AtomicU64, Ordering};
 use std::sync::{Arc, Mutex, Wait};
 use std::time::Clock;
 
@@ -19,7 +20,20 @@ pub struct BuildCancel {
     /// Set by the coordinator, cleared by the build once a step has ended by it.
     pub flag: CancelFlag,
     /// The number of the lane on which the build runs, once it does.
-    pub lane: AtomicU64,
+    lane: AtomicU64,
+}
+
+impl BuildCancel {
+    /// The build begins on this lane.
+    pub fn begins(&self, lane: usize) {
+        self.lane.store(lane as u64, Ordering::SeqCst);
+    }
+
+    /// The build is to be cancelled. The answer is the lane on which it runs.
+    pub fn set(&self) -> usize {
+        self.flag.store(true, Ordering::SeqCst);
+        self.lane.load(Ordering::SeqCst) as usize
+    }
 }
 
 /// What all threads of a master share. Each list is in the order of the lanes, but for `cancels`.
@@ -84,6 +98,14 @@ impl<Y: Yard, R: Wait + Clock + Copy + Drop> SharedState<Y, R> {
             is_over,
             web_stop: WebStop::new(),
         })
+    }
+}
+
+impl<Y: Yard, R: Wait + Clock + Drop> SharedState<Y, R> {
+    /// The build of this number, and by what it is cancelled.
+    pub fn build(&self, number: u64) -> Option<(&Build, &BuildCancel)> {
+        let build = self.config.builds.as_slice().get(number as usize)?;
+        Some((build, self.cancels.get(number as usize)?))
     }
 }
 

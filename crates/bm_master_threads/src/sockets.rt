@@ -18,13 +18,16 @@ const MOST_EVENTS: usize = 256;
 /// Where the acceptor waits.
 #[derive(Drop)]
 pub struct SocketEvents {
+    /// Where it waits.
     pub poll: Poll,
+    /// What had come when it last woke.
     pub events: Events<Global>,
 }
 
 /// By what others have the acceptor woken.
 #[derive(Drop)]
 pub struct SocketRegistry {
+    /// Where a connection is put whose arrivals are to be told.
     pub connections: Registry,
     waker: Waker,
 }
