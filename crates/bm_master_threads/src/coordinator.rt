@@ -110,6 +110,7 @@ where
             MasterEvent::Step(step) => return self.hear_step(&step),
             MasterEvent::Refused(refused) => return self.hear_refused(&refused),
             MasterEvent::Paused => return self.remark(&Remark::AcceptingPaused),
+            MasterEvent::Misread => return self.remark(&Remark::InputUnknown),
             MasterEvent::Lane(worker, event) => self.hear_lane(worker, event),
             MasterEvent::Ended(build) => self.hear_build(build),
             MasterEvent::Cancel(number) => self.cancel(number),

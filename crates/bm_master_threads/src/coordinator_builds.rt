@@ -84,7 +84,11 @@ where
                 }
                 self.remark(&Remark::BuildCancelled { build: number });
             }
-            Cancelled::Nothing => {}
+            Cancelled::Nothing => {
+                if number >= self.queue.builds() {
+                    self.remark(&Remark::BuildMissing { build: number });
+                }
+            }
         }
     }
 

@@ -18,6 +18,7 @@ mod coordinator_remarks;
 mod coordinator_workers;
 mod ending;
 mod events;
+mod first_remarks;
 mod host;
 mod input;
 mod lane_threads;

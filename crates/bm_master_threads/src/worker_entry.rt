@@ -15,6 +15,8 @@ use std::process::{Processes, SystemProcess};
 pub struct WorkerEntry {
     state: WorkerState,
     process: Option<WorkerProcess>,
+    /// Whether it was told to shut down since its last login.
+    is_dismissed: bool,
 }
 
 impl WorkerEntry {
@@ -28,12 +30,14 @@ impl WorkerEntry {
             return Ok(WorkerEntry {
                 state: WorkerState::plain(),
                 process: None,
+                is_dismissed: false,
             });
         };
         let words = Words::from_vec(place_master(alloc, words.as_slice(), master)?);
         Ok(WorkerEntry {
             state: WorkerState::latent(worker.idle_ticks.max(1)),
             process: Some(WorkerProcess::new(words)),
+            is_dismissed: false,
         })
     }
 
@@ -72,6 +76,22 @@ impl WorkerEntry {
             Some(process) => process.has_ended(),
             None => false,
         }
+    }
+
+    /// It is told to shut down.
+    pub fn dismiss(&mut self) {
+        self.is_dismissed = true;
+        self.must_end();
+    }
+
+    /// It logs in.
+    pub fn is_back(&mut self) {
+        self.is_dismissed = false;
+    }
+
+    /// Whether it was told to shut down since its last login.
+    pub fn is_dismissed(&self) -> bool {
+        self.is_dismissed
     }
 
     /// Its process is to end: it has some time for that before it is asked to, and then killed.

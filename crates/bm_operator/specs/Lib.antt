@@ -7,6 +7,7 @@ pub mod ProgramWords
 pub mod OneLine
 pub mod Reasons
 pub mod OutputLine
+pub mod Told
 pub mod Remark
 pub mod StepEvents
 pub mod Exit

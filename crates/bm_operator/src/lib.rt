@@ -12,6 +12,7 @@
 
 mod cancel;
 mod exit;
+mod field;
 mod log_id;
 mod names;
 mod output_line;
@@ -19,6 +20,7 @@ mod program_words;
 mod rate_limit;
 mod reasons;
 mod remark;
+mod remark_told;
 mod step_event;
 
 pub use cancel::read_cancel;
