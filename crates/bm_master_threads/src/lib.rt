@@ -15,6 +15,7 @@ mod build_thread;
 mod coordinator;
 mod coordinator_builds;
 mod coordinator_remarks;
+mod coordinator_waits;
 mod coordinator_workers;
 mod ending;
 mod events;

@@ -13,3 +13,5 @@ pub mod StepEvents
 pub mod Exit
 -- How many lines a second are let through.
 pub mod RateLimit
+-- When it is told that something waits.
+pub mod WaitNotice
