@@ -114,7 +114,11 @@ where
                     self.shared.drain_gate.call_builds(cancel.set());
                 }
             }
-            Cancelled::Nothing => {}
+            Cancelled::Nothing => {
+                if number >= self.queue.builds() {
+                    self.remark(&Remark::BuildMissing { build: number });
+                }
+            }
         }
     }
 

@@ -35,8 +35,13 @@ impl InputLine {
         }
     }
 
-    // Begins the next line. The answer is the build that this one cancels, if it cancels one.
-    fn end(&mut self) -> Option<u64> {
+    // Whether nothing of it was read.
+    fn is_empty(&self) -> bool {
+        self.is_whole && self.bytes.is_empty()
+    }
+
+    // Begins the next line. The answer is what this one asks for.
+    fn end<Y: Yard>(&mut self) -> MasterEvent<Y> {
         let cancelled = if self.is_whole {
             read_cancel(self.bytes.as_slice())
         } else {
@@ -44,11 +49,14 @@ impl InputLine {
         };
         self.bytes.clear();
         self.is_whole = true;
-        cancelled
+        match cancelled {
+            Some(number) => MasterEvent::Cancel(number),
+            None => MasterEvent::Misread,
+        }
     }
 }
 
-// Tells of each build that a line of the input cancels, until the input ends or can't be read.
+// Tells what each line of the input asks for, until the input ends or can't be read.
 fn read_input<I, Y, R>(rt: &R, alloc: Global, input: I, events: &EventSender<Y>)
 where
     I: Read + Drop,
@@ -68,13 +76,13 @@ where
         for byte in &piece[..count] {
             if *byte != b'\n' {
                 line.push(*byte);
-            } else if let Some(number) = line.end() {
-                events.tell(rt, MasterEvent::Cancel(number));
+            } else {
+                events.tell(rt, line.end());
             }
         }
     }
-    if let Some(number) = line.end() {
-        events.tell(rt, MasterEvent::Cancel(number));
+    if !line.is_empty() {
+        events.tell(rt, line.end());
     }
 }
 
