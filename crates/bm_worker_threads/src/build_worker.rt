@@ -21,8 +21,6 @@ pub struct BuildWorker<S, K> {
     pub(crate) session: WorkerSession<S, K>,
     pub(crate) processes: Processes,
     pub(crate) tries: Tries,
-    /// Whether a login was answered.
-    pub(crate) is_known: bool,
 }
 
 impl<S: Read + Write + Drop, K: MaskKeys + Drop> BuildWorker<S, K> {
@@ -32,7 +30,6 @@ impl<S: Read + Write + Drop, K: MaskKeys + Drop> BuildWorker<S, K> {
             session: WorkerSession::new(alloc),
             processes: Processes::new(alloc)?,
             tries: Tries::new(),
-            is_known: false,
         })
     }
 

@@ -23,6 +23,7 @@ mod run;
 mod running_command;
 mod session;
 mod socket_watch;
+mod spare_threads;
 
 pub use arguments::{Arguments, USAGE, read_arguments, words};
 pub use mailbox::{PipeEvent, ProcessEvent, WorkerMail};

@@ -10,7 +10,9 @@ use crate::host::Host;
 use crate::processes::Processes;
 use crate::ready_stream::ReadyStream;
 use crate::socket_watch::SocketWatch;
-use bm_link::WorkerLink;
+use crate::spare_threads::has_threads;
+use bm_link::{LinkFault, WorkerLink};
+use bm_outbox::ConnectFault;
 use std::alloc::{AllocGlobal, Global};
 use std::io::{Read, Write};
 use std::net::{OpenStream, Shutdown};
@@ -20,14 +22,8 @@ use std::sync::atomic::AtomicU64;
 use std::sync::{Arc, Wait};
 use std::thread;
 use std::thread::Threads;
-use std::time::{Clock, Duration};
+use std::time::{Clock, Duration, Instant};
 use tungstenite::RandomKeys;
-
-/// How long the worker waits before it connects again.
-const TICK_MS: u64 = 10;
-
-/// For how long a try to connect again goes on once a login was answered.
-const RETRY_LIMIT_SECONDS: u64 = 1;
 
 /// The most reads of a login.
 const LOGIN_READS: u64 = 1_000;
@@ -50,14 +46,14 @@ pub struct Login<'a> {
 type LinkedWorker<S, R> = BuildWorker<ReadyStream<S>, RandomKeys<R>>;
 
 /// Works for the master that `dial` connects with, and answers the exit status. It is 0 after a
-/// shutdown or a close frame, and 1 after 10 failed tries to connect again or want of memory.
-/// `dial` is told for how long it may try, and answers None for a failed try. A read of its
-/// streams is to wait for some seconds at the most, since a login waits for its answer. All
-/// commands are killed at the end.
+/// shutdown or a close frame, and 1 after 10 failed tries to connect again or want of memory. It is
+/// 1 at once where the threads of a command can't be started. `dial` connects once, and answers
+/// None where that fails. A read of its streams is to wait for some seconds at the most, since a
+/// login waits for its answer. All commands are killed at the end.
 pub fn work_run<S, D, R>(rt: &R, dial: D, name: &str, password: &str, session: Option<&str>) -> u8
 where
     S: Read + Write + OpenStream + Drop + Send + 'static,
-    D: FnMut(Duration) -> Option<S>,
+    D: FnMut() -> Option<S>,
     R: Wait
         + Threads
         + Clock
@@ -69,7 +65,7 @@ where
         + Send
         + Sync
         + 'static,
-    requires dials { (state : _) (limit : _) → D.pre state limit }
+    requires dials { (state : _) → D.pre state }
     requires short { AreShort (name.now ∷ password.now ∷ []) }
 {
     let alloc = rt.alloc();
@@ -78,6 +74,9 @@ where
         password,
         session,
     };
+    if !has_threads(rt, alloc) {
+        return GIVEN_UP;
+    }
     let Ok(mut worker) = BuildWorker::new(alloc) else {
         return GIVEN_UP;
     };
@@ -97,36 +96,52 @@ fn work_on<S, D, R>(
 ) -> u8
 where
     S: Read + Write + OpenStream + Drop + Send + 'static,
-    D: FnMut(Duration) -> Option<S>,
+    D: FnMut() -> Option<S>,
     R: Host + RandomSource + Drop,
-    requires dials { (state : _) (limit : _) → D.pre state limit }
+    requires dials { (state : _) → D.pre state }
     requires short { AreShort (login.name.now ∷ login.password.now ∷ []) }
 {
-    let mut limit = Duration::ZERO;
+    let begun = Instant::now(rt).ok();
     let mut number = 0u64;
     for _ in rt.forever() {
         number = number.wrapping_add(1);
-        let end = match dial(limit) {
+        let end = match dial() {
             Some(stream) => connected(rt, alloc, worker, number, stream, login),
             None => ConnectionEnd::Lost,
         };
-        match end {
+        let why = match end {
             ConnectionEnd::Shutdown | ConnectionEnd::Closed => return DONE,
             ConnectionEnd::NoMemory => return GIVEN_UP,
-            ConnectionEnd::Lost => {}
-        }
-        if worker.is_known {
-            limit = Duration::from_secs(RETRY_LIMIT_SECONDS);
-        }
-        if !worker.tries.again() {
+            ConnectionEnd::Refused => ConnectFault::Refused,
+            ConnectionEnd::Lost => ConnectFault::NoAnswer,
+        };
+        let Some(pause) = worker.tries.again(why, millis_since(rt, begun)) else {
             return GIVEN_UP;
-        }
-        thread::sleep(rt, Duration::from_millis(TICK_MS));
+        };
+        thread::sleep(rt, Duration::from_millis(pause));
     }
     unreachable!()
 }
 
-/// Logs in over a stream, and serves the connection to its end.
+/// How many milliseconds have passed since then. Where the clock fails no time is left for a try.
+fn millis_since<R: Clock>(rt: &R, begun: Option<Instant>) -> u64 {
+    let Some(begun) = begun else {
+        return u64::MAX;
+    };
+    match begun.elapsed(rt) {
+        Ok(elapsed) => whole_millis(elapsed),
+        Err(_) => u64::MAX,
+    }
+}
+
+/// The milliseconds of a time.
+fn whole_millis(time: Duration) -> u64 {
+    let seconds = time.as_secs().saturating_mul(1_000);
+    seconds.saturating_add(u64::from(time.subsec_millis()))
+}
+
+/// Logs in over a stream, and serves the connection to its end. The connection's thread is there
+/// before the login, so that a worker without it is given no builds.
 fn connected<S, R>(
     rt: &R,
     alloc: Global,
@@ -143,17 +158,19 @@ where
     let Some((connection, ready, watch)) = watched(alloc, &worker.processes, number, stream) else {
         return ConnectionEnd::Lost;
     };
-    let joined = WorkerLink::connect(alloc, *rt, ready, login.name, login.password, login.session);
-    let Ok((link, attached)) = joined else {
-        return ConnectionEnd::Lost;
-    };
-    connection.allow_reads(0);
-    worker.is_known = true;
     let handle = *rt;
     // It ends once the stream is shut down and nobody can ask it any more.
     if thread::spawn(rt, move || watch.run(&handle)).is_err() {
         return ConnectionEnd::Lost;
     }
+    let (name, password, session) = (login.name, login.password, login.session);
+    let (link, attached) = match WorkerLink::connect(alloc, *rt, ready, name, password, session) {
+        Ok(joined) => joined,
+        Err(LinkFault::BadLogin) => return ConnectionEnd::Refused,
+        Err(_) => return ConnectionEnd::Lost,
+    };
+    connection.allow_reads(0);
+    worker.tries.answered();
     let (end, link) = worker.serve(rt, alloc, &connection, link, attached);
     if let Some(mut link) = link {
         if end == ConnectionEnd::Shutdown {

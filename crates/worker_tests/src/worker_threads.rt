@@ -91,7 +91,7 @@ where
 {
     let worker = thread::spawn(&rt, move || {
         let mut is_first = true;
-        let dial = |_: Duration| {
+        let dial = || {
             let stream = if is_first { dial(&rt, address) } else { None };
             is_first = false;
             stream
