@@ -43,7 +43,6 @@ const GIVEN_UP: u8 = 1;
 pub struct Login<'a> {
     pub name: &'a str,
     pub password: &'a str,
-    pub session: Option<&'a str>,
 }
 
 /// A worker whose links are over streams that are read where they are ready.
@@ -73,12 +72,8 @@ where
     requires short { AreShort (name.now ∷ password.now ∷ []) }
 {
     let alloc = rt.alloc();
-    let login = Login {
-        name,
-        password,
-        session,
-    };
-    let Ok(mut worker) = BuildWorker::new(alloc) else {
+    let login = Login { name, password };
+    let Ok(mut worker) = BuildWorker::new(alloc, session) else {
         return GIVEN_UP;
     };
     let status = work_on(rt, alloc, &mut worker, dial, login);
@@ -98,7 +93,7 @@ fn work_on<S, D, R>(
 where
     S: Read + Write + OpenStream + Drop + Send + 'static,
     D: FnMut(Duration) -> Option<S>,
-    R: Host + RandomSource + Drop,
+    R: Host + RandomSource + AllocGlobal + Drop,
     requires dials { (state : _) (limit : _) → D.pre state limit }
     requires short { AreShort (login.name.now ∷ login.password.now ∷ []) }
 {
@@ -137,24 +132,26 @@ fn connected<S, R>(
 ) -> ConnectionEnd
 where
     S: Read + Write + OpenStream + Drop + Send + 'static,
-    R: Host + RandomSource + Drop,
+    R: Host + RandomSource + AllocGlobal + Drop,
     requires { AreShort (login.name.now ∷ login.password.now ∷ []) }
 {
     let Some((connection, ready, watch)) = watched(alloc, &worker.processes, number, stream) else {
         return ConnectionEnd::Lost;
     };
-    let joined = WorkerLink::connect(alloc, *rt, ready, login.name, login.password, login.session);
-    let Ok((link, attached)) = joined else {
-        return ConnectionEnd::Lost;
-    };
-    connection.allow_reads(0);
-    worker.is_known = true;
     let handle = *rt;
     // It ends once the stream is shut down and nobody can ask it any more.
     if thread::spawn(rt, move || watch.run(&handle)).is_err() {
         return ConnectionEnd::Lost;
     }
-    let (end, link) = worker.serve(rt, alloc, &connection, link, attached);
+    let Ok(link) = WorkerLink::open(alloc, *rt, ready) else {
+        return ConnectionEnd::Lost;
+    };
+    let Ok(attached) = worker.log_in(rt, alloc, link, login.name, login.password) else {
+        return ConnectionEnd::Lost;
+    };
+    connection.allow_reads(0);
+    worker.is_known = true;
+    let (end, link) = worker.serve(rt, alloc, &connection, attached);
     if let Some(mut link) = link {
         if end == ConnectionEnd::Shutdown {
             close(rt, &mut link);
