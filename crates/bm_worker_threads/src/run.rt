@@ -6,11 +6,14 @@ ghost use Rattle.bm_link.specs.Texts.{AreShort};
 use crate::build_worker::BuildWorker;
 use crate::closing::close;
 use crate::connection::{Connection, ConnectionEnd};
+use crate::elapsed::millis_since;
 use crate::host::Host;
+use crate::marks::Marks;
 use crate::processes::Processes;
 use crate::ready_stream::ReadyStream;
 use crate::socket_watch::SocketWatch;
 use crate::spare_threads::has_threads;
+use crate::sweeping::Sweeper;
 use bm_link::{LinkFault, WorkerLink};
 use bm_outbox::ConnectFault;
 use std::alloc::{AllocGlobal, Global};
@@ -18,6 +21,7 @@ use std::io::{Read, Write};
 use std::net::{OpenStream, Shutdown};
 use std::process::{Processes as StartsProcesses, SystemProcess};
 use std::random::RandomSource;
+use std::rt::{Env, Files};
 use std::sync::atomic::AtomicU64;
 use std::sync::{Arc, Wait};
 use std::thread;
@@ -48,7 +52,8 @@ type LinkedWorker<S, R> = BuildWorker<ReadyStream<S>, RandomKeys<R>>;
 /// shutdown or a close frame, and 1 after 10 failed tries to connect again or want of memory. It is
 /// 1 at once where the threads of a command can't be started. `dial` connects once, and answers
 /// None where that fails. A read of its streams is to wait for some seconds at the most, since a
-/// login waits for its answer. All commands are killed at the end.
+/// login waits for its answer. What commands of workers left that are no longer there is killed
+/// first, and all that its own commands left at the end.
 pub fn work_run<S, D, R>(rt: &R, dial: D, name: &str, password: &str, session: Option<&str>) -> u8
 where
     S: Read + Write + OpenStream + Drop + Send + 'static,
@@ -58,6 +63,8 @@ where
         + Clock
         + RandomSource
         + AllocGlobal
+        + Files
+        + Env
         + StartsProcesses<Started = SystemProcess>
         + Copy
         + Drop
@@ -72,12 +79,17 @@ where
     if !has_threads(rt, alloc) {
         return GIVEN_UP;
     }
-    let Ok(mut worker) = BuildWorker::new(alloc, session) else {
+    let Ok(marks) = Marks::new(rt) else {
+        return GIVEN_UP;
+    };
+    if let Some(place) = marks.of_place() {
+        Sweeper::kill_orphans(rt, alloc, place, marks.of_outer()).wait(rt);
+    }
+    let Ok(mut worker) = BuildWorker::new(alloc, session, marks) else {
         return GIVEN_UP;
     };
     let status = work_on(rt, alloc, &mut worker, dial, login);
-    // Where memory is wanting they are killed all the same.
-    let _ = worker.processes.kill_all(alloc);
+    worker.processes.end(rt, alloc);
     status
 }
 
@@ -116,23 +128,6 @@ where
         thread::sleep(rt, Duration::from_millis(pause));
     }
     unreachable!()
-}
-
-/// How many milliseconds have passed since then. Where the clock fails no time is left for a try.
-fn millis_since<R: Clock>(rt: &R, begun: Option<Instant>) -> u64 {
-    let Some(begun) = begun else {
-        return u64::MAX;
-    };
-    match begun.elapsed(rt) {
-        Ok(elapsed) => whole_millis(elapsed),
-        Err(_) => u64::MAX,
-    }
-}
-
-/// The milliseconds of a time.
-fn whole_millis(time: Duration) -> u64 {
-    let seconds = time.as_secs().saturating_mul(1_000);
-    seconds.saturating_add(u64::from(time.subsec_millis()))
 }
 
 /// Logs in over a stream, and serves the connection to its end. The connection's thread is there
