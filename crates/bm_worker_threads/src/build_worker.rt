@@ -5,6 +5,7 @@ ghost use Rattle.bm_link.specs.Texts.{AreShort};
 
 use crate::connection::{Connection, ConnectionEnd};
 use crate::host::Host;
+use crate::marks::Marks;
 use crate::processes::Processes;
 use crate::session_texts::SessionTexts;
 use bm_link::{Attached, LinkFault, WorkerLink};
@@ -27,19 +28,20 @@ pub struct BuildWorker<S, K> {
     pub(crate) texts: SessionTexts,
     pub(crate) processes: Processes,
     pub(crate) tries: Tries,
-    /// Whether a login was answered.
-    pub(crate) is_known: bool,
 }
 
 impl<S: Read + Write + Drop, K: MaskKeys + Drop> BuildWorker<S, K> {
     /// Nothing runs, and nothing was said. The first login is to name this session, or none.
-    pub fn new(alloc: Global, session: Option<&str>) -> Result<BuildWorker<S, K>, AllocError> {
+    pub(crate) fn new(
+        alloc: Global,
+        session: Option<&str>,
+        marks: Marks,
+    ) -> Result<BuildWorker<S, K>, AllocError> {
         Ok(BuildWorker {
             session: WorkerSession::new(alloc),
             texts: SessionTexts::new(alloc, session)?,
-            processes: Processes::new(alloc)?,
+            processes: Processes::new(alloc, marks)?,
             tries: Tries::new(),
-            is_known: false,
         })
     }
 
@@ -105,7 +107,7 @@ impl<S: Read + Write + Drop, K: MaskKeys + Drop> BuildWorker<S, K> {
         connection: &Connection,
         attached: Attached,
     ) -> ConnectionEnd {
-        if attached != Attached::Resumed && self.processes.kill_all(alloc).is_err() {
+        if attached != Attached::Resumed && self.processes.kill_all(rt, alloc).is_err() {
             return ConnectionEnd::NoMemory;
         }
         if let Err(end) = self.hear(rt, alloc, arena, connection) {
@@ -140,7 +142,7 @@ impl<S: Read + Write + Drop, K: MaskKeys + Drop> BuildWorker<S, K> {
     fn send_next<R: Host>(&mut self, rt: &R, alloc: Global) -> Result<bool, ConnectionEnd> {
         if self.session.outbox.is_empty() {
             let may_say = self.session.unanswered_bytes() < MOST_UNANSWERED_BYTES;
-            self.processes.look();
+            self.processes.look(rt);
             let outbox = &mut self.session.outbox;
             let next = self.processes.next(rt, alloc, may_say, outbox);
             if next.is_err() {
