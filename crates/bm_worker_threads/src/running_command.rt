@@ -6,7 +6,7 @@ ghost use Rattle.bm_outbox.specs.Stopping.{IsOwnEnd};
 
 use crate::elapsed::millis_since;
 use crate::sweeping::Sweeper;
-use bm_outbox::{CommandEnd, Pipes, Ready, Said, StopCause, stop_end};
+use bm_outbox::{CommandEnd, Pipes, Ready, Said, StopCause, Sweep, stop_end};
 use crossbeam_channel::Sender;
 use std::collections::VecDeque;
 use std::process::Child;
@@ -65,14 +65,21 @@ impl RunningCommand {
     }
 
     /// Looks whether the end is told of a command that is being ended. What its pipes still gave
-    /// isn't told behind that.
+    /// isn't told behind that. Its own process is asked for its end first, so that none stays as a
+    /// zombie; only one that a kill doesn't end isn't awaited.
     fn look_at_stop<R: Clock>(&mut self, rt: &R) {
         let is_silent = self.texts.is_empty() && self.pipes.are_over();
+        let is_gone = !matches!(self.child.try_wait(), Ok(None));
         let Some(stop) = &mut self.stop else {
             return;
         };
         let stopped_ms = millis_since(rt, stop.begun);
-        if let Some(left) = stop_end(stop.sweeper.look(), stopped_ms, is_silent) {
+        let sweep = match stop.sweeper.look() {
+            Sweep::Left => Sweep::Left,
+            sweep if is_gone => sweep,
+            _ => Sweep::Going,
+        };
+        if let Some(left) = stop_end(sweep, stopped_ms, is_silent) {
             self.ended = Some(CommandEnd::Stopped(stop.why, left));
             self.texts.clear();
         }
