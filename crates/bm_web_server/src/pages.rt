@@ -159,7 +159,7 @@ fn whole<R: Wait + Drop, S: Handler>(body: Bytes, seen: Option<S::Source>) -> Pa
     PageBody::Whole(Some(body), seen)
 }
 
-fn bad_request<R: Wait + Drop, S: Handler>(alloc: Global) -> Response<PageBody<R, S>>
+fn bad_request<R: Drop, S: Handler>(alloc: Global) -> Response<PageBody<R, S>>
     ensures { replied S.text result ≡ bad_request_reply }
 {
     let mut response = Response::new(alloc, PageBody::Whole(None, None));
