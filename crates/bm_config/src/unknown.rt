@@ -133,10 +133,7 @@ fn rows_at(table: &Table, key: Key) -> &[Value]
     ensures { map view result.now ≡ rows_at key (table_view table.now) }
 {
     match find(table, key) {
-        Some(value) => match elements(value) {
-            Some(rows) => rows,
-            None => &[],
-        },
+        Some(value) => elements(value).unwrap_or(&[]),
         None => &[],
     }
 }
