@@ -198,7 +198,7 @@ class Builds:
 
 
 FORMS = [
-    (re.compile(r"worker w(\d) (logged in|resumed|cut|lost|shut down|told to shut down)(?:, (.*))?"), Builds.worker),
+    (re.compile(r"worker w(\d) (logged in|resumed|cut|lost|told to shut down)(?:, (.*))?"), Builds.worker),
     (re.compile(r"build (\d+) step started, log (\d+): (.*)"), Builds.started),
     (re.compile(r"build (\d+) step ended ([A-Z]+), log (\d+): (.*)"), Builds.ended),
     (re.compile(r"build (\d+) ended ([A-Z]+)"), Builds.result),

@@ -8,8 +8,8 @@ use Rattle.bm_link.specs.declared.fault.LinkFault.{LinkFault}
 use Rattle.bm_link.specs.declared.fault.LinkFault.TheVariants as link
 use Rattle.bm_operator.specs.declared.reasons.LoginRefusal.{LoginRefusal}
 use Rattle.bm_operator.specs.declared.reasons.LoginRefusal.TheVariants as why
-use Rattle.bm_operator.specs.Remark.{connection_refused, login_refused}
-use Rattle.bm_operator.specs.Told.{Told}
+use Rattle.bm_operator.specs.Reasons.{refusal_text}
+use Rattle.bm_operator.specs.Remark.{login_line}
 
 -- why a connection whose link met this fault was not taken up
 abbrev pub refusal_of : LinkFault → LoginRefusal
@@ -29,7 +29,10 @@ refusal_in true is_late link.Stream = why.Closing
 refusal_in false true link.Stream = why.Late
 refusal_in is_over is_late f = refusal_of f
 
--- what is told of a connection that was not taken up, by the name of its login, if that is told
-abbrev pub refusal_told : Option (List ℕ) → SocketAddr → LoginRefusal → Told
-refusal_told (Some name) from why = login_refused name from why
-refusal_told None from why = connection_refused from why
+-- the line that tells of a connection that was not taken up, by the name of its login, if that is
+-- told
+abbrev pub refusal_line : Option (List ℕ) → SocketAddr → LoginRefusal → List ℕ
+refusal_line (Some name) from why = login_line name from why
+refusal_line None from why =
+    codes "connection refused, "
+    ++ (refusal_text why ++ (codes ", from " ++ (socket_text from ++ 10 ∷ [])))

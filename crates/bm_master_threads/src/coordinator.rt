@@ -118,7 +118,6 @@ where
                 return self.remark(&Remark::BuildCancelled { build });
             }
             MasterEvent::Paused => return self.remark(&Remark::AcceptingPaused),
-            MasterEvent::Misread => return self.remark(&Remark::InputUnknown),
             MasterEvent::Lane(worker, event) => self.hear_lane(worker, event),
             MasterEvent::Ended(build) => self.hear_build(build),
             MasterEvent::Cancel(number) => self.cancel(number),
@@ -134,7 +133,7 @@ where
             events.look(rt)
         } else if self.is_timed() {
             events.wait_for(rt, Duration::from_millis(TICK_MS))
-        } else if self.refusals.is_left_out() || self.is_waited_for() {
+        } else if self.refusals.is_left_out() {
             events.wait_for(rt, Duration::from_secs(COUNTED_SECONDS))
         } else {
             events.wait(rt)
@@ -149,9 +148,6 @@ where
                 self.is_stale = false;
                 self.start_builds(scope);
                 self.report();
-                self.tell_waits();
-            } else if self.is_waited_for() {
-                self.tell_waits();
             }
             if self.is_closed && self.has_reported {
                 break;

@@ -114,11 +114,7 @@ where
                     self.shared.drain_gate.call_builds(cancel.set());
                 }
             }
-            Cancelled::Nothing => {
-                if number >= self.queue.builds() {
-                    self.remark(&Remark::BuildMissing { build: number });
-                }
-            }
+            Cancelled::Nothing => {}
         }
     }
 

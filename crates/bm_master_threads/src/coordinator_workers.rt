@@ -70,7 +70,7 @@ where
             self.remark(&Remark::Dismissed { worker: name });
         }
         if let Some(worker) = self.workers.get_mut(at) {
-            worker.dismiss();
+            worker.must_end();
         }
     }
 
@@ -137,19 +137,8 @@ where
     /// The actor of a worker's lane tells what happened to it.
     pub fn hear_lane(&mut self, at: usize, event: LaneEvent) {
         let worker = self.name(at);
-        let is_dismissed = match self.workers.get(at) {
-            Some(worker) => worker.is_dismissed(),
-            None => false,
-        };
-        if let Some(remark) = remark_of(event, is_dismissed, worker) {
-            self.remark(&remark);
-        }
+        self.remark(&remark_of(event, worker));
         if let Some(event) = event_of(event) {
-            if event == WorkerEvent::Attached
-                && let Some(worker) = self.workers.get_mut(at)
-            {
-                worker.is_back();
-            }
             self.happens(at, event);
         }
         if fills(event) {

@@ -64,8 +64,6 @@ pub enum MasterEvent<Y: Yard> {
     Paused,
     /// A line of standard input cancels this build.
     Cancel(u64),
-    /// A line of standard input asks for nothing.
-    Misread,
     /// Standard input has ended.
     InputEnded,
 }

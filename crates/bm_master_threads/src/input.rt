@@ -35,13 +35,8 @@ impl InputLine {
         }
     }
 
-    // Whether nothing of it was read.
-    fn is_empty(&self) -> bool {
-        self.is_whole && self.bytes.is_empty()
-    }
-
-    // Begins the next line. The answer is what this one asks for.
-    fn end<Y: Yard>(&mut self) -> MasterEvent<Y> {
+    // Begins the next line. The answer is the build that this one cancels, if it cancels one.
+    fn end(&mut self) -> Option<u64> {
         let cancelled = if self.is_whole {
             read_cancel(self.bytes.as_slice())
         } else {
@@ -49,14 +44,11 @@ impl InputLine {
         };
         self.bytes.clear();
         self.is_whole = true;
-        match cancelled {
-            Some(number) => MasterEvent::Cancel(number),
-            None => MasterEvent::Misread,
-        }
+        cancelled
     }
 }
 
-// Tells what each line of the input asks for, until the input ends or can't be read.
+// Tells of each build that a line of the input cancels, until the input ends or can't be read.
 fn read_input<I, Y, R>(rt: &R, alloc: Global, input: I, events: &EventSender<Y>)
 where
     I: Read + Drop,
@@ -76,13 +68,13 @@ where
         for byte in &piece[..count] {
             if *byte != b'\n' {
                 line.push(*byte);
-            } else {
-                events.tell(rt, line.end());
+            } else if let Some(number) = line.end() {
+                events.tell(rt, MasterEvent::Cancel(number));
             }
         }
     }
-    if !line.is_empty() {
-        events.tell(rt, line.end());
+    if let Some(number) = line.end() {
+        events.tell(rt, MasterEvent::Cancel(number));
     }
 }
 

@@ -3,16 +3,15 @@
 //! Written: the line `cancel I` ([`read_cancel`]) and the words of a latent worker's program
 //! ([`place_master`]). Read: standard output ([`OutputLine`]), standard error ([`Remark`], with its
 //! reasons, [`StepEvent`] and [`LogId`]) and the exit status. [`RateLimit`] says how many lines a
-//! second are let through, [`WaitNotice`] when it is told that something waits.
+//! second are let through.
 //!
-//! Promised: each text, byte for byte, each remark's object of JSON with the fields of its line, and
-//! that a name never ends a line or moves a cursor (`one_line`). A body could still want memory. `Remark::write` and `OutputLine::write` have no
+//! Promised: each text, byte for byte, and that a name never ends a line or moves a cursor
+//! (`one_line`). A body could still want memory. `Remark::write` and `OutputLine::write` have no
 //! clause: a body could write another line there, and only tests would see it.
 #![tactic(auto)]
 
 mod cancel;
 mod exit;
-mod field;
 mod log_id;
 mod names;
 mod output_line;
@@ -20,9 +19,7 @@ mod program_words;
 mod rate_limit;
 mod reasons;
 mod remark;
-mod remark_told;
 mod step_event;
-mod wait_notice;
 
 pub use cancel::read_cancel;
 pub use exit::{REFUSED, status};
@@ -33,4 +30,3 @@ pub use rate_limit::RateLimit;
 pub use reasons::{LoginRefusal, LossCause, ProgramRefusal, StartRefusal, StepLimit};
 pub use remark::Remark;
 pub use step_event::StepEvent;
-pub use wait_notice::WaitNotice;

@@ -1,8 +1,8 @@
 //! What happens to a step, and what an operator is told of it.
 
 ghost use Rattle.std.specs.Prelude.{◌≡◌};
-ghost use Rattle.bm_operator.specs.Remark.{told};
-ghost use Rattle.bm_operator.specs.StepEvents.{event_told, log_of};
+ghost use Rattle.bm_operator.specs.Remark.{remark_line};
+ghost use Rattle.bm_operator.specs.StepEvents.{event_line, log_of};
 
 use crate::log_id::LogId;
 use crate::reasons::{StartRefusal, StepLimit};
@@ -36,7 +36,8 @@ impl StepEvent {
         step: &'a str,
         said: &'a str,
     ) -> Remark<'a>
-        ensures { told result ≡ event_told build lane lanes worker.now step.now said.now self }
+        ensures { remark_line result
+            ≡ event_line build lane lanes worker.now step.now said.now self }
     {
         match self {
             StepEvent::Started(command) => {
