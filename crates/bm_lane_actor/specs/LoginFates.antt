@@ -1,9 +1,9 @@
 -- What becomes of a login at a lane whose worker may be connected already.
 use Rattle.std.specs.Prelude.{Bool, true, false}
-use Rattle.bm_lane_actor.specs.declared.login_fate.LoginFate.{LoginFate}
-use Rattle.bm_lane_actor.specs.declared.login_fate.LoginFate.TheVariants as fate
-use Rattle.bm_lane_actor.specs.declared.login_fate.WaitingFate.{WaitingFate}
-use Rattle.bm_lane_actor.specs.declared.login_fate.WaitingFate.TheVariants as waiting
+use Rattle.bm_lane_actor.specs.declared.login_fates.LoginFate.{LoginFate}
+use Rattle.bm_lane_actor.specs.declared.login_fates.LoginFate.TheVariants as fate
+use Rattle.bm_lane_actor.specs.declared.login_fates.WaitingFate.{WaitingFate}
+use Rattle.bm_lane_actor.specs.declared.login_fates.WaitingFate.TheVariants as waiting
 
 -- The lane is up; another login waits; the login names the session of the lane. Where the lane
 -- isn't up it is admitted. Where nobody waits it does. Only the lane's own worker takes the place of

@@ -3,7 +3,7 @@
 use crate::connection_state::ConnectionState;
 use crate::lane_actor::LaneActor;
 use crate::lane_event::{EventSink, LaneEvent};
-use crate::login_fate::{LoginFate, WaitingFate, login_fate, waiting_fate};
+use crate::login_fates::{LoginFate, WaitingFate, login_fate, waiting_fate};
 use crate::peer_timer::{PeerAction, PeerTimer};
 use crate::stream::WorkerStream;
 use bm_lane::Yard;
