@@ -61,13 +61,12 @@ abbrev pub renewed : ℕ → Heard → TimerView → TimerView
 renewed n lane t = if is_up lane.trace || not (n == length lane.trace) then begun t else t
 
 -- What a build is told of a start: the command's number, or to try it later, or that it is
--- refused. It is tried later where the lane is busy or wants memory, or the link failed and the lane
--- took no order; and once a command has ended where too many are open. A full lane refuses it with
--- that reason.
+-- refused. It is tried later where the lane is busy, has no room for one more open command or wants
+-- memory. Or the link failed and the lane took no order. A full lane refuses it with that reason.
 abbrev pub start_outcome : Bool → Result ℕ LinkFault → OrderOutcome
 start_outcome taken (Ok k) = outcome.Started k
 start_outcome taken (Err (Lane Busy)) = outcome.Later
-start_outcome taken (Err (Lane (Session TooManyOpen))) = outcome.Crowded
+start_outcome taken (Err (Lane (Session TooManyOpen))) = outcome.Later
 start_outcome taken (Err (Lane (Session Mem))) = outcome.Later
 start_outcome taken (Err (Lane (Session Full))) = outcome.Full
 start_outcome taken (Err (Lane why)) = outcome.Refused

@@ -3,6 +3,9 @@
 //! A lane's actor calls `wake` after each event. Each worker of the pool remembers how many such
 //! calls there had been when its round of the lanes began. It sleeps after a whole round without an
 //! item, as long as there was no call since.
+//!
+//! Builds wait here too. Each waits until the actor has heard what may end its command, and then
+//! until the pool has drained an item. So a build that is woken sees what woke it.
 
 ghost use Rattle.std.specs.Prelude.{◌≡◌};
 ghost use Rattle.bm_lane_actor.specs.Gates.{is_whole_round, pass_of};
@@ -23,7 +26,7 @@ const REST_MS: u64 = 500;
 struct LaneFlags {
     /// 1 where the queue may have an item that no worker goes for.
     full: AtomicU64,
-    /// A count that grows with each item taken from it, and with each cancel of a build.
+    /// A count that grows with each item taken from it, and with each call of all its builds.
     took: AtomicU64,
     /// How often the lane's builds were called to look.
     calls: AtomicU64,
@@ -128,8 +131,7 @@ impl<R: Wait + Clock + Drop> DrainGate<R> {
         }
     }
 
-    /// Tells that the lane may have an item by which a command ends, or takes orders again: its
-    /// builds are called.
+    /// Tells that the lane may have an item by which a command ends: its builds are called.
     pub(crate) fn ring(&self, lane: usize) {
         if let Some(flags) = self.lanes.get(lane) {
             flags.calls.fetch_add(1, Ordering::SeqCst);
@@ -138,7 +140,8 @@ impl<R: Wait + Clock + Drop> DrainGate<R> {
         self.wake(lane);
     }
 
-    /// Calls the lane's builds whatever they wait for: one of them was cancelled.
+    /// Calls the lane's builds whatever they wait for: one of them was cancelled, or the lane is
+    /// connected in another way.
     pub fn call_builds(&self, lane: usize) {
         if let Some(flags) = self.lanes.get(lane) {
             flags.calls.fetch_add(1, Ordering::SeqCst);

@@ -228,10 +228,9 @@ where
     pub(crate) fn note(&mut self, before: ConnectionState, cause: LossCause) {
         if let Some(event) = event_after(before, self.state.connection(), cause) {
             self.events.tell(event);
-            self.gate.ring(self.place);
-        } else {
-            self.gate.wake(self.place);
+            self.gate.call_builds(self.place);
         }
+        self.gate.wake(self.place);
     }
 
     /// Hears the worker.

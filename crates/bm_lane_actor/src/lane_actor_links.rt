@@ -148,7 +148,8 @@ where
             }
             self.events.tell(LaneEvent::Attached);
         }
-        self.gate.ring(self.place);
+        self.gate.call_builds(self.place);
+        self.gate.wake(self.place);
     }
 
     /// A count of what came from the worker by the lane's link.

@@ -42,7 +42,7 @@ where
         if self.commands.reserve().is_err() {
             return OrderOutcome::Later;
         }
-        let (before, took) = (self.state.connection(), self.gate.took(self.place));
+        let before = self.state.connection();
         if is_set(&cancelled) {
             return OrderOutcome::Cancelled;
         }
@@ -50,10 +50,9 @@ where
         match outcome {
             OrderOutcome::Started(command) => self.commands.begin(command, bytes),
             OrderOutcome::Full => self.events.tell(LaneEvent::Filled),
-            OrderOutcome::Later => self.wait_while_up(took),
             OrderOutcome::Interrupted
             | OrderOutcome::Cancelled
-            | OrderOutcome::Crowded
+            | OrderOutcome::Later
             | OrderOutcome::Refused
             | OrderOutcome::TooLong => {}
         }
@@ -78,18 +77,9 @@ where
         let outcome = self.state.interrupt(self.rt, self.alloc, command);
         self.stops.tried(outcome);
         self.note(before, LossCause::Stream);
-        if outcome == OrderOutcome::Later {
-            self.wait_while_up(took);
+        if outcome == OrderOutcome::Later && self.state.connection() == ConnectionState::Up {
+            self.wait_for_place(took);
         }
         self.reads.told();
-    }
-
-    /// A lane that is up takes an order later: it waits until its queue has room, a tick at most.
-    /// Then its builds are called.
-    fn wait_while_up(&self, took: u64) {
-        if self.state.connection() == ConnectionState::Up {
-            self.wait_for_place(took);
-            self.gate.ring(self.place);
-        }
     }
 }

@@ -17,11 +17,8 @@ pub enum OrderOutcome {
     /// Nothing was done: the build was cancelled before the lane took the order.
     Cancelled,
     /// Nothing was done, and it may be tried again: the lane is cut and may be resumed, or it is
-    /// busy, or memory is wanting.
+    /// busy, or has no room for one more open command, or memory is wanting.
     Later,
-    /// Nothing was done, and it may be tried again once a command of the lane has ended: as many are
-    /// open as may be.
-    Crowded,
     /// The lane was given up, or refuses the order.
     Refused,
     /// The lane has had as many events as it may.
@@ -36,9 +33,11 @@ pub(crate) fn start_outcome(answer: Result<u64, LinkFault>, is_taken: bool) -> O
 {
     match answer {
         Ok(command) => OrderOutcome::Started(command),
-        Err(LinkFault::Lane(HearRefusal::Busy | HearRefusal::Session(Refusal::Mem))) =>
-            OrderOutcome::Later,
-        Err(LinkFault::Lane(HearRefusal::Session(Refusal::TooManyOpen))) => OrderOutcome::Crowded,
+        Err(
+            LinkFault::Lane(
+                HearRefusal::Busy | HearRefusal::Session(Refusal::TooManyOpen | Refusal::Mem),
+            ),
+        ) => OrderOutcome::Later,
         Err(LinkFault::Lane(HearRefusal::Session(Refusal::Full))) => OrderOutcome::Full,
         Err(LinkFault::Lane(HearRefusal::Session(_))) => OrderOutcome::Refused,
         Err(_) if is_taken => OrderOutcome::Refused,

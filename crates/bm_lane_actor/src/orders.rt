@@ -100,14 +100,13 @@ fn start_refusal(outcome: OrderOutcome) -> StartRefusal
         OrderOutcome::Started(_)
         | OrderOutcome::Interrupted
         | OrderOutcome::Later
-        | OrderOutcome::Crowded
         | OrderOutcome::Refused => StartRefusal::Lost,
     }
 }
 
 /// Starts a step's command once the lane is up. An order that is to come later is tried again once
-/// the gate rings for the lane's builds, and each tick. Whether the build is cancelled is looked at
-/// by the lane's actor alone, as the last thing before it takes the order.
+/// an item was drained, and each tick. Whether the build is cancelled is looked at by the lane's
+/// actor alone, as the last thing before it takes the order.
 ///
 /// # Errors
 ///
@@ -127,12 +126,10 @@ pub(crate) fn start<S: Drop, R: Wait + Clock + Drop>(
     let place = handle.lane() as usize;
     let tick = Duration::from_millis(TICK_MS);
     for _ in rt.forever() {
-        let calls = gate.calls(place);
+        let took = gate.took(place);
         match try_start(rt, alloc, handle, step, cancelled, bytes) {
             Some(OrderOutcome::Started(command)) => return Ok(command),
-            Some(OrderOutcome::Later | OrderOutcome::Crowded) => gate.wait_for_call(
-                place, calls, tick,
-            ),
+            Some(OrderOutcome::Later) => gate.wait_for_drain(place, took, tick),
             Some(outcome) => return Err(start_refusal(outcome)),
             None => return Err(StartRefusal::Memory),
         }
