@@ -25,6 +25,7 @@ mod ready_stream;
 mod run;
 mod running_command;
 mod session;
+mod session_texts;
 mod socket_watch;
 mod spare_threads;
 mod starting;

@@ -43,7 +43,6 @@ const GIVEN_UP: u8 = 1;
 pub struct Login<'a> {
     pub name: &'a str,
     pub password: &'a str,
-    pub session: Option<&'a str>,
 }
 
 /// A worker whose links are over streams that are read where they are ready.
@@ -77,11 +76,7 @@ where
     requires short { AreShort (name.now ∷ password.now ∷ []) }
 {
     let alloc = rt.alloc();
-    let login = Login {
-        name,
-        password,
-        session,
-    };
+    let login = Login { name, password };
     if !has_threads(rt, alloc) {
         return GIVEN_UP;
     }
@@ -91,7 +86,7 @@ where
     if let Some(place) = marks.of_place() {
         Sweeper::kill_orphans(rt, alloc, place, marks.of_outer()).wait(rt);
     }
-    let Ok(mut worker) = BuildWorker::new(alloc, marks) else {
+    let Ok(mut worker) = BuildWorker::new(alloc, session, marks) else {
         return GIVEN_UP;
     };
     let status = work_on(rt, alloc, &mut worker, dial, login);
@@ -110,7 +105,7 @@ fn work_on<S, D, R>(
 where
     S: Read + Write + OpenStream + Drop + Send + 'static,
     D: FnMut() -> Option<S>,
-    R: Host + RandomSource + Drop,
+    R: Host + RandomSource + AllocGlobal + Drop,
     requires dials { (state : _) → D.pre state }
     requires short { AreShort (login.name.now ∷ login.password.now ∷ []) }
 {
@@ -148,7 +143,7 @@ fn connected<S, R>(
 ) -> ConnectionEnd
 where
     S: Read + Write + OpenStream + Drop + Send + 'static,
-    R: Host + RandomSource + Drop,
+    R: Host + RandomSource + AllocGlobal + Drop,
     requires { AreShort (login.name.now ∷ login.password.now ∷ []) }
 {
     let Some((connection, ready, watch)) = watched(alloc, &worker.processes, number, stream) else {
@@ -159,17 +154,19 @@ where
     if thread::spawn(rt, move || watch.run(&handle)).is_err() {
         return ConnectionEnd::Lost;
     }
-    let (name, password, session) = (login.name, login.password, login.session);
-    let (link, attached) = match WorkerLink::connect(alloc, *rt, ready, name, password, session) {
-        Ok(joined) => joined,
+    let Ok(link) = WorkerLink::open(alloc, *rt, ready) else {
+        return ConnectionEnd::Lost;
+    };
+    let attached = match worker.log_in(rt, alloc, link, login.name, login.password) {
+        Ok(attached) => attached,
         Err(LinkFault::BadLogin) => return ConnectionEnd::Refused,
         Err(_) => return ConnectionEnd::Lost,
     };
     connection.allow_reads(0);
-    if session.is_some() {
+    if worker.texts.session().is_some() {
         worker.tries.answered();
     }
-    let (end, link) = worker.serve(rt, alloc, &connection, link, attached);
+    let (end, link) = worker.serve(rt, alloc, &connection, attached);
     if let Some(mut link) = link {
         if end == ConnectionEnd::Shutdown {
             close(rt, &mut link);
