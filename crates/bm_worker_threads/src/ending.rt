@@ -96,8 +96,7 @@ impl Processes {
         }
     }
 
-    /// Ends all that the worker's commands started, and waits for that for some two seconds at the
-    /// most.
+    /// Ends all that the worker's commands started, and waits for that for some seconds at the most.
     pub(crate) fn end<R: Host>(&mut self, rt: &R, alloc: Global) {
         self.sweep_all(rt, alloc);
         if let Some(sweeper) = &mut self.last_sweeper {

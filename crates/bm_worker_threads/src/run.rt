@@ -53,7 +53,8 @@ type LinkedWorker<S, R> = BuildWorker<ReadyStream<S>, RandomKeys<R>>;
 /// 1 at once where the threads of a command can't be started. `dial` connects once, and answers
 /// None where that fails. A read of its streams is to wait for some seconds at the most, since a
 /// login waits for its answer. What commands of workers left that are no longer there is killed
-/// first, and all that its own commands left at the end.
+/// first, and all that its own commands left at the end. The tries last for a minute where a
+/// session is named, which may be resumed, and was begun.
 pub fn work_run<S, D, R>(rt: &R, dial: D, name: &str, password: &str, session: Option<&str>) -> u8
 where
     S: Read + Write + OpenStream + Drop + Send + 'static,
@@ -162,7 +163,9 @@ where
         Err(_) => return ConnectionEnd::Lost,
     };
     connection.allow_reads(0);
-    worker.tries.answered();
+    if worker.texts.session().is_some() {
+        worker.tries.answered();
+    }
     let (end, link) = worker.serve(rt, alloc, &connection, attached);
     if let Some(mut link) = link {
         if end == ConnectionEnd::Shutdown {

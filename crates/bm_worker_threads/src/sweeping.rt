@@ -52,14 +52,12 @@ is_gone() {
 round=0 clean=0
 while [ $round -lt 30 ]; do
   round=$((round + 1)) killed=
-  for f in $(grep -laF -e "$1" /proc/[0-9]*/environ 2>/dev/null); do
-    for mark in $(grep -aoE -e "$1[0-9]+\.[0-9]+\." "$f" 2>/dev/null); do
-      case $2 in *"$mark"*) continue ;; esac
-      worker=${mark#"$1"} worker=${worker%.}
-      is_gone "${worker%.*}" "${worker#*.}" || continue
-      process=${f#/proc/}
-      kill -9 "${process%/environ}" 2>/dev/null && killed=1
-    done
+  for found in $(grep -aoE -e "$1[0-9]+\.[0-9]+\." /proc/[0-9]*/environ /dev/null 2>/dev/null); do
+    process=${found%%/environ:*} mark=${found#*:}
+    case $2 in *"$mark"*) continue ;; esac
+    worker=${mark#"$1"} worker=${worker%.}
+    is_gone "${worker%.*}" "${worker#*.}" || continue
+    kill -9 "${process#/proc/}" 2>/dev/null && killed=1
   done
   if [ -z "$killed" ]; then
     clean=$((clean + 1))
@@ -75,8 +73,8 @@ exit 4
 /// How often a sweep that is waited for is looked at.
 const LOOK_MS: u64 = 2;
 
-/// How often it is looked at before the worker goes on without it: some two seconds.
-const MOST_LOOKS: u32 = 1_000;
+/// How often it is looked at before the worker goes on without it: some five seconds.
+const MOST_LOOKS: u32 = 2_500;
 
 /// A sweep: it goes on beside the worker.
 #[derive(Drop)]
@@ -134,7 +132,7 @@ impl Sweeper {
         self.state
     }
 
-    /// Waits for its end, for some two seconds at the most. It goes on by itself then.
+    /// Waits for its end, for some five seconds at the most. It goes on by itself then.
     pub(crate) fn wait<R: Host>(&mut self, rt: &R) {
         for _ in 0..MOST_LOOKS {
             if self.look() != Sweep::Going {
