@@ -125,6 +125,7 @@ fn long<R: Wait + Copy, S: Handler>(
         service,
         rest,
         seen,
+        has_told: false,
     };
     let mut response = Response::new(pages.alloc, PageBody::Long(unsent));
     let json = HeaderValue::from_static("application/json");
