@@ -9,9 +9,9 @@ unreachable-requires g c = never_idle c.args.at c.args.self.now.running.items c.
 
 -- its end
 pub returns-in_default : goal.returns-in_default
-returns-in_default g c = told_end c.end-2.result c.args.at c.args.self.now.running.items c.remove-process.new.self.items c.remove-process.result c.in-Some-take.end
-    c.args.outbox.now c.end-2.new.self c.requires.within c.remove-process.ensures.value (none_left _ _ c.in_default.ensures.items c.in_default.ensures.rest)
-    (sym c.take.ensures.value ∙ c.in-Some-take.is) c.remove-process.ensures.items c.end-2.ensures
+returns-in_default g c = told_end c.end.result c.args.at c.args.self.now.running.items c.remove-process.new.self.items c.remove-process.result c.in-Some-take.end
+    c.args.outbox.now c.end.new.self c.requires.within c.remove-process.ensures.value (none_left _ _ c.in_default.ensures.items c.in_default.ensures.rest)
+    (sym c.take.ensures.value ∙ c.in-Some-take.is) c.remove-process.ensures.items c.end.ensures
 
 -- its first text
 pub returns : goal.returns
