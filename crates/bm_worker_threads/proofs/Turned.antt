@@ -6,7 +6,7 @@ use Rattle.std.proofs.lemmas.List.Quantifiers.{position-Some}
 use Rattle.std.proofs.lemmas.Option.{slice_get-get_or, slice_get_within, get_or_from_slice_get}
 use Rattle.std.specs.declared.alloc.Global.{Global}
 use Rattle.std.specs.declared.collections.VecDeque.{VecDeque}
-use Rattle.bm_outbox.specs.Stopping.{Ends}
+use Rattle.bm_outbox.specs.Stopping.{Ends, IsOwnEnd}
 use Rattle.bm_outbox.specs.Turns.{has_end, has_text, or_else}
 use Rattle.bm_outbox.specs.declared.command_end.CommandEnd.{CommandEnd}
 use Rattle.bm_outbox.specs.declared.outbox_entry.OutboxEntry.{OutboxEntry}
@@ -35,17 +35,21 @@ told_text (Ok v) at all others running process said kept own k old new within is
 told_text (Err e) at all others running process said kept own k old new within is texts left behind same told = tt
 
 -- its end is told, and it leaves
-pub told_end : {T E : Type 0} (r : Result T E) (at : ℕ) (all running : List RunningCommand) (process : RunningCommand) (end : CommandEnd) (old new : List OutboxEntry) → at < length all
-    → process ≡ slice_index_or all at process → process.texts.items ≡ [] → process.ended ≡ Some end → running ≡ remove all at
-    → OnOk r (Ends process.pipes.command end old new) → OnOk r (TellsAt at all running old new)
-told_end (Ok v) at all running process end old new within is texts ended left told = (
+pub told_end : {T E : Type 0} (r : Result T E) (at : ℕ) (all running : List RunningCommand) (process : RunningCommand) (end : CommandEnd) (k : ℕ) (old new : List OutboxEntry) → at < length all
+    → process ≡ slice_index_or all at process → process.texts.items ≡ [] → process.ended ≡ Some end → running ≡ remove all at → k ≡ process.pipes.command
+    → OnOk r (Ends k end old new) → OnOk r (TellsAt at all running old new)
+told_end (Ok v) at all running process end k old new within is texts ended left same told = (
   process,
   slice_get-get_or all at process within ∙ ap Some (sym is),
   subst (λ (t : List Said). TellsOf process t process.ended (remove all at) running old new) (sym texts)
       (subst (λ c. TellsOf process [] c (remove all at) running old new) (sym ended)
-      (told, left)),
+      (subst (λ j. Ends j end old new) same told, left)),
 )
-told_end (Err e) at all running process end old new within is texts ended left told = tt
+told_end (Err e) at all running process end k old new within is texts ended left same told = tt
+
+-- its end is its own
+pub own_end : (process : RunningCommand) (end : CommandEnd) (k : ℕ) → process.ended ≡ Some end → k ≡ process.pipes.command → IsOwnEnd k end
+own_end process end k ended same = subst (λ j. IsOwnEnd j end) (sym same) (process.own end ended)
 
 -- it has something to tell
 pub never_idle : (at : ℕ) (all : List RunningCommand) (process : RunningCommand) → IsReady at all → at < length all → process ≡ slice_index_or all at process
