@@ -23,15 +23,15 @@ module _ {S : Type 0} (remaining contents : S → Option (List ℕ)) (name passw
       → LogsInWhere remaining contents name password session None old.failed old (Ok a) new
       → Greets remaining contents name password session None old.socket new.socket a × (new.failed ≡ false) × (new.named ≡ is_some session) × (new.closed ≡ false)
   connects session old new a is h =
-      let by : LogsInBy remaining contents name password session None old (Ok a) new = tried session None old new (Ok a) is h in
-      (by.0, by.1, by.2, by.3 ∙ is.3)
+      let did : LogsInBy remaining contents name password session None old (Ok a) new = tried session None old new (Ok a) is h in
+      (did.0, did.1, did.2, did.3 ∙ is.3)
 
   pub fails_to_connect : (session : Option (List ℕ)) (old new : WorkState S) (f : LinkFault) → IsOpened old
       → LogsInWhere remaining contents name password session None old.failed old (Err f) new
       → FailsToGreet remaining contents name password session None old.socket f new.socket
   fails_to_connect session old new f is h =
-      let by : LogsInBy remaining contents name password session None old (Err f) new = tried session None old new (Err f) is h in
-      by.0
+      let did : LogsInBy remaining contents name password session None old (Err f) new = tried session None old new (Err f) is h in
+      did.0
 
   -- the login of a link that hasn't failed, from what its socket did
   pub logged_in : (session next : Option (List ℕ)) (old : WorkState S) (socket : Socket S) (named : Bool) (a : Attached) → old.failed ≡ false → named ≡ is_some session
