@@ -117,7 +117,7 @@ impl<S: Read + Write + Drop, K: MaskKeys + Drop> WorkerSession<S, K> {
         if !resumed {
             self.core.lost();
             self.outbox = Outbox::new(alloc);
-            self.backlog.clear();
+            self.backlog = VecDeque::new(alloc);
             self.link = Some(link);
             return Ok(());
         }
