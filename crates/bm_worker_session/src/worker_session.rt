@@ -115,7 +115,9 @@ impl<S: Read + Write + Drop, K: MaskKeys + Drop> WorkerSession<S, K> {
     {
         let resumed = is_resumed(attached);
         if !resumed {
-            *self = WorkerSession::new(alloc);
+            self.core.lost();
+            self.outbox = Outbox::new(alloc);
+            self.backlog = VecDeque::new(alloc);
             self.link = Some(link);
             return Ok(());
         }

@@ -2,7 +2,7 @@
 
 use super::calls::{Answer, CLOSED, Call, PLAIN};
 use super::linked_lane::{Row, plays};
-use super::worker::{logs_in_by, Answered};
+use super::worker::{Answered, logs_in_by};
 use super::{AUTH_S, AUTH_T, NEW, RESUMED, TRUE};
 use bm_link::*;
 use bm_session::Results;
@@ -128,10 +128,38 @@ fn a_next_session_counts_beside_a_session_alone(rt: HostRuntime) {
 #[test]
 fn a_worker_names_both(rt: HostRuntime) {
     static LOGINS: [(Option<&str>, &[u8], Answered); 4] = [
-        (Some("t"), AUTH_S_T, Answered { bytes: NEW, attached: Attached::New }),
-        (Some("t"), AUTH_S_T, Answered { bytes: RESUMED, attached: Attached::Resumed }),
-        (Some("u"), AUTH_S_U, Answered { bytes: TRUE, attached: Attached::Plain }),
-        (None, AUTH_S, Answered { bytes: NEW, attached: Attached::New }),
+        (
+            Some("t"),
+            AUTH_S_T,
+            Answered {
+                bytes: NEW,
+                attached: Attached::New,
+            },
+        ),
+        (
+            Some("t"),
+            AUTH_S_T,
+            Answered {
+                bytes: RESUMED,
+                attached: Attached::Resumed,
+            },
+        ),
+        (
+            Some("u"),
+            AUTH_S_U,
+            Answered {
+                bytes: TRUE,
+                attached: Attached::Plain,
+            },
+        ),
+        (
+            None,
+            AUTH_S,
+            Answered {
+                bytes: NEW,
+                attached: Attached::New,
+            },
+        ),
     ];
     for (next, login, answered) in &LOGINS {
         assert!(rt; logs_in_by(rt.alloc(), *next, login, answered));

@@ -250,13 +250,7 @@ pub(super) fn logs_in_by(
 }
 
 /// Whether the login by this link sends these bytes, and is answered so.
-fn sends(
-    alloc: Global,
-    mut link: Link,
-    next: Option<&str>,
-    login: &[u8],
-    want: Attached,
-) -> bool {
+fn sends(alloc: Global, mut link: Link, next: Option<&str>, login: &[u8], want: Attached) -> bool {
     let attached = link.login(alloc, "w0", "p", Some("s"), next);
     let is_sent = link.get_ref().output.ends_with(login);
     match attached {
