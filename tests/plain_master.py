@@ -54,8 +54,8 @@ class Master:
         assert (login["seq_number"], login["op"]) == (0, "auth"), login
         self.logins.append((login["username"], login["password"], login["session"]))
         resumes = login["session"] == self.session and self.forgets is None
-        self.session = login["session"]
         if not resumes:
+            self.session = login.get("next_session", login["session"])
             self.forget()
         await self.answer(0, "resumed" if resumes else self.forgets or "new")
         if resumes:

@@ -1,0 +1,8 @@
+use Rattle.bm_worker_session.proofs.Connecting.{resumed_alone}
+use Rattle.bm_worker_session.proofs.worker_session.WorkerSession.connect.Goals as goal
+
+-- an answer was read, and memory was wanting for what is to be sent again
+pub returns-in-Err-begin : goal.returns-in-Err-begin
+returns-in-Err-begin g c =
+    resumed_alone g.S.Read.remaining g.S.Write.contents c.args.name.now c.args.password.now _ _ c.in-Ok.attached c.args.link c.login.new.self c.args.self.now
+    c.begin.new.self _ c.in-Ok.ensures c.in-Err-begin.ensures
