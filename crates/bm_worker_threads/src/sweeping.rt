@@ -45,7 +45,8 @@ case $1 in buildworker-?*.?*.) ;; *) exit 5 ;; esac
 PATH=$PATH:/usr/bin:/bin
 command -v grep >/dev/null && [ -r /proc/self/environ ] || exit 3
 is_gone() {
-  read -r told 2>/dev/null <"/proc/$1/stat" || return 0
+  [ -e "/proc/$1" ] || return 0
+  read -r told 2>/dev/null <"/proc/$1/stat" || return 1
   set -- "$2" ${told##*\) }
   [ "$2" = Z ] || [ "$2" = X ] || [ "${21}" != "$1" ]
 }
