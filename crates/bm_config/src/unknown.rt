@@ -173,5 +173,6 @@ fn add_key(
     }
     let near = nearest(alloc, name, known)?;
     let key = Text::from_str(alloc, name)?;
-    found.push(UnknownKey { place, key, near })
+    found.push(UnknownKey { place, key, near })?;
+    Ok(())
 }
