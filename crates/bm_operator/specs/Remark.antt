@@ -42,7 +42,10 @@ abbrev pub worker_cut : List ℕ → LossCause → Told
 worker_cut worker cause =
     record {
       kind = codes "worker_cut";
-      fields = of_name (codes "worker ") (codes "worker") worker ∷ of_word (codes " cut, ") (codes "cause") (loss_text cause) ∷ [];
+      fields =
+          of_name (codes "worker ") (codes "worker") worker
+          ∷ of_word (codes " cut, ") (codes "cause") (loss_text cause)
+          ∷ [];
       tail = codes "";
     }
 
@@ -50,7 +53,10 @@ abbrev pub worker_lost : List ℕ → LossCause → Told
 worker_lost worker cause =
     record {
       kind = codes "worker_lost";
-      fields = of_name (codes "worker ") (codes "worker") worker ∷ of_word (codes " lost, ") (codes "cause") (loss_text cause) ∷ [];
+      fields =
+          of_name (codes "worker ") (codes "worker") worker
+          ∷ of_word (codes " lost, ") (codes "cause") (loss_text cause)
+          ∷ [];
       tail = codes "";
     }
 
@@ -82,7 +88,11 @@ abbrev pub login_refused : List ℕ → SocketAddr → LoginRefusal → Told
 login_refused name from why =
     record {
       kind = codes "login_refused";
-      fields = of_word (codes "login refused, ") (codes "cause") (refusal_text why) ∷ of_address (codes ", from ") (codes "from") from ∷ of_name (codes ": ") (codes "name") name ∷ [];
+      fields =
+          of_word (codes "login refused, ") (codes "cause") (refusal_text why)
+          ∷ of_address (codes ", from ") (codes "from") from
+          ∷ of_name (codes ": ") (codes "name") name
+          ∷ [];
       tail = codes "";
     }
 
@@ -90,7 +100,10 @@ abbrev pub connection_refused : SocketAddr → LoginRefusal → Told
 connection_refused from why =
     record {
       kind = codes "connection_refused";
-      fields = of_word (codes "connection refused, ") (codes "cause") (refusal_text why) ∷ of_address (codes ", from ") (codes "from") from ∷ [];
+      fields =
+          of_word (codes "connection refused, ") (codes "cause") (refusal_text why)
+          ∷ of_address (codes ", from ") (codes "from") from
+          ∷ [];
       tail = codes "";
     }
 
@@ -122,7 +135,11 @@ abbrev pub counted : ℕ → ℕ → ℕ → Told
 counted workers builds steps =
     record {
       kind = codes "configuration_read";
-      fields = of_number (codes "") (codes "workers") workers ∷ of_number (plural workers (codes " worker, ") (codes " workers, ")) (codes "builds") builds ∷ of_number (plural builds (codes " build, ") (codes " builds, ")) (codes "steps") steps ∷ [];
+      fields =
+          of_number (codes "") (codes "workers") workers
+          ∷ of_number (plural workers (codes " worker, ") (codes " workers, ")) (codes "builds") builds
+          ∷ of_number (plural builds (codes " build, ") (codes " builds, ")) (codes "steps") steps
+          ∷ [];
       tail = plural steps (codes " step") (codes " steps");
     }
 
@@ -130,7 +147,10 @@ abbrev pub unknown_key : List ℕ → List ℕ → Told
 unknown_key place key =
     record {
       kind = codes "unknown_key";
-      fields = of_name (codes "") (codes "place") place ∷ of_name (codes ": unknown key \"") (codes "key") key ∷ [];
+      fields =
+          of_name (codes "") (codes "place") place
+          ∷ of_name (codes ": unknown key \"") (codes "key") key
+          ∷ [];
       tail = codes "\"";
     }
 
@@ -138,7 +158,11 @@ abbrev pub misspelt_key : List ℕ → List ℕ → List ℕ → Told
 misspelt_key place key near =
     record {
       kind = codes "unknown_key";
-      fields = of_name (codes "") (codes "place") place ∷ of_name (codes ": unknown key \"") (codes "key") key ∷ of_name (codes "\", near \"") (codes "near") near ∷ [];
+      fields =
+          of_name (codes "") (codes "place") place
+          ∷ of_name (codes ": unknown key \"") (codes "key") key
+          ∷ of_name (codes "\", near \"") (codes "near") near
+          ∷ [];
       tail = codes "\"";
     }
 
@@ -162,7 +186,10 @@ abbrev pub build_waits : ℕ → List ℕ → Told
 build_waits build worker =
     record {
       kind = codes "build_waits";
-      fields = of_number (codes "build ") (codes "build") build ∷ of_name (codes " waits for ") (codes "worker") worker ∷ [];
+      fields =
+          of_number (codes "build ") (codes "build") build
+          ∷ of_name (codes " waits for ") (codes "worker") worker
+          ∷ [];
       tail = codes "";
     }
 
@@ -170,7 +197,10 @@ abbrev pub build_started : ℕ → List ℕ → Told
 build_started build worker =
     record {
       kind = codes "build_started";
-      fields = of_number (codes "build ") (codes "build") build ∷ of_name (codes " started on ") (codes "worker") worker ∷ [];
+      fields =
+          of_number (codes "build ") (codes "build") build
+          ∷ of_name (codes " started on ") (codes "worker") worker
+          ∷ [];
       tail = codes "";
     }
 
@@ -178,7 +208,10 @@ abbrev pub build_ended : ℕ → Results → Told
 build_ended build result =
     record {
       kind = codes "build_ended";
-      fields = of_number (codes "build ") (codes "build") build ∷ of_word (codes " ended ") (codes "result") (result_name result) ∷ [];
+      fields =
+          of_number (codes "build ") (codes "build") build
+          ∷ of_word (codes " ended ") (codes "result") (result_name result)
+          ∷ [];
       tail = codes "";
     }
 
@@ -194,7 +227,11 @@ abbrev pub step_started : ℕ → ℕ → List ℕ → Told
 step_started build log step =
     record {
       kind = codes "step_started";
-      fields = of_number (codes "build ") (codes "build") build ∷ of_number (codes " step started, log ") (codes "log") log ∷ of_name (codes ": ") (codes "step") step ∷ [];
+      fields =
+          of_number (codes "build ") (codes "build") build
+          ∷ of_number (codes " step started, log ") (codes "log") log
+          ∷ of_name (codes ": ") (codes "step") step
+          ∷ [];
       tail = codes "";
     }
 
@@ -202,7 +239,11 @@ abbrev pub step_refused : ℕ → StartRefusal → List ℕ → Told
 step_refused build why step =
     record {
       kind = codes "step_not_started";
-      fields = of_number (codes "build ") (codes "build") build ∷ of_word (codes " step not started, ") (codes "cause") (start_text why) ∷ of_name (codes ": ") (codes "step") step ∷ [];
+      fields =
+          of_number (codes "build ") (codes "build") build
+          ∷ of_word (codes " step not started, ") (codes "cause") (start_text why)
+          ∷ of_name (codes ": ") (codes "step") step
+          ∷ [];
       tail = codes "";
     }
 
@@ -210,7 +251,12 @@ abbrev pub step_stopped : ℕ → ℕ → StepLimit → List ℕ → Told
 step_stopped build log limit step =
     record {
       kind = codes "step_stopped";
-      fields = of_number (codes "build ") (codes "build") build ∷ of_word (codes " step stopped, ") (codes "cause") (limit_text limit) ∷ of_number (codes ", log ") (codes "log") log ∷ of_name (codes ": ") (codes "step") step ∷ [];
+      fields =
+          of_number (codes "build ") (codes "build") build
+          ∷ of_word (codes " step stopped, ") (codes "cause") (limit_text limit)
+          ∷ of_number (codes ", log ") (codes "log") log
+          ∷ of_name (codes ": ") (codes "step") step
+          ∷ [];
       tail = codes "";
     }
 
@@ -218,7 +264,13 @@ abbrev pub step_failed : ℕ → ℕ → List ℕ → List ℕ → List ℕ → 
 step_failed build log worker said step =
     record {
       kind = codes "step_failed";
-      fields = of_number (codes "build ") (codes "build") build ∷ of_name (codes " step failed on ") (codes "worker") worker ∷ of_name (codes ", ") (codes "cause") said ∷ of_number (codes ", log ") (codes "log") log ∷ of_name (codes ": ") (codes "step") step ∷ [];
+      fields =
+          of_number (codes "build ") (codes "build") build
+          ∷ of_name (codes " step failed on ") (codes "worker") worker
+          ∷ of_name (codes ", ") (codes "cause") said
+          ∷ of_number (codes ", log ") (codes "log") log
+          ∷ of_name (codes ": ") (codes "step") step
+          ∷ [];
       tail = codes "";
     }
 
@@ -226,7 +278,12 @@ abbrev pub step_ended : ℕ → ℕ → Results → List ℕ → Told
 step_ended build log result step =
     record {
       kind = codes "step_ended";
-      fields = of_number (codes "build ") (codes "build") build ∷ of_word (codes " step ended ") (codes "result") (result_name result) ∷ of_number (codes ", log ") (codes "log") log ∷ of_name (codes ": ") (codes "step") step ∷ [];
+      fields =
+          of_number (codes "build ") (codes "build") build
+          ∷ of_word (codes " step ended ") (codes "result") (result_name result)
+          ∷ of_number (codes ", log ") (codes "log") log
+          ∷ of_name (codes ": ") (codes "step") step
+          ∷ [];
       tail = codes "";
     }
 
@@ -242,7 +299,10 @@ abbrev pub program_failed : List ℕ → ProgramRefusal → Told
 program_failed worker why =
     record {
       kind = codes "program_not_started";
-      fields = of_name (codes "program of ") (codes "worker") worker ∷ of_word (codes " not started, ") (codes "cause") (program_text why) ∷ [];
+      fields =
+          of_name (codes "program of ") (codes "worker") worker
+          ∷ of_word (codes " not started, ") (codes "cause") (program_text why)
+          ∷ [];
       tail = codes "";
     }
 
