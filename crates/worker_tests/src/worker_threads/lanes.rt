@@ -18,6 +18,7 @@ use std::marker::Brand;
 use std::net::{Net, TcpListener, TcpStream};
 use std::process::{Processes, SystemProcess};
 use std::random::RandomSource;
+use std::rt::{Env, Files};
 use std::sync::Wait;
 use std::thread::Threads;
 use std::time::Clock;
@@ -186,6 +187,8 @@ where
         + Clock
         + RandomSource
         + AllocGlobal
+        + Files
+        + Env
         + Net<Listener = TcpListener, Stream = TcpStream>
         + Processes<Started = SystemProcess>
         + Copy
@@ -210,6 +213,8 @@ where
         + Clock
         + RandomSource
         + AllocGlobal
+        + Files
+        + Env
         + Net<Listener = TcpListener, Stream = TcpStream>
         + Processes<Started = SystemProcess>
         + Copy
@@ -233,6 +238,8 @@ where
         + Clock
         + RandomSource
         + AllocGlobal
+        + Files
+        + Env
         + Net<Listener = TcpListener, Stream = TcpStream>
         + Processes<Started = SystemProcess>
         + Copy
@@ -254,6 +261,8 @@ where
         + Clock
         + RandomSource
         + AllocGlobal
+        + Files
+        + Env
         + Net<Listener = TcpListener, Stream = TcpStream>
         + Processes<Started = SystemProcess>
         + Copy
