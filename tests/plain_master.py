@@ -23,8 +23,6 @@ class Master:
         self.exceptions = set()
         # What it answers a session that it has forgotten; None where it knows it.
         self.forgets = None
-        # Whether it refuses each login.
-        self.refuses = False
         self.logins = []
         self.said, self.codes, self.ends = {}, {}, {}
         self.done = asyncio.Event()
@@ -48,8 +46,6 @@ class Master:
 
     async def serve(self, socket):
         login = wire.unpacked(await socket.recv())
-        if self.refuses:
-            return await socket.send(wire.packed({"seq_number": 0, "op": "response", "result": "bad login", "is_exception": True}))
         self.socket = socket
         assert (login["seq_number"], login["op"]) == (0, "auth"), login
         self.logins.append((login["username"], login["password"], login["session"]))

@@ -11,9 +11,7 @@ pub mod Joining
 pub mod Pieces
 pub mod Pipes
 pub mod Opening
-pub mod Stopping
--- What is done about a silent master, and how often a worker connects again.
+-- What is done about a silent master.
 pub mod Keepalives
-pub mod Tries
 -- How much of a pipe is shown at once. It helps the proofs alone.
 pub mod Stretches

@@ -1,4 +1,2 @@
--- To believe: of which command is told next, and what is then told of it; and whose pipes gave an
--- exit code.
+-- To believe: of which command is told next, and what is then told of it.
 pub mod Turns
-pub mod Givers

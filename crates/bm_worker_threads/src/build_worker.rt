@@ -2,7 +2,6 @@
 
 use crate::connection::{Connection, ConnectionEnd};
 use crate::host::Host;
-use crate::marks::Marks;
 use crate::processes::Processes;
 use bm_link::{Attached, WorkerLink};
 use bm_outbox::Tries;
@@ -22,15 +21,18 @@ pub struct BuildWorker<S, K> {
     pub(crate) session: WorkerSession<S, K>,
     pub(crate) processes: Processes,
     pub(crate) tries: Tries,
+    /// Whether a login was answered.
+    pub(crate) is_known: bool,
 }
 
 impl<S: Read + Write + Drop, K: MaskKeys + Drop> BuildWorker<S, K> {
     /// Nothing runs, and nothing was said.
-    pub(crate) fn new(alloc: Global, marks: Marks) -> Result<BuildWorker<S, K>, AllocError> {
+    pub fn new(alloc: Global) -> Result<BuildWorker<S, K>, AllocError> {
         Ok(BuildWorker {
             session: WorkerSession::new(alloc),
-            processes: Processes::new(alloc, marks)?,
+            processes: Processes::new(alloc)?,
             tries: Tries::new(),
+            is_known: false,
         })
     }
 
@@ -62,7 +64,7 @@ impl<S: Read + Write + Drop, K: MaskKeys + Drop> BuildWorker<S, K> {
         link: WorkerLink<S, K>,
         attached: Attached,
     ) -> ConnectionEnd {
-        if attached != Attached::Resumed && self.processes.kill_all(rt, alloc).is_err() {
+        if attached != Attached::Resumed && self.processes.kill_all(alloc).is_err() {
             return ConnectionEnd::NoMemory;
         }
         if self.session.begin(alloc, link, attached).is_err() {
@@ -100,7 +102,7 @@ impl<S: Read + Write + Drop, K: MaskKeys + Drop> BuildWorker<S, K> {
     fn send_next<R: Host>(&mut self, rt: &R, alloc: Global) -> Result<bool, ConnectionEnd> {
         if self.session.outbox.is_empty() {
             let may_say = self.session.unanswered_bytes() < MOST_UNANSWERED_BYTES;
-            self.processes.look(rt);
+            self.processes.look();
             let outbox = &mut self.session.outbox;
             let next = self.processes.next(rt, alloc, may_say, outbox);
             if next.is_err() {

@@ -2,7 +2,6 @@
 
 use crate::build_worker::BuildWorker;
 use crate::connection::Connection;
-use crate::host::Host;
 use crate::mailbox::WorkerMail;
 use crate::ready_stream::ReadyStream;
 use bm_link::{Turn, WorkerLink};
@@ -23,14 +22,15 @@ const LAST_BYTES_SECONDS: u64 = 1;
 impl<S: Read + Write + Drop, K: MaskKeys + Drop> BuildWorker<S, K> {
     /// Kills all commands, and hears the answers to what was said of them, for a second at the
     /// most. A master that finds its connection closed may not look at what came before that.
-    pub(crate) fn hear_last_answers<R: Host>(
+    pub(crate) fn hear_last_answers<R: Wait + Clock>(
         &mut self,
         rt: &R,
         alloc: Global,
         arena: &mut Bump,
         connection: &Connection,
     ) {
-        self.processes.sweep_all(rt, alloc);
+        // Where memory is wanting they are killed all the same.
+        let _ = self.processes.kill_all(alloc);
         let Some(deadline) = after(rt, LAST_ANSWERS_SECONDS) else {
             return;
         };

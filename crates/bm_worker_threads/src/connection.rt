@@ -12,10 +12,8 @@ pub enum ConnectionEnd {
     Shutdown,
     /// The master closed the connection.
     Closed,
-    /// The connection was lost, or its login got no answer.
+    /// The connection was lost.
     Lost,
-    /// The master refused the login.
-    Refused,
     /// Memory is wanting.
     NoMemory,
 }

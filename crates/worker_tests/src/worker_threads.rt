@@ -14,7 +14,6 @@ use std::alloc::{AllocGlobal, Global};
 use std::net::{Net, SocketAddr, TcpListener, TcpStream};
 use std::process::{Processes, SystemProcess};
 use std::random::RandomSource;
-use std::rt::{Env, Files};
 use std::sync::atomic::AtomicU64;
 use std::sync::{Arc, Wait};
 use std::thread;
@@ -82,8 +81,6 @@ where
         + Clock
         + RandomSource
         + AllocGlobal
-        + Files
-        + Env
         + Net<Listener = TcpListener, Stream = TcpStream>
         + Processes<Started = SystemProcess>
         + Copy
@@ -94,7 +91,7 @@ where
 {
     let worker = thread::spawn(&rt, move || {
         let mut is_first = true;
-        let dial = || {
+        let dial = |_: Duration| {
             let stream = if is_first { dial(&rt, address) } else { None };
             is_first = false;
             stream
@@ -113,8 +110,6 @@ where
         + Clock
         + RandomSource
         + AllocGlobal
-        + Files
-        + Env
         + Net<Listener = TcpListener, Stream = TcpStream>
         + Processes<Started = SystemProcess>
         + Copy

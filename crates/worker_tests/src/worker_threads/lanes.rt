@@ -18,7 +18,6 @@ use std::marker::Brand;
 use std::net::{Net, TcpListener, TcpStream};
 use std::process::{Processes, SystemProcess};
 use std::random::RandomSource;
-use std::rt::{Env, Files};
 use std::sync::Wait;
 use std::thread::Threads;
 use std::time::Clock;
@@ -187,8 +186,6 @@ where
         + Clock
         + RandomSource
         + AllocGlobal
-        + Files
-        + Env
         + Net<Listener = TcpListener, Stream = TcpStream>
         + Processes<Started = SystemProcess>
         + Copy
@@ -213,8 +210,6 @@ where
         + Clock
         + RandomSource
         + AllocGlobal
-        + Files
-        + Env
         + Net<Listener = TcpListener, Stream = TcpStream>
         + Processes<Started = SystemProcess>
         + Copy
@@ -238,8 +233,6 @@ where
         + Clock
         + RandomSource
         + AllocGlobal
-        + Files
-        + Env
         + Net<Listener = TcpListener, Stream = TcpStream>
         + Processes<Started = SystemProcess>
         + Copy
@@ -261,8 +254,6 @@ where
         + Clock
         + RandomSource
         + AllocGlobal
-        + Files
-        + Env
         + Net<Listener = TcpListener, Stream = TcpStream>
         + Processes<Started = SystemProcess>
         + Copy
