@@ -7,13 +7,13 @@ untimed, compares each byte.
 
 import base64
 import hashlib
-import os
 import socket
 import subprocess
 import sys
 import time
 
-TICKS = os.sysconf("SC_CLK_TCK")
+from systems import spent, spent_by_threads
+
 ROOM = 8 << 20
 
 
@@ -199,15 +199,11 @@ class Sink:
 
     def spent(self):
         """The worker's seconds of processor time, so far."""
-        with open(f"/proc/{self.worker.pid}/stat", encoding="ascii") as file:
-            fields = file.read().rpartition(")")[2].split()
-        return (int(fields[11]) + int(fields[12])) / TICKS
+        return spent(self.worker)
 
     def spent_by_threads(self):
-        """The seconds of processor time of the worker's threads that run, so far,
-        to the nanosecond."""
-        threads = os.listdir(f"/proc/{self.worker.pid}/task")
-        return sum(int(open(f"/proc/{self.worker.pid}/task/{thread}/schedstat", encoding="ascii").read().split()[0]) for thread in threads) / 1e9
+        """The same of its threads that run, to the nanosecond."""
+        return spent_by_threads(self.worker)
 
     def rest(self, seconds):
         """Says nothing for so long but answers to pings, as a master without work does."""

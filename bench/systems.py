@@ -5,8 +5,9 @@ commands, each of them a text for the shell. What is asked of both is the same, 
 asked of their web.
 """
 
-import base64
 import http.client
+import importlib.machinery
+import importlib.util
 import json
 import os
 import re
@@ -23,6 +24,14 @@ HERE = os.path.dirname(os.path.abspath(__file__))
 PROGRAMS = os.path.abspath(os.environ.get("PROGRAMS", os.path.join(HERE, "..", "dist")))
 PATIENCE = 300
 NULL = subprocess.DEVNULL
+
+
+def loaded(name):
+    """A script of this folder, as a module."""
+    loader = importlib.machinery.SourceFileLoader(name, f"{HERE}/{name}")
+    module = importlib.util.module_from_spec(importlib.util.spec_from_loader(name, loader))
+    loader.exec_module(module)
+    return module
 
 
 class Web:
@@ -70,6 +79,13 @@ def spent(process):
     return (int(fields[11]) + int(fields[12])) / os.sysconf("SC_CLK_TCK")
 
 
+def spent_by_threads(process):
+    """Seconds of processor time that a process's threads that run took so far, to the nanosecond."""
+    threads = os.listdir(f"/proc/{process.pid}/task")
+    paths = [f"/proc/{process.pid}/task/{thread}/schedstat" for thread in threads]
+    return sum(int(open(path, encoding="ascii").read().split()[0]) for path in paths) / 1e9
+
+
 def peak(process):
     """The most memory that a process had so far, in MB."""
     with open(f"/proc/{process.pid}/status", encoding="ascii", errors="replace") as file:
@@ -111,11 +127,16 @@ class System:
 class Ours(System):
     """buildmaster and buildworker."""
 
-    name = "ours"
+    name, programs = "ours", PROGRAMS
 
-    @staticmethod
-    def is_here():
-        return all(os.access(f"{PROGRAMS}/{name}", os.X_OK) for name in ("buildmaster", "buildworker"))
+    @classmethod
+    def of(cls, name, folder):
+        """The same of another folder's programs."""
+        return type(name, (cls,), {"name": name, "programs": os.path.abspath(folder)})
+
+    @classmethod
+    def is_here(cls):
+        return all(os.access(f"{cls.programs}/{name}", os.X_OK) for name in ("buildmaster", "buildworker"))
 
     def begin(self):
         text = 'listen = "127.0.0.1:0"\nweb = "127.0.0.1:0"\n'
@@ -129,12 +150,12 @@ class Ours(System):
             file.write(text)
         pipe = subprocess.PIPE
         self.told = open(f"{self.folder}/told", "w+", encoding="utf-8")
-        words = [f"{PROGRAMS}/buildmaster", "serve", "config.toml"]
+        words = [f"{self.programs}/buildmaster", "serve", "config.toml"]
         self.master = self.run(words, stdin=pipe, stdout=pipe, stderr=self.told, text=True)
         _, listen, web = self.master.stdout.readline().split()
         self.web = Web(web)
         for worker in range(self.count):
-            self.workers.append(self.run([f"{PROGRAMS}/buildworker", listen, f"w{worker}", "p"]))
+            self.workers.append(self.run([f"{self.programs}/buildworker", listen, f"w{worker}", "p"]))
         self.wait_for(self.count, r"^worker \S+ logged in$")
 
     def remarks(self, form):

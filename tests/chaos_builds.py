@@ -92,7 +92,8 @@ class Step:
 
     def words(self):
         if self.kind == "silent":
-            return ["sleep", f"4321.{self.seed}"]
+            # It leaves its parent and its group: whoever ends the command has to find it too.
+            return ["/bin/sh", "-c", f"(setsid sleep 4321.{self.seed} &); sleep 4321.{self.seed}"]
         return ["/usr/bin/python3", "-SE", PRINTER, str(self.seed), str(self.lines), str(self.seconds)]
 
     def table(self):

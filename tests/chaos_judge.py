@@ -56,6 +56,10 @@ def judged(found, printed, is_whole):
     }
 
 
+# The last line of a command that was interrupted.
+STOPPED = "hinterrupted"
+
+
 def compare(step, lines):
     """Compares a log with what its command printed."""
     last = "hprogram finished with exit code 0"
@@ -63,12 +67,15 @@ def compare(step, lines):
     for pipe, line in numbered_lines.printed(step.seed, step.lines):
         said[LETTERS[pipe]].extend(numbered_lines.shown(line))
     headers = [place for place, line in enumerate(lines) if line[:1] == "h"]
-    has_ended = lines[-1:] == [last]
+    has_ended, is_stopped = lines[-1:] == [last], lines[-1:] == [STOPPED]
     is_framed = lines[:1] in ([], ["h" + " ".join(step.words())]) and headers in ([], [0], [0, len(lines) - 1])
-    if not is_framed or (step.result == "SUCCESS" and not has_ended) or (len(headers) == 2 and not has_ended):
+    if not is_framed or (step.result == "SUCCESS" and not has_ended) or (len(headers) == 2 and not (has_ended or is_stopped)):
         fault(f"log {step.log}, {step.result}: its header lines are {[lines[place][:100] for place in headers]}")
     for letter, printed in said.items():
         found = [line[1:] for line in lines if line[:1] == letter]
+        if is_stopped and found and any(line.startswith(found[-1]) for line in printed[len(found) - 1 : len(found)]):
+            # The process was killed within this line.
+            found.pop()
         wrong = judged(found, printed, has_ended or step.result == "SUCCESS")
         FIGURES.update(wrong)
         if wrong:

@@ -7,12 +7,15 @@
 //     DROP_ERRORS=1   what it starts has no standard error
 //     SPARE=1         it kills nothing, ASK_NOT=1 it asks nothing to end
 //     UNHEARD=1       a failed write to its output is none
+//     DELAY=1         its connections send with delay
 //     SAYS=A TELLS=B  of what it writes to its standard error each A becomes B
 //     STATUS=2        it ends with that status in place of 1
 #define _GNU_SOURCE
 #include <dlfcn.h>
 #include <errno.h>
 #include <fcntl.h>
+#include <netinet/in.h>
+#include <netinet/tcp.h>
 #include <pthread.h>
 #include <signal.h>
 #include <spawn.h>
@@ -26,7 +29,7 @@
 #include <unistd.h>
 #define REAL(name) static __typeof__(name) *real; if (!real) real = dlsym(RTLD_NEXT, #name)
 static double pace = 1;
-static int keeps_input, keeps_output, drops_errors, spares, asks_not, is_unheard, status;
+static int keeps_input, keeps_output, drops_errors, spares, asks_not, is_unheard, delays, status;
 static const char *says, *tells;
 static struct timespec begun;
 static long long nanos(struct timespec t) { return t.tv_sec * 1000000000LL + t.tv_nsec; }
@@ -42,6 +45,7 @@ __attribute__((constructor)) static void begin(void) {
     drops_errors = getenv("DROP_ERRORS") != 0;
     spares = getenv("SPARE") != 0;
     asks_not = getenv("ASK_NOT") != 0;
+    delays = getenv("DELAY") != 0;
     is_unheard = getenv("UNHEARD") != 0;
     status = getenv("STATUS") ? atoi(getenv("STATUS")) : 1;
     says = getenv("SAYS");
@@ -65,6 +69,7 @@ int epoll_wait(int set, struct epoll_event *events, int most, int time) {
 }
 int setsockopt(int socket, int level, int name, const void *value, socklen_t size) {
     REAL(setsockopt);
+    if (delays && level == IPPROTO_TCP && name == TCP_NODELAY) return 0;
     if (level != SOL_SOCKET || (name != SO_RCVTIMEO && name != SO_SNDTIMEO)) return real(socket, level, name, value, size);
     struct timeval time = *(const struct timeval *)value;
     long long micros = (long long)((time.tv_sec * 1000000LL + time.tv_usec) * pace);

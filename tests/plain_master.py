@@ -23,6 +23,8 @@ class Master:
         self.exceptions = set()
         # What it answers a session that it has forgotten; None where it knows it.
         self.forgets = None
+        # Whether it refuses each login.
+        self.refuses = False
         self.logins = []
         self.said, self.codes, self.ends = {}, {}, {}
         self.done = asyncio.Event()
@@ -46,12 +48,14 @@ class Master:
 
     async def serve(self, socket):
         login = wire.unpacked(await socket.recv())
+        if self.refuses:
+            return await socket.send(wire.packed({"seq_number": 0, "op": "response", "result": "bad login", "is_exception": True}))
         self.socket = socket
         assert (login["seq_number"], login["op"]) == (0, "auth"), login
         self.logins.append((login["username"], login["password"], login["session"]))
         resumes = login["session"] == self.session and self.forgets is None
-        self.session = login["session"]
         if not resumes:
+            self.session = login.get("next_session", login["session"])
             self.forget()
         await self.answer(0, "resumed" if resumes else self.forgets or "new")
         if resumes:

@@ -1,7 +1,7 @@
 // Refuses one start of a thread: the one with the number REFUSE_THREAD, counted from 1 among those
 // of one thread. That is the main thread where REFUSE_OF is 0, and else the one that the main
-// thread started as its first, second and so on. What was refused is told by the file REFUSE_TOLD,
-// which it makes.
+// thread started as its first, second and so on. Where REFUSE_ALL is set each later one is refused as
+// well. What was refused is told by the file REFUSE_TOLD, which it makes.
 #define _GNU_SOURCE
 #include <dlfcn.h>
 #include <errno.h>
@@ -12,6 +12,7 @@
 #define MOST 1000
 static struct start { void *(*work)(void *); void *with; unsigned long place; } starts[MOST];
 static unsigned long asked, refused, of, begun;
+static int and_all;
 // Which of the main thread's this one is: 0 for all that other threads started.
 static __thread unsigned long place;
 // Programs that this one starts are refused nothing.
@@ -19,6 +20,7 @@ __attribute__((constructor)) static void begin(void) {
     const char *at = getenv("REFUSE_THREAD"), *by = getenv("REFUSE_OF");
     refused = at ? strtoul(at, 0, 10) : 0;
     of = by ? strtoul(by, 0, 10) : 0;
+    and_all = getenv("REFUSE_ALL") != 0;
     unsetenv("LD_PRELOAD");
 }
 static void *placed(void *with) {
@@ -30,7 +32,9 @@ int pthread_create(pthread_t *thread, const pthread_attr_t *attr, void *(*work)(
     static int (*real)(pthread_t *, const pthread_attr_t *, void *(*)(void *), void *);
     if (!real) real = dlsym(RTLD_NEXT, "pthread_create");
     int is_main = gettid() == getpid();
-    if ((of ? place == of : is_main) && __atomic_add_fetch(&asked, 1, __ATOMIC_SEQ_CST) == refused) {
+    int is_counted = of ? place == of : is_main;
+    unsigned long number = is_counted ? __atomic_add_fetch(&asked, 1, __ATOMIC_SEQ_CST) : 0;
+    if (is_counted && refused && (number == refused || (and_all && number > refused))) {
         const char *path = getenv("REFUSE_TOLD");
         int fd = path ? open(path, O_CREAT | O_WRONLY, 0600) : -1;
         if (fd >= 0) close(fd);

@@ -13,7 +13,7 @@ use Rattle.bm_board.specs.Board.{BoardState, opening, with_ready, with_build, ad
 
 -- a step by its flags: haltOnFailure, flunkOnFailure, alwaysRun
 abbrev step : Bool → Bool → Bool → StepPlan
-step halts flunks always = record { name = []; argv = []; halt_on_failure = halts; flunk_on_failure = flunks; always_run = always; max_bytes = 0; timeout_ticks = 0 }
+step halts flunks always = record { name = []; argv = []; halt_on_failure = halts; flunk_on_failure = flunks; always_run = always; max_bytes = 0; timeout_ticks = 0; silent_ticks = 0 }
 
 -- a step that halts the build where it fails, a plain one, and one that always runs
 abbrev three : List StepPlan

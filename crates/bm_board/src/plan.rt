@@ -55,6 +55,9 @@ pub struct StepPlan {
     pub max_bytes: u32,
     /// The step is stopped once so many ticks have passed (`timeout_ticks`); 0 is no limit.
     pub timeout_ticks: u32,
+    /// The step is stopped once its updates have carried nothing for so many ticks
+    /// (`silent_ticks`); 0 is no limit.
+    pub silent_ticks: u32,
 }
 
 impl Copied for StepPlan {
@@ -67,6 +70,7 @@ impl Copied for StepPlan {
             always_run: self.always_run,
             max_bytes: self.max_bytes,
             timeout_ticks: self.timeout_ticks,
+            silent_ticks: self.silent_ticks,
         })
     }
 }

@@ -10,7 +10,6 @@ use Rattle.bm_board.specs.declared.refusal.BoardRefusal.{BoardRefusal}
 use Rattle.bm_board.specs.declared.refusal.BoardRefusal.TheVariants.{NoBuild}
 use Rattle.bm_board.specs.ScheduledBuild.{BuildState, Outcome, job_after, is_waiting, result_in, finish, finish_in, cancel, cancel_in, release, release_in, give_up, give_up_in}
 use Rattle.bm_board.specs.Board.{BoardState, board_after, on_build, start, result_on}
-use Rattle.bm_build_queue.specs.BuildQueue.{after_step}
 use Rattle.bm_build_queue.specs.Laws.{ResultsStay}
 
 -- the result of a build that was looked up
@@ -96,8 +95,8 @@ on_start b job r h = ap (λ o. result_in (job_after job o).phase) (cond-false _ 
 pub results_stay : ResultsStay
 results_stay b n m r h = record {
   start = kept_call (start b) (on_start b) b n m r h;
-  end = λ x. kept_call release (λ job q g. on_release job.phase job q g g) (after_step b m x) n m r
-      (kept_call (finish x) (λ job q g. on_finish job.phase x job q g g) b n m r h);
+  report = λ x. kept_call (finish x) (λ job q g. on_finish job.phase x job q g g) b n m r h;
+  release = kept_call release (λ job q g. on_release job.phase job q g g) b n m r h;
   cancel = kept_call cancel (λ job q g. on_cancel job.phase job q g g) b n m r h;
   give_up = kept_call give_up (λ job q g. on_give_up job.phase job q g g) b n m r h;
 }

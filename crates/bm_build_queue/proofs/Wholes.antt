@@ -19,7 +19,7 @@ use Rattle.bm_board.specs.Steps.{next_of, worse}
 use Rattle.bm_board.specs.ScheduledBuild.{BuildState, Outcome, cancel, cancel_in, done, finish, finish_in, give_up, give_up_in, in_phase, is_sound, is_waiting, job_after, phase_of, release, release_in, started, waiting}
 use Rattle.bm_board.specs.Board.{BoardState, board_after, has_place, on_build, start, with_build}
 use Rattle.bm_board.proofs.Starting.{chosen}
-use Rattle.bm_build_queue.specs.BuildQueue.{CanStart, Ends, after_end, after_step, on_board, phase_on, result_by, whole}
+use Rattle.bm_build_queue.specs.BuildQueue.{CanStart, Releases, Reports, after_release, after_step, on_board, phase_on, result_by, whole}
 use Rattle.bm_build_queue.specs.Wholes.{AreWhole, IsWhole}
 
 -- one step ran, with this outcome
@@ -156,23 +156,40 @@ called call b n job p e h =
 some_is : {X : Type 0} (x y : X) → Some x ≡ Some y → x ≡ y
 some_is x y h = ap (λ o. option_map_or (λ z. z) o x) h
 
-ended_at : (b : BoardState) (n : ℕ) (r : Results) (step : ℕ) (cancelled : Bool) (o : Option BuildState) → slice_get b.jobs n ≡ o → AreWhole b
-    → option_map (λ job. job.phase) o ≡ Some (Running step cancelled) → phase_on (after_end b n r) n ≡ Some (Over (result_by cancelled r) false)
-ended_at b n r step cancelled None e all h = absurd (true≢false (sym (ap is_some h)))
-ended_at b n r step cancelled (Some job) e all h =
+reported_at : (b : BoardState) (n : ℕ) (r : Results) (step : ℕ) (cancelled : Bool) (o : Option BuildState) → slice_get b.jobs n ≡ o → AreWhole b
+    → option_map (λ job. job.phase) o ≡ Some (Running step cancelled) → phase_on (after_step b n r) n ≡ Some (Over (result_by cancelled r) true)
+reported_at b n r step cancelled None e all h = absurd (true≢false (sym (ap is_some h)))
+reported_at b n r step cancelled (Some job) e all h =
     let runs : job.phase ≡ Running step cancelled = some_is job.phase (Running step cancelled) h in
     let new = stepped job step cancelled r in
     let one = called (finish r) b n job (new, next_of job.build.steps (take (step + 1) (done job.outcomes step cancelled r))) e (ap (λ p. finish_in p r job) runs) in
-    let over = stepped_over job step cancelled r (found b n job e all) runs in
-    let two = called release (after_step b n r) n new (in_phase new (Over (result_by cancelled r) false), tt) one (ap (λ p. release_in p new) over) in
-    ap (λ q. option_map (λ (j : BuildState). j.phase) q) two
+    ap (λ q. option_map (λ (j : BuildState). j.phase) q) one ∙ ap Some (stepped_over job step cancelled r (found b n job e all) runs)
 
--- a build that ran has ended with what its runner reports
-pub ended : (b now mid new : BoardState) (n : ℕ) (r : Results) → b ≡ now → mid ≡ board_after b n (on_build (finish r) b n)
-    → new ≡ board_after mid n (on_build release mid n) → AreWhole b → Ends now new n r
-ended b now mid new n r v m e all = λ step cancelled h.
-    ap (λ z. phase_on z n) (e ∙ ap (λ z. board_after z n (on_build release z n)) m)
-    ∙ ended_at b n r step cancelled (slice_get b.jobs n) refl all (ap (λ z. phase_on z n) v ∙ h)
+-- a build that ran has the result that its runner reports
+pub reported : (b now new : BoardState) (n : ℕ) (r : Results) → b ≡ now → new ≡ board_after b n (on_build (finish r) b n)
+    → AreWhole b → Reports now new n r
+reported b now new n r v e all = λ step cancelled h.
+    ap (λ z. phase_on z n) e
+    ∙ reported_at b n r step cancelled (slice_get b.jobs n) refl all (ap (λ z. phase_on z n) v ∙ h)
+
+released_by : (b : BoardState) (n : ℕ) (job : BuildState) (result : Results) (holds : Bool) → slice_get b.jobs n ≡ Some job → job.phase ≡ Over result holds
+    → phase_on (after_release b n) n ≡ Some (Over result false)
+released_by b n job result true e h =
+    ap (λ q. option_map (λ (j : BuildState). j.phase) q)
+    (called release b n job (in_phase job (Over result false), tt) e (ap (λ p. release_in p job) h))
+released_by b n job result false e h =
+    ap (λ out. phase_on (board_after b n out) n) (ap (λ o. option_map_or release o (Err NoBuild)) e ∙ ap (λ p. release_in p job) h)
+    ∙ ap (λ q. option_map (λ (j : BuildState). j.phase) q) e ∙ ap Some h
+
+released_at : (b : BoardState) (n : ℕ) (result : Results) (holds : Bool) (o : Option BuildState) → slice_get b.jobs n ≡ o
+    → option_map (λ job. job.phase) o ≡ Some (Over result holds) → phase_on (after_release b n) n ≡ Some (Over result false)
+released_at b n result holds None e h = absurd (true≢false (sym (ap is_some h)))
+released_at b n result holds (Some job) e h = released_by b n job result holds e (some_is job.phase (Over result holds) h)
+
+-- a build that is over holds nothing once it is released
+pub released : (b now new : BoardState) (n : ℕ) → b ≡ now → new ≡ board_after b n (on_build release b n) → Releases now new n
+released b now new n v e = λ result holds h.
+    ap (λ z. phase_on z n) e ∙ released_at b n result holds (slice_get b.jobs n) refl (ap (λ z. phase_on z n) v ∙ h)
 
 -- a start is never refused for memory
 chosen_not_mem : (job : BuildState) (waits place free : Bool) → chosen job waits place free ≡ Err Mem → ⊥

@@ -14,7 +14,7 @@ use Rattle.bm_board.specs.Steps.{worse}
 use Rattle.bm_board.specs.declared.refusal.BoardRefusal.{BoardRefusal}
 use Rattle.bm_build_queue.specs.ViewerPool.{PoolState}
 use Rattle.bm_board.specs.ScheduledBuild.{answer_of, cancel, finish, give_up, release}
-use Rattle.bm_board.specs.Board.{BoardState, board_after, on_build, start, result_on, worker_of}
+use Rattle.bm_board.specs.Board.{BoardState, board_after, occupied, on_build, start, result_on, worker_of}
 
 -- its board, the viewers that no build has, and whether memory was wanting for the last start
 pub record QueueState : Type 0 where
@@ -37,6 +37,7 @@ whole =
       always_run = false;
       max_bytes = 0;
       timeout_ticks = 0;
+      silent_ticks = 0;
     }
 
 -- what a build is on the board: its worker, its locks, and that step
@@ -79,10 +80,6 @@ after_step b number result = board_after b number (on_build (finish result) b nu
 abbrev pub after_release : BoardState → ℕ → BoardState
 after_release b number = board_after b number (on_build release b number)
 
--- the board once a build's runner has reported
-abbrev pub after_end : BoardState → ℕ → Results → BoardState
-after_end b number result = after_release (after_step b number result) number
-
 -- the board once a build was cancelled
 abbrev pub after_cancel : BoardState → ℕ → BoardState
 after_cancel b number = board_after b number (on_build cancel b number)
@@ -100,11 +97,21 @@ phase_on b number = option_map (λ job. job.phase) (slice_get b.jobs number)
 abbrev pub result_by : Bool → Results → Results
 result_by cancelled reported = if cancelled then Cancelled else worse Success reported
 
--- a build that ran has this result now, and holds nothing
-abbrev pub Ends : BoardState → BoardState → ℕ → Results → Type 0
-Ends old new number reported =
+-- a build that ran has this result now, and holds its slot and its locks
+abbrev pub Reports : BoardState → BoardState → ℕ → Results → Type 0
+Reports old new number reported =
     (step : ℕ) (cancelled : Bool) → phase_on old number ≡ Some (Running step cancelled)
-    → phase_on new number ≡ Some (Over (result_by cancelled reported) false)
+    → phase_on new number ≡ Some (Over (result_by cancelled reported) true)
+
+-- as many slots of each worker are taken as before
+abbrev pub HoldsSlots : BoardState → BoardState → Type 0
+HoldsSlots old new = (worker : ℕ) → occupied worker new.jobs ≡ occupied worker old.jobs
+
+-- a build that is over has its result still, and holds nothing
+abbrev pub Releases : BoardState → BoardState → ℕ → Type 0
+Releases old new number =
+    (result : Results) (holds : Bool) → phase_on old number ≡ Some (Over result holds)
+    → phase_on new number ≡ Some (Over result false)
 
 -- the build of this number has its result
 abbrev pub HasResult : BoardState → ℕ → Type 0

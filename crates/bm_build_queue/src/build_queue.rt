@@ -1,6 +1,6 @@
 //! The build queue itself.
 ghost use Rattle.std.specs.Prelude.{◌≡◌, ◌⊎◌, ◌<◌, ◌≤◌, ℕ, All, IfOk, OnOk, OnErr, IfErr, IfSome, IfNone, IsSome, length, true, false, Ok, Some, None, position};
-ghost use Rattle.bm_build_queue.specs.BuildQueue.{AreResults, CanStart, Ends, IsOver, IsStarted, LacksResult, after_end, after_cancel, after_giving_up, can_start, has_viewer, on_board, with_board};
+ghost use Rattle.bm_build_queue.specs.BuildQueue.{AreResults, CanStart, HoldsSlots, IsOver, IsStarted, LacksResult, Releases, Reports, after_cancel, after_giving_up, after_release, after_step, can_start, has_viewer, on_board, with_board};
 ghost use Rattle.bm_build_queue.specs.ViewerPool.{IsGiven, IsTaken, is_taken_back};
 ghost use Rattle.bm_build_queue.specs.Cancels.{met_by};
 ghost use Rattle.bm_board.specs.ScheduledBuild.{answer_of, cancel, waits_for};
@@ -64,6 +64,7 @@ fn as_one_step(alloc: Global, build: &Build) -> Result<Build, AllocError>
         always_run: false,
         max_bytes: 0,
         timeout_ticks: 0,
+        silent_ticks: 0,
     };
     let mut steps = Vec::with_capacity(alloc, 1)?;
     steps.push_reserved(step);
@@ -150,7 +151,7 @@ impl<Y: Yard> BuildQueue<Y> {
         self.board.is_wanted(worker)
     }
 
-    /// Whether a build of the worker runs: it was started, and hasn't come back by `end`.
+    /// Whether a build of the worker holds a slot: it was started, and not released.
     pub fn has_build(&self, worker: usize) -> bool
         ensures { result ≡ has_build self.now.board worker }
     {
@@ -220,8 +221,8 @@ impl<Y: Yard> BuildQueue<Y> {
     }
 
     /// Starts the first of the builds that can be started now. It waits, its worker is ready and
-    /// has a free slot and a viewer left, and its locks may be had. It is to run, and to come back
-    /// by `end`. None where there is none, or memory is wanting for each of them.
+    /// has a free slot and a viewer left, and its locks may be had. It is to run, to be reported,
+    /// and to be released. None where there is none, or memory is wanting for each of them.
     pub fn next(&mut self) -> Option<Assignment<Y>>
         ensures started { IfSome result
             (λ c. IsStarted self.old.board self.new.board c.number c.worker) }
@@ -251,20 +252,29 @@ impl<Y: Yard> BuildQueue<Y> {
         self.is_short
     }
 
-    /// A build that was started comes back with what its runner reports, which is kept as its
-    /// result; or CANCELLED, where it was cancelled meanwhile. It gives its slot and its locks
-    /// back. Its viewer goes back to the pool of its lane, and the answer is whether it has a place
-    /// there: one that `next` gave has. It takes no memory.
-    pub fn end(&mut self, number: u64, reported: Results, viewer: Viewer<Y>) -> bool
-        ensures board { self.new.board ≡ after_end self.old.board number reported }
-        ensures ended { Ends self.old.board self.new.board number reported }
+    /// The runner of a build that was started reports this, which is kept as the build's result; or
+    /// CANCELLED, where it was cancelled meanwhile. The build holds its slot and its locks until it
+    /// is released, since a command of it may be open. It takes no memory.
+    pub fn report(&mut self, number: u64, reported: Results)
+        ensures board { self.new ≡ with_board self.old (after_step self.old.board number reported) }
+        ensures reported { Reports self.old.board self.new.board number reported }
+        ensures held { HoldsSlots self.old.board self.new.board }
+    {
+        let _ = self.board.step_done(number, reported);
+    }
+
+    /// A build that has its result gives its slot and its locks back. Its viewer goes back to the
+    /// pool of its lane, and the answer is whether it has a place there: one that `next` gave has.
+    /// It takes no memory.
+    pub fn release(&mut self, number: u64, viewer: Viewer<Y>) -> bool
+        ensures board { self.new.board ≡ after_release self.old.board number }
+        ensures released { Releases self.old.board self.new.board number }
         ensures answer { result ≡ is_taken_back self.old.pools viewer }
         ensures given { result ≡ true
             → IsGiven self.old.pools self.new.pools viewer.lane viewer }
         ensures lost { result ≡ false → self.new.pools ≡ self.old.pools }
         ensures memory { self.new.is_short ≡ self.old.is_short }
     {
-        let _ = self.board.step_done(number, reported);
         let _ = self.board.release(number);
         let Some(pool) = self.pools.get_mut(viewer.lane() as usize) else {
             return false;

@@ -130,6 +130,7 @@ step_row before d =
     and_then (flag_at false keys.AlwaysRun m) (λ always.
     and_then (number_at 0 0xffff_ffff 0x4000_0000 keys.MaxBytes m) (λ bytes.
     and_then (number_at 0 most 0 keys.TimeoutTicks m) (λ ticks.
+    and_then (number_at 0 most 0 keys.SilentTicks m) (λ silent.
     Ok (record {
       name = name;
       argv = argv;
@@ -138,7 +139,8 @@ step_row before d =
       always_run = always;
       max_bytes = bytes;
       timeout_ticks = ticks;
-    })))))))))
+      silent_ticks = silent;
+    }))))))))))
 
 -- the locks that a build holds, and its steps
 abbrev pub uses_of : List LockConfig → Members → Result (List LockUse) Key

@@ -1,7 +1,7 @@
 -- The names of the keys of a configuration.
 use Rattle.std.specs.Prelude.{ℕ, List, codes}
 use Rattle.bm_config.specs.declared.keys.Key.{Key}
-use Rattle.bm_config.specs.declared.keys.Key.TheVariants.{Listen, Web, Address, Capacity, Writers, Worker, Name, Password, Slots, Latent, IdleTicks, ResumeTicks, Lock, Max, Build, Locks, Mode, Step, Command, HaltOnFailure, FlunkOnFailure, AlwaysRun, MaxBytes, TimeoutTicks}
+use Rattle.bm_config.specs.declared.keys.Key.TheVariants.{Listen, Web, Address, Capacity, Writers, Worker, Name, Password, Slots, Latent, IdleTicks, ResumeTicks, Lock, Max, Build, Locks, Mode, Step, Command, HaltOnFailure, FlunkOnFailure, AlwaysRun, MaxBytes, TimeoutTicks, SilentTicks}
 
 -- a key's name
 abbrev pub name_of : Key → List ℕ
@@ -29,3 +29,4 @@ name_of FlunkOnFailure = codes "flunkOnFailure"
 name_of AlwaysRun = codes "alwaysRun"
 name_of MaxBytes = codes "max_bytes"
 name_of TimeoutTicks = codes "timeout_ticks"
+name_of SilentTicks = codes "silent_ticks"

@@ -28,7 +28,8 @@ const MAX_BYTES: NumberRange = NumberRange {
     missing: 1 << 30,
 };
 
-const TIMEOUT_TICKS: NumberRange = NumberRange {
+/// Of `timeout_ticks` and of `silent_ticks`: 0 is no limit.
+const TICKS: NumberRange = NumberRange {
     low: 0,
     high: MOST,
     missing: 0,
@@ -100,7 +101,8 @@ impl ConfigRow<()> for StepPlan {
         let flunk_on_failure = flag(table, Key::FlunkOnFailure, true)?;
         let always_run = flag(table, Key::AlwaysRun, false)?;
         let max_bytes = number(table, Key::MaxBytes, MAX_BYTES)?;
-        let timeout_ticks = number(table, Key::TimeoutTicks, TIMEOUT_TICKS)?;
+        let timeout_ticks = number(table, Key::TimeoutTicks, TICKS)?;
+        let silent_ticks = number(table, Key::SilentTicks, TICKS)?;
         Ok(StepPlan {
             name: Text::from_str(alloc, name)?,
             argv,
@@ -109,6 +111,7 @@ impl ConfigRow<()> for StepPlan {
             always_run,
             max_bytes,
             timeout_ticks,
+            silent_ticks,
         })
     }
 }

@@ -30,6 +30,7 @@ pub enum Key {
     AlwaysRun,
     MaxBytes,
     TimeoutTicks,
+    SilentTicks,
 }
 
 impl Key {
@@ -62,6 +63,7 @@ impl Key {
             Key::AlwaysRun => "alwaysRun",
             Key::MaxBytes => "max_bytes",
             Key::TimeoutTicks => "timeout_ticks",
+            Key::SilentTicks => "silent_ticks",
         }
     }
 }

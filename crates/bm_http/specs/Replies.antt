@@ -28,6 +28,9 @@ refusal r = record { status = status_of r; body = error_text (text_of r) }
 abbrev pub unavailable : Reply
 unavailable = record { status = 503; body = [] }
 
+abbrev pub bad_request : Reply
+bad_request = record { status = 400; body = [] }
+
 -- what is answered where the viewer gave no log
 abbrev pub no_view : ViewRefusal → Reply
 no_view NoLog = refusal NoSuchLog

@@ -14,6 +14,7 @@
 mod answer;
 mod bodies;
 mod first_look;
+mod host_fields;
 mod lane_viewers;
 pub mod laws;
 mod log_request;
@@ -27,6 +28,7 @@ mod whole_or_long;
 
 pub use answer::Answer;
 pub use first_look::FirstLook;
+pub use host_fields::is_host;
 pub use lane_viewers::{LaneViewers, ViewersError};
 pub use log_request::{LogRequest, Span};
 pub use long_answer::{BodyPiece, LongAnswer, PieceError};

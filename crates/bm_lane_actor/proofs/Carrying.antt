@@ -20,7 +20,7 @@ use Rattle.bm_link.specs.declared.fault.LinkFault.{LinkFault}
 use Rattle.bm_link.specs.declared.parts.Turn.{Turn}
 use Rattle.bm_link.specs.declared.parts.Turn.TheVariants as turn
 use Rattle.bm_link.specs.Asking.{AsksFor}
-use Rattle.bm_link.specs.Attaching.{TakesUpFor, AttachesAs, Declined, cleared, taken_up, resumes}
+use Rattle.bm_link.specs.Attaching.{TakesUpFor, AttachesAs, Declined, beginning, cleared, taken_up, resumes}
 use Rattle.bm_link.specs.Carries.{Carried, begun, carried_after, carried_with, has_asked, is_same, new_carried}
 use Rattle.bm_link.specs.Endings.{Ends, Falls}
 use Rattle.bm_link.specs.Laws.{CarriesPending}
@@ -119,9 +119,9 @@ gone-up true true lane resume_state named c h = resumed-up lane.trace resume_sta
 gone-up true false lane resume_state named c h = begun-up (lane.trace ++ Down ∷ []) resume_state named (is_cut-push lane.trace Down)
 gone-up false same lane resume_state named c h = begun-up lane.trace resume_state named c
 
-went-up : (lane : Heard) (resume_state : Carried) (named : Option (List ℕ)) → Keeps resume_state lane
-    → Keeps (carried_with (resumes lane.trace resume_state named) resume_state named) (taken_up (resumes lane.trace resume_state named) lane)
-went-up lane resume_state named h = gone-up (is_cut lane.trace) (is_same resume_state.text named) lane resume_state named refl h
+went-up : (lane : Heard) (resume_state : Carried) (named begins : Option (List ℕ)) → Keeps resume_state lane
+    → Keeps (carried_with (resumes lane.trace resume_state named) resume_state begins) (taken_up (resumes lane.trace resume_state named) lane)
+went-up lane resume_state named begins h = gone-up (is_cut lane.trace) (is_same resume_state.text named) lane resume_state begins refl h
 
 cleared-keeps : (cut resumed : Bool) (lane : Heard) (resume_state : Carried) → Keeps resume_state lane
     → Keeps resume_state (if cut then (if resumed then lane else with_event lane Down) else lane)
@@ -150,8 +150,8 @@ module _ {S : Type 0} where
       → CarriesPending resume_state2 lane2.trace
   attached contents None link link2 lane lane2 resume_state resume_state2 r h (e, n, (l, c)) = moved resume_state resume_state2 lane lane2 l c h
   attached contents (Some login) link link2 lane lane2 resume_state resume_state2 (Ok a) h (((told, l, c, sent), up), none) =
-      moved (carried_with (resumes lane.trace resume_state login.session) resume_state login.session) resume_state2 (taken_up (resumes lane.trace resume_state login.session) lane) lane2 l c (
-      went-up lane resume_state login.session h
+      moved (carried_with (resumes lane.trace resume_state login.session) resume_state (beginning login.session login.next)) resume_state2 (taken_up (resumes lane.trace resume_state login.session) lane) lane2 l c (
+      went-up lane resume_state login.session (beginning login.session login.next) h
       )
   attached contents (Some login) link link2 lane lane2 resume_state resume_state2 (Err f) h (a, none) = go a
     where
@@ -159,9 +159,9 @@ module _ {S : Type 0} where
       go (inl (failed, (why, d, is, told), c)) = declined-keeps (resumes lane.trace resume_state login.session) lane lane2 resume_state resume_state2 why d c h
       go (inr ((e, ends, at), c, unsent)) =
           over _ (taken_up (resumes lane.trace resume_state login.session) lane) lane2 resume_state2 e ends (
-          moved (carried_with (resumes lane.trace resume_state login.session) resume_state login.session) resume_state2
+          moved (carried_with (resumes lane.trace resume_state login.session) resume_state (beginning login.session login.next)) resume_state2
           (taken_up (resumes lane.trace resume_state login.session) lane) (taken_up (resumes lane.trace resume_state login.session) lane) refl c (
-          went-up lane resume_state login.session h
+          went-up lane resume_state login.session (beginning login.session login.next) h
           )
           )
 

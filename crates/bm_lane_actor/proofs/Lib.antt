@@ -1,4 +1,5 @@
 pub mod Carrying
 pub mod Declining
 pub mod Serving
+pub mod Waiting
 pub mod ConnectionStates

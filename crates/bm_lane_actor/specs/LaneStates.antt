@@ -2,7 +2,7 @@
 -- what the lane's link and the lane themselves do.
 use Rattle.std.specs.Prelude.{◌≡◌, ℕ, ◌==◌, Bool, true, false, not, ◌||◌, if◌then◌else◌, List, length}
 use Rattle.std.specs.Prelude.{Option, Some, None, Result, Ok, Err}
-use Rattle.bm_session.specs.declared.refusal.Refusal.TheVariants.{Mem, Full}
+use Rattle.bm_session.specs.declared.refusal.Refusal.TheVariants.{Mem, Full, TooManyOpen}
 use Rattle.bm_session.specs.Trace.{is_up, is_cut, commands, orders}
 use Rattle.bm_session.specs.declared.event.Event.{Event}
 use Rattle.bm_session.specs.declared.event.Event.TheVariants.{Down}
@@ -61,11 +61,13 @@ abbrev pub renewed : ℕ → Heard → TimerView → TimerView
 renewed n lane t = if is_up lane.trace || not (n == length lane.trace) then begun t else t
 
 -- What a build is told of a start: the command's number, or to try it later, or that it is
--- refused. It is tried later where the lane is busy, or the link failed and the lane took no
--- order. A full lane refuses it with that reason.
+-- refused. It is tried later where the lane is busy, has no room for one more open command or wants
+-- memory. Or the link failed and the lane took no order. A full lane refuses it with that reason.
 abbrev pub start_outcome : Bool → Result ℕ LinkFault → OrderOutcome
 start_outcome taken (Ok k) = outcome.Started k
 start_outcome taken (Err (Lane Busy)) = outcome.Later
+start_outcome taken (Err (Lane (Session TooManyOpen))) = outcome.Later
+start_outcome taken (Err (Lane (Session Mem))) = outcome.Later
 start_outcome taken (Err (Lane (Session Full))) = outcome.Full
 start_outcome taken (Err (Lane why)) = outcome.Refused
 start_outcome taken (Err f) = if taken then outcome.Refused else outcome.Later

@@ -7,14 +7,20 @@ pub mod ResumeTimer
 pub mod PeerTimer
 pub mod StepMeter
 -- LaneEvents: what is told of a lane, and what follows. Login: what a connection is once it has
--- logged in. LoginRefusals: why another one was not taken up.
+-- logged in. LoginFates: what becomes of it at a lane that is up. LoginRefusals: why another one was
+-- not taken up.
 pub mod LaneEvents
 pub mod Login
+pub mod LoginFates
 pub mod LoginRefusals
 -- Ports: what a build's port to a lane is, and answers. ByteCount: how many bytes an update
 -- carries.
 pub mod Ports
 pub mod ByteCount
+-- StopOrders: which order to interrupt a command is sent, and which is kept. ReadWatch: when a link
+-- is read no more until something comes.
+pub mod StopOrders
+pub mod ReadWatch
 -- What a gate of a pool answers, and how many connections may wait for their login.
 pub mod Gates
 pub mod LoginLimits

@@ -1,4 +1,5 @@
 -- What a build's port to a lane is.
+use mathlib.Core.List.{IsPrefix}
 use Rattle.std.specs.Prelude.{◌≡◌, ◌⊎◌, ℕ, ◌-◌, ◌^◌, Bool, true, false, not, ◌&&◌, List, [], ◌∷◌, ◌++◌, if◌then◌else◌, Option, Some, None, Result, Ok, Err}
 use Rattle.bm_session.specs.declared.results.Results.{Results}
 use Rattle.bm_session.specs.declared.results.Results.TheVariants.{Retry, Exception, Cancelled}
@@ -15,7 +16,7 @@ use Rattle.bm_runner.specs.Port.{first_entry}
 use Rattle.bm_lines.specs.Names.{stdio}
 use Rattle.bm_lane.specs.Ends.{Watched}
 use Rattle.bm_lane.specs.Looks.{GivesState}
-use Rattle.bm_lane_actor.specs.StepMeter.{MeterView, fresh, is_given_up, meter_after, outcome_of}
+use Rattle.bm_lane_actor.specs.StepMeter.{MeterView, fresh, given_up_result, is_given_up, meter_after, outcome_of}
 
 -- What its viewer has seen of the lane, and the limits of the last step that was started. Then an
 -- entry for each command that it started, and whether a start was refused.
@@ -49,6 +50,7 @@ is_left_out cancelled always_run = cancelled && not always_run
 
 -- why a step isn't started whose order came to this, and isn't tried again
 abbrev pub start_refusal : OrderOutcome → StartRefusal
+start_refusal outcome.Cancelled = why.Cancelled
 start_refusal outcome.Full = why.Full
 start_refusal outcome.TooLong = why.TooLong
 start_refusal _ = why.Lost
@@ -68,16 +70,27 @@ Looks old k said new =
     × (said ≡ polled cancelled state) × (new.meter ≡ old.meter) × (new.told ≡ old.told)
     × (new.refused ≡ old.refused)
 
+-- a command is seen so whose build was cancelled
+abbrev pub is_cancel : Polled → Bool
+is_cancel Cancel = true
+is_cancel said = false
+
+-- How a command ends, or runs on, that has not ended, by its meter now. One whose end was awaited
+-- for too long ends by it.
+abbrev pub waits_on : MeterView → Polled → Polled
+waits_on m seen = if is_given_up m then Ended (given_up_result m) else seen
+
 -- What its step's limits make of how a command is seen to do, whose updates have carried so many
--- bytes. One that has reached a limit ends EXCEPTION, also where its end is awaited for too long.
+-- bytes. One that has reached a limit ends EXCEPTION. One that was interrupted, and whose end is
+-- awaited for too long, ends by what it was interrupted for.
 abbrev pub at_limits : MeterView → ℕ → Polled → Polled
 at_limits m bytes (Ended result) = Ended (outcome_of m result)
-at_limits m bytes seen = if is_given_up (meter_after m bytes) then Ended Exception else seen
+at_limits m bytes seen = waits_on (meter_after m bytes (is_cancel seen)) seen
 
 -- a tick of its step is over, but for one that has ended
 abbrev pub ticked : MeterView → ℕ → Polled → MeterView
 ticked m bytes (Ended result) = m
-ticked m bytes seen = meter_after m bytes
+ticked m bytes seen = meter_after m bytes (is_cancel seen)
 
 abbrev pub with_meter : PortView → MeterView → PortView
 with_meter p m =
@@ -94,7 +107,15 @@ Sees old k said new =
 abbrev pub no_command : ℕ
 no_command = 2 ^ 64 - 1
 
--- what a build is told of its command; of none, that it was cancelled
+-- the viewer has looked, and may have seen more; nothing else has changed
+abbrev pub Waits : PortView → PortView → Type 0
+Waits old new =
+    (new.viewer.lane ≡ old.viewer.lane) × IsPrefix old.viewer.seen new.viewer.seen
+    × (new.meter ≡ old.meter) × (new.told ≡ old.told) × (new.refused ≡ old.refused)
+
+-- What a build is told of its command, once it has waited for a tick or for that command's end; of
+-- none, that it was cancelled.
 abbrev pub Polls : PortView → ℕ → Polled → Type 0
 Polls old k said =
-    ((k ≡ no_command) × (said ≡ Ended Cancelled)) ⊎ ((new : PortView) × Sees old k said new)
+    ((k ≡ no_command) × (said ≡ Ended Cancelled))
+    ⊎ ((waited : PortView) × (new : PortView) × Waits old waited × Sees waited k said new)

@@ -2,10 +2,10 @@
 
 ghost use Rattle.std.specs.Prelude.{◌≡◌, ◌+◌, ◌-◌, ◌^◌, ◌++◌, ◌∷◌, [], ◌==◌, filter, fold, min, length, nat_lt, not, ◌<◌, vec_len, vec_capacity, OnOk};
 ghost use Rattle.bm_lines.specs.Lines.{content_of};
-ghost use Rattle.bm_lane_actor.specs.ByteCount.{carried};
+ghost use Rattle.bm_lane_actor.specs.ByteCount.{bytes_of, carried, name_bytes};
 ghost use Rattle.bm_lane_actor.specs.declared.byte_count.CountedCommand.{CountedCommand};
 
-use bm_lines::LogLines;
+use bm_lines::{LogLines, LogName, STDIO};
 use bm_session::{Body, Event};
 use std::alloc::{AllocError, Global};
 use std::sync::Arc;
@@ -28,15 +28,37 @@ pub(crate) struct ByteCounts {
     commands: Vec<CountedCommand>,
 }
 
-/// How many bytes these parts of an update carry, as the web gives them: each line's letter, text
-/// and line end.
+/// How many bytes the name of a log counts beside its text. The log of a new name takes more
+/// memory, and at most twice as much.
+const NAME_BYTES: u64 = 512;
+
+/// How many bytes the name of a log counts, each time that an update says it. That of `stdio`,
+/// which every command has, counts nothing.
+fn name_bytes(name: &LogName) -> u64
+    ensures { result ≡ name_bytes name.now }
+{
+    if name.is(STDIO) {
+        0
+    } else {
+        add_bytes(NAME_BYTES, name.as_str().len() as u64)
+    }
+}
+
+/// How many bytes a part of an update carries, as the web gives them: each line's letter, text and
+/// line end. Its name counts too.
+fn bytes_of(part: &LogLines) -> u64
+    ensures { result ≡ bytes_of part.now }
+{
+    add_bytes(part.block.content().len() as u64, name_bytes(&part.name))
+}
+
+/// How many bytes these parts of an update carry.
 fn carried(parts: &[LogLines]) -> u64
     ensures { result ≡ carried parts.now }
 {
-    parts.iter().fold(
-        0,
-        |sum, part| add_bytes(sum, part.block.content().len() as u64),
-    )
+    parts
+        .iter()
+        .fold(0, |sum, part| add_bytes(sum, bytes_of(part)))
 }
 
 fn add_bytes(sum: u64, bytes: u64) -> u64
@@ -53,13 +75,6 @@ impl ByteCounts {
         ByteCounts {
             commands: Vec::new(alloc),
         }
-    }
-
-    /// Whether there is no such command.
-    pub fn is_empty(&self) -> bool
-        ensures { result ≡ not (nat_lt 0 (length self.now.commands.items)) }
-    {
-        self.commands.is_empty()
     }
 
     /// Makes room for one command more. Want of memory changes nothing.
@@ -89,10 +104,10 @@ impl ByteCounts {
         self.commands.retain(|counted| command != counted.command);
     }
 
-    /// The worker said this.
-    pub fn note(&self, event: &Event) {
+    /// The worker said this. The answer is whether it said lines alone, by which no command ends.
+    pub fn note(&self, event: &Event) -> bool {
         let Event::In(_, Body::Update { command, batch, .. }) = event else {
-            return;
+            return false;
         };
         for counted in self.commands.iter() {
             if counted.command == *command {
@@ -100,5 +115,6 @@ impl ByteCounts {
                 counted.bytes.fetch_add(bytes, Ordering::SeqCst);
             }
         }
+        true
     }
 }

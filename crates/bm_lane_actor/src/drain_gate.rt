@@ -3,6 +3,9 @@
 //! A lane's actor calls `wake` after each event. Each worker of the pool remembers how many such
 //! calls there had been when its round of the lanes began. It sleeps after a whole round without an
 //! item, as long as there was no call since.
+//!
+//! Builds wait here too. Each waits until the actor has heard what may end its command, and then
+//! until the pool has drained an item. So a build that is woken sees what woke it.
 
 ghost use Rattle.std.specs.Prelude.{◌≡◌};
 ghost use Rattle.bm_lane_actor.specs.Gates.{is_whole_round, pass_of};
@@ -15,14 +18,19 @@ use std::sync::atomic::{AtomicBool, AtomicU64, Ordering};
 use std::thread;
 use std::time::{Clock, Duration};
 
-/// What the actor of a lane and the workers tell each other.
+/// How long a worker of the pool sleeps at most, in milliseconds.
+const REST_MS: u64 = 500;
+
+/// What the actor of a lane, its builds and the workers tell each other.
 #[derive(Drop)]
 struct LaneFlags {
     /// 1 where the queue may have an item that no worker goes for.
     full: AtomicU64,
-    /// How many items were taken from it.
+    /// A count that grows with each item taken from it, and with each call of all its builds.
     took: AtomicU64,
-    /// 1 while the actor waits for a place.
+    /// How often the lane's builds were called to look.
+    calls: AtomicU64,
+    /// How many wait until more were taken.
     waits: AtomicU64,
 }
 
@@ -42,8 +50,8 @@ struct WorkerRound {
     idle: AtomicU64,
 }
 
-/// Wakes workers, and the actors that met Busy. A worker sleeps for a tick at most, and rests as
-/// long after want of memory. An actor waits for a tick at most after Busy.
+/// Wakes workers, the actors that met Busy, and the builds that wait for their command's end. A
+/// worker sleeps for half a second at most, and rests for a tick after want of memory.
 #[derive(Drop)]
 pub struct DrainGate<R: Wait + Clock + Drop> {
     rt: R,
@@ -91,6 +99,7 @@ impl<R: Wait + Clock + Drop> DrainGate<R> {
             lanes.push(LaneFlags {
                 full: AtomicU64::new(0),
                 took: AtomicU64::new(0),
+                calls: AtomicU64::new(0),
                 waits: AtomicU64::new(0),
             })?;
         }
@@ -122,6 +131,41 @@ impl<R: Wait + Clock + Drop> DrainGate<R> {
         }
     }
 
+    /// Tells that the lane may have an item by which a command ends: its builds are called.
+    pub(crate) fn ring(&self, lane: usize) {
+        if let Some(flags) = self.lanes.get(lane) {
+            flags.calls.fetch_add(1, Ordering::SeqCst);
+            flags.calls.wake_all();
+        }
+        self.wake(lane);
+    }
+
+    /// Calls the lane's builds whatever they wait for: one of them was cancelled, or the lane is
+    /// connected in another way.
+    pub fn call_builds(&self, lane: usize) {
+        if let Some(flags) = self.lanes.get(lane) {
+            flags.calls.fetch_add(1, Ordering::SeqCst);
+            flags.calls.wake_all();
+            flags.took.fetch_add(1, Ordering::SeqCst);
+            flags.took.wake_all();
+        }
+    }
+
+    /// How often the lane's builds were called.
+    pub(crate) fn calls(&self, lane: usize) -> u64 {
+        match self.lanes.get(lane) {
+            Some(flags) => flags.calls.load(Ordering::SeqCst),
+            None => 0,
+        }
+    }
+
+    /// Waits until they were called more often than so; `most` at most.
+    pub(crate) fn wait_for_call(&self, lane: usize, calls: u64, most: Duration) {
+        if let Some(flags) = self.lanes.get(lane) {
+            flags.calls.park_timeout(&self.rt, low(calls), most);
+        }
+    }
+
     /// Ends the workers at their next turn.
     pub fn stop(&self) {
         self.stopped.store(true, Ordering::SeqCst);
@@ -129,7 +173,7 @@ impl<R: Wait + Clock + Drop> DrainGate<R> {
         self.wakes.wake_all();
     }
 
-    /// How many items were taken from the lane's queue.
+    /// A count that grows with each item that is taken from the lane's queue, once it is shown.
     pub(crate) fn took(&self, lane: usize) -> u64 {
         match self.lanes.get(lane) {
             Some(flags) => flags.took.load(Ordering::SeqCst),
@@ -137,19 +181,18 @@ impl<R: Wait + Clock + Drop> DrainGate<R> {
         }
     }
 
-    /// Waits until more items were taken from the lane's queue than that; a tick at most.
-    pub(crate) fn wait_for_place(&self, lane: usize, took: u64) {
-        let tick = Duration::from_millis(TICK_MS);
+    /// Waits until that count is another one; `most` at most.
+    pub(crate) fn wait_for_drain(&self, lane: usize, took: u64, most: Duration) {
         if let Some(flags) = self.lanes.get(lane) {
-            flags.waits.store(1, Ordering::SeqCst);
-            flags.took.park_timeout(&self.rt, low(took), tick);
-            flags.waits.store(0, Ordering::SeqCst);
+            flags.waits.fetch_add(1, Ordering::SeqCst);
+            flags.took.park_timeout(&self.rt, low(took), most);
+            flags.waits.fetch_sub(1, Ordering::SeqCst);
         }
     }
 
     /// A lane had nothing: after a whole round of such lanes the worker sleeps, unless `wake` was
-    /// called since it began. It wakes by itself within a tick, so that a pool that is ended from
-    /// within ends.
+    /// called since it began. It wakes by itself in time, so that a pool that is ended from within
+    /// ends.
     fn rest(&self, round: &WorkerRound) {
         let idle = round.idle.load(Ordering::SeqCst).saturating_add(1);
         if !is_whole_round(idle, self.lanes.len() as u64) {
@@ -159,7 +202,7 @@ impl<R: Wait + Clock + Drop> DrainGate<R> {
         self.asleep.fetch_add(1, Ordering::SeqCst);
         let wakes = low(round.wakes.load(Ordering::SeqCst));
         self.wakes
-            .park_timeout(&self.rt, wakes, Duration::from_millis(TICK_MS));
+            .park_timeout(&self.rt, wakes, Duration::from_millis(REST_MS));
         self.asleep.fetch_sub(1, Ordering::SeqCst);
         self.begin(round);
     }
@@ -194,8 +237,8 @@ impl<R: Wait + Clock + Drop> Gate for DrainGate<R> {
             Ok(Drained::Took) => {
                 flags.full.store(1, Ordering::SeqCst);
                 flags.took.fetch_add(1, Ordering::SeqCst);
-                if flags.waits.load(Ordering::SeqCst) == 1 {
-                    flags.took.wake_one();
+                if flags.waits.load(Ordering::SeqCst) > 0 {
+                    flags.took.wake_all();
                 }
             }
             Ok(Drained::Empty) => {}

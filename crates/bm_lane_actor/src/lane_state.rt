@@ -2,6 +2,7 @@
 
 ghost use Rattle.std.specs.Prelude.{◌≡◌, [], nat_lt, is_some, None};
 ghost use Rattle.bm_link.specs.Carries.{new_carried};
+ghost use Rattle.bm_link.specs.Control.{names_kept};
 ghost use Rattle.bm_link.specs.Laws.{CarriesPending};
 ghost use Rattle.bm_link.specs.Texts.{AreShort};
 ghost use Rattle.bm_lane_actor.specs.ResumeTimer.{kept as kept_timer, dismissed};
@@ -147,6 +148,13 @@ impl<Y: Yard, S: Read + Write + Drop> LaneState<Y, S> {
             Some(link) => Some(link.get_ref()),
             None => None,
         }
+    }
+
+    /// Whether the link's login names the session that the lane has. So its worker is the lane's.
+    pub fn names_kept(&self, link: &MasterLink<S>) -> bool
+        ensures { result ≡ names_kept self.now.resume_state link.now.login }
+    {
+        link.names_kept(&self.resume_state)
     }
 
     /// A link that has logged in takes the lane up. Where the lane is up, it is declined, and the

@@ -2,8 +2,9 @@
 //!
 //! A lane has one actor, in a thread of its own ([`serve_lane`]), which alone calls the lane's
 //! link. Requests and links come to it by a [`Mailbox`], and it answers each until it is told to
-//! leave. [`log_in`] brings a new connection there, [`LanePort`] a build, [`DrainGate`] lets the
-//! pool of writers sleep. What the actor decides is in [`LaneState`].
+//! leave. It waits at its mailbox alone: who waits for all sockets tells it of arrivals. [`log_in`]
+//! brings a new connection there, [`LanePort`] a build. [`DrainGate`] lets the pool of writers
+//! sleep, and calls builds. What the actor decides is in [`LaneState`].
 //!
 //! Promised: what each call of it does to lane, link and timers, and that the orders without an
 //! answer are those sent again. The loops round it have no clauses: a body could still wait too
@@ -14,11 +15,14 @@ mod byte_count;
 mod connection_state;
 mod drain_gate;
 mod lane_actor;
+mod lane_actor_links;
+mod lane_actor_orders;
 mod lane_event;
 mod lane_request;
 mod lane_state;
 mod link_keeping;
 mod login;
+mod login_fates;
 mod login_limit;
 mod login_refusal;
 mod mailbox;
@@ -26,24 +30,30 @@ mod order_outcome;
 mod orders;
 mod peer_timer;
 mod port;
+mod port_log;
+mod read_watch;
 mod resume_timer;
 mod step_meter;
+mod stop_orders;
 mod stream;
+mod watch;
 
 pub use byte_count::ByteCount;
 pub use connection_state::ConnectionState;
 pub use drain_gate::DrainGate;
 pub use lane_actor::serve_lane;
 pub use lane_event::{EventSink, LaneEvent, event_of, fills, remark_of};
-pub use lane_request::{LaneRequest, LaneSignal};
+pub use lane_request::{CancelFlag, LaneRequest, LaneSignal, StartOrder};
 pub use lane_state::LaneState;
 pub use login::log_in;
+pub use login_fates::{LoginFate, WaitingFate, login_fate, waiting_fate};
 pub use login_limit::{LoginLimit, MOST_PENDING_LOGINS};
 pub use login_refusal::{refusal_in, refusal_of, refusal_remark};
 pub use mailbox::{LaneHandle, Mailbox, Mailboxes, handle_of, open_mailbox, open_mailboxes};
 pub use order_outcome::OrderOutcome;
 pub use peer_timer::{ANSWER_WITHIN_MS, ASK_AFTER_MS, DEAD_AFTER_MS, PeerAction, PeerTimer};
-pub use port::{LanePort, Watch};
+pub use port::LanePort;
 pub use resume_timer::ResumeTimer;
 pub use step_meter::StepMeter;
 pub use stream::{LOGIN_MS, WorkerStream};
+pub use watch::Watch;

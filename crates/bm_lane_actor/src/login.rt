@@ -8,6 +8,7 @@ use crate::stream::WorkerStream;
 use bm_lines::Text;
 use bm_link::{LinkFault, MasterLink, User};
 use bumpalo::Bump;
+use mio::Registry;
 use std::alloc::Global;
 use std::io::{Read, Write};
 use std::sync::Wait;
@@ -101,7 +102,8 @@ fn hand_over<S: Read + Write + Drop, R: Wait + Clock>(
 }
 
 /// Logs a worker in on a new connection, within some 10 seconds, and hands its link to the actor of
-/// its lane. The result is the number of the lane, which is the place of the worker's user.
+/// its lane. Its arrivals are told at `sockets` from then on. The result is the number of the lane,
+/// which is the place of the worker's user.
 /// `refused` becomes the name of a login that is refused: as one of no user, where that isn't long,
 /// or at its lane's mailbox.
 ///
@@ -116,12 +118,12 @@ pub fn log_in<R>(
     stream: WorkerStream<R>,
     users: &[User],
     handles: &[LaneHandle<WorkerStream<R>>],
+    sockets: &Registry,
     refused: &mut Option<Text>,
 ) -> Result<usize, LinkFault>
 where
     R: Wait + Clock + Drop,
 {
-    let mut stream = stream;
     if stream.bound_calls().is_err() {
         return Err(LinkFault::Stream);
     }
@@ -129,9 +131,12 @@ where
         Ok(worker) => worker,
         Err(fault) => return Err(fault),
     };
-    worker.link.get_ref().set_logged_in();
     let Some(handle) = handle_of(handles, worker.place) else {
         return Err(LinkFault::Closed);
     };
+    let stream = worker.link.get_ref();
+    if stream.set_logged_in(sockets, worker.place).is_err() {
+        return Err(LinkFault::Stream);
+    }
     hand_over(rt, alloc, handle, users, worker, refused)
 }

@@ -22,6 +22,7 @@ const ATTACH_MS: u64 = 1_000;
 /// Which signals were given, and not taken.
 #[derive(Drop)]
 struct SignalFlags {
+    readable: AtomicBool,
     shut_down: AtomicBool,
     ended: AtomicBool,
     leave: AtomicBool,
@@ -30,6 +31,7 @@ struct SignalFlags {
 impl SignalFlags {
     fn new() -> SignalFlags {
         SignalFlags {
+            readable: AtomicBool::new(false),
             shut_down: AtomicBool::new(false),
             ended: AtomicBool::new(false),
             leave: AtomicBool::new(false),
@@ -38,6 +40,7 @@ impl SignalFlags {
 
     fn flag(&self, signal: LaneSignal) -> &AtomicBool {
         match signal {
+            LaneSignal::Readable => &self.readable,
             LaneSignal::ShutDown => &self.shut_down,
             LaneSignal::Ended => &self.ended,
             LaneSignal::Leave => &self.leave,
@@ -190,10 +193,11 @@ impl<S: Drop> LaneHandle<S> {
     }
 
     /// Gives the actor a signal, and doesn't wait for it. Where the mailbox is full the actor looks
-    /// at it all the same, after its next request.
+    /// at it all the same, after its next request. One that it has yet to take wakes it once.
     pub fn signal<R: Wait>(&self, rt: &R, signal: LaneSignal) {
-        self.signals.flag(signal).store(true, Ordering::SeqCst);
-        let _ = self.sender.try_send(rt, LaneRequest::Look);
+        if !self.signals.flag(signal).swap(true, Ordering::SeqCst) {
+            let _ = self.sender.try_send(rt, LaneRequest::Look);
+        }
     }
 
     /// What the actor answers to a request that it was sent. None where it has left before: a

@@ -14,8 +14,10 @@ pub enum OrderOutcome {
     Started(u64),
     /// The command was interrupted.
     Interrupted,
+    /// Nothing was done: the build was cancelled before the lane took the order.
+    Cancelled,
     /// Nothing was done, and it may be tried again: the lane is cut and may be resumed, or it is
-    /// busy.
+    /// busy, or has no room for one more open command, or memory is wanting.
     Later,
     /// The lane was given up, or refuses the order.
     Refused,
@@ -31,7 +33,11 @@ pub(crate) fn start_outcome(answer: Result<u64, LinkFault>, is_taken: bool) -> O
 {
     match answer {
         Ok(command) => OrderOutcome::Started(command),
-        Err(LinkFault::Lane(HearRefusal::Busy)) => OrderOutcome::Later,
+        Err(
+            LinkFault::Lane(
+                HearRefusal::Busy | HearRefusal::Session(Refusal::TooManyOpen | Refusal::Mem),
+            ),
+        ) => OrderOutcome::Later,
         Err(LinkFault::Lane(HearRefusal::Session(Refusal::Full))) => OrderOutcome::Full,
         Err(LinkFault::Lane(HearRefusal::Session(_))) => OrderOutcome::Refused,
         Err(_) if is_taken => OrderOutcome::Refused,

@@ -4,15 +4,15 @@ ghost use Rattle.std.specs.Prelude.{◌≡◌};
 ghost use Rattle.bm_lane_actor.specs.Ports.{is_left_out, start_refusal};
 
 use crate::byte_count::ByteCount;
-use crate::lane_request::LaneRequest;
+use crate::drain_gate::DrainGate;
+use crate::lane_request::{CancelFlag, LaneRequest, StartOrder};
 use crate::mailbox::LaneHandle;
 use crate::order_outcome::OrderOutcome;
-use bm_board::{StepPlan, Words};
+use bm_board::StepPlan;
 use bm_latent::TICK_MS;
 use bm_operator::StartRefusal;
 use crossbeam_channel::bounded;
 use std::alloc::Global;
-use std::sync::atomic::{AtomicBool, Ordering};
 use std::sync::{Arc, Wait};
 use std::thread;
 use std::time::{Clock, Duration};
@@ -29,13 +29,21 @@ fn try_start<S: Drop, R: Wait + Clock>(
     rt: &R,
     alloc: Global,
     handle: &LaneHandle<S>,
-    argv: &Words,
+    step: &StepPlan,
+    cancelled: &CancelFlag,
     bytes: &ByteCount,
 ) -> Option<OrderOutcome> {
     let (answer, answers) = bounded(alloc, 1).ok()?;
-    let words = argv.copy().ok()?;
-    let bytes = Arc::try_clone(bytes).ok()?;
-    if !handle.tell(rt, LaneRequest::Start(words, bytes, answer)) {
+    let order = StartOrder {
+        words: step.argv.copy().ok()?,
+        bytes: Arc::try_clone(bytes).ok()?,
+        cancelled: if step.always_run {
+            None
+        } else {
+            Some(Arc::try_clone(cancelled).ok()?)
+        },
+    };
+    if !handle.tell(rt, LaneRequest::Start(order, answer)) {
         return Some(OrderOutcome::Refused);
     }
     match handle.answer(rt, &answers) {
@@ -44,22 +52,24 @@ fn try_start<S: Drop, R: Wait + Clock>(
     }
 }
 
-/// What the actor answers to an interruption; `Refused` where it has left, or memory is wanting.
-fn try_interrupt<S: Drop, R: Wait + Clock>(
+/// Hands the lane's actor the order to interrupt a command. It keeps the order until its lane can
+/// send it, so nobody waits for a lane that is cut. False where memory is wanting for that: it is
+/// to be tried again.
+pub(crate) fn interrupt<S: Drop, R: Wait + Clock>(
     rt: &R,
     alloc: Global,
     handle: &LaneHandle<S>,
     command: u64,
-) -> OrderOutcome {
+) -> bool {
     let Ok((answer, answers)) = bounded(alloc, 1) else {
-        return OrderOutcome::Refused;
+        return false;
     };
     if !handle.tell(rt, LaneRequest::Interrupt(command, answer)) {
-        return OrderOutcome::Refused;
+        return true;
     }
     match handle.answer(rt, &answers) {
-        Some(outcome) => outcome,
-        None => OrderOutcome::Refused,
+        Some(is_kept) => is_kept,
+        None => true,
     }
 }
 
@@ -84,6 +94,7 @@ fn start_refusal(outcome: OrderOutcome) -> StartRefusal
     ensures { result ≡ start_refusal outcome }
 {
     match outcome {
+        OrderOutcome::Cancelled => StartRefusal::Cancelled,
         OrderOutcome::Full => StartRefusal::Full,
         OrderOutcome::TooLong => StartRefusal::TooLong,
         OrderOutcome::Started(_)
@@ -93,47 +104,35 @@ fn start_refusal(outcome: OrderOutcome) -> StartRefusal
     }
 }
 
-/// Starts a step's command once the lane is up.
+/// Starts a step's command once the lane is up. An order that is to come later is tried again once
+/// an item was drained, and each tick. Whether the build is cancelled is looked at by the lane's
+/// actor alone, as the last thing before it takes the order.
 ///
 /// # Errors
 ///
 /// `Lost` where the lane is given up, or refuses. `Full` where it has had as many events as it
 /// may. `TooLong` where the words are more than an order can have. `Cancelled` where the step
-/// doesn't always run and its build is cancelled while it waits. `Memory` where that is wanting.
-/// Nothing is started then.
-pub(crate) fn start<S: Drop, R: Wait + Clock>(
+/// doesn't always run and its build is cancelled before the lane takes the order. `Memory` where
+/// that is wanting. Nothing is started then.
+pub(crate) fn start<S: Drop, R: Wait + Clock + Drop>(
     rt: &R,
     alloc: Global,
+    gate: &DrainGate<R>,
     handle: &LaneHandle<S>,
     step: &StepPlan,
-    cancelled: &AtomicBool,
+    cancelled: &CancelFlag,
     bytes: &ByteCount,
 ) -> Result<u64, StartRefusal> {
+    let place = handle.lane() as usize;
+    let tick = Duration::from_millis(TICK_MS);
     for _ in rt.forever() {
-        if is_left_out(cancelled.load(Ordering::SeqCst), step.always_run) {
-            return Err(StartRefusal::Cancelled);
-        }
-        match try_start(rt, alloc, handle, &step.argv, bytes) {
+        let took = gate.took(place);
+        match try_start(rt, alloc, handle, step, cancelled, bytes) {
             Some(OrderOutcome::Started(command)) => return Ok(command),
-            Some(OrderOutcome::Later) => thread::sleep(rt, Duration::from_millis(TICK_MS)),
+            Some(OrderOutcome::Later) => gate.wait_for_drain(place, took, tick),
             Some(outcome) => return Err(start_refusal(outcome)),
             None => return Err(StartRefusal::Memory),
         }
     }
     unreachable!()
-}
-
-/// Interrupts a command once the lane is up, or does nothing once it is given up.
-pub(crate) fn interrupt<S: Drop, R: Wait + Clock>(
-    rt: &R,
-    alloc: Global,
-    handle: &LaneHandle<S>,
-    command: u64,
-) {
-    for _ in rt.forever() {
-        match try_interrupt(rt, alloc, handle, command) {
-            OrderOutcome::Later => thread::sleep(rt, Duration::from_millis(TICK_MS)),
-            _ => return,
-        }
-    }
 }

@@ -1,65 +1,62 @@
 //! A build's port to its worker's lane: it sends requests by the lane's handle, and looks through a
 //! viewer of its own.
 
-ghost use Rattle.std.specs.Prelude.{◌≡◌, ◌≤◌, ◌++◌, ◌∷◌, [], List, false, codes, length, IfSome};
+ghost use Rattle.std.specs.Prelude.{◌≡◌, ◌++◌, ◌∷◌, [], List, false};
 ghost use Rattle.bm_runner.specs.declared.port.Told.{Told};
 ghost use Rattle.bm_runner.specs.Port.{IsAsking, asked};
-ghost use Rattle.bm_lane_actor.specs.Ports.{Begins, Looks, Polls, Sees, at_limits, is_lost, polled, ticked, with_meter};
+ghost use Rattle.bm_lane_actor.specs.Ports.{Begins, Looks, Polls, Sees, Waits, at_limits, ticked, with_meter};
 ghost use Rattle.bm_lane_actor.specs.StepMeter.{fresh};
 
 use crate::byte_count::ByteCount;
-use crate::lane_request::LaneRequest;
+use crate::drain_gate::DrainGate;
+use crate::lane_request::{CancelFlag, LaneRequest};
 use crate::mailbox::LaneHandle;
 use crate::orders::{interrupt, is_left_out, start, wait_until_told};
+use crate::port_log::{header_in, is_lost, polled};
 use crate::step_meter::StepMeter;
+use crate::watch::Watch;
 use bm_board::StepPlan;
 use bm_lane::{Viewer, Yard};
 use bm_latent::TICK_MS;
 use bm_lines::{STDIO, Text};
-use bm_operator::{StartRefusal, StepLimit};
+use bm_operator::StartRefusal;
 use bm_runner::{Entries, Polled, Port};
 use bm_session::Results;
-use bm_store::{LogState, ViewRefusal};
 use std::alloc::Global;
 use std::marker::Model;
-use std::sync::atomic::{AtomicBool, AtomicU64, Ordering};
+use std::sync::atomic::{AtomicU64, Ordering};
 use std::sync::{Arc, Wait};
 use std::thread;
-use std::time::{Clock, Duration};
-
-/// How many bytes a line of headers may have that is told of.
-const MOST_SAID: usize = 256;
-
-/// Who is told of a build's steps as they run.
-pub trait Watch {
-    /// The step was started as this command of its lane.
-    fn started(&mut self, step: &StepPlan, command: u64);
-
-    /// The command has reached a limit of its step, and is interrupted.
-    fn stopped(&mut self, command: u64, limit: StepLimit);
-
-    /// The step was not started. Where its build was cancelled before, that cancel is carried out.
-    fn refused(&mut self, step: &StepPlan, why: StartRefusal);
-
-    /// The command ended so. `said` is what its worker said last of one that ended EXCEPTION,
-    /// where that is a short line of headers behind the first.
-    fn ended(&mut self, command: u64, outcome: Results, said: Option<Text>);
-}
+use std::time::{Clock, Duration, Instant};
 
 /// The number of no command: that of a step whose build was cancelled before it was started.
 const NO_COMMAND: u64 = u64::MAX;
 
-/// The port of a build. Once a tick it asks how its command does. It waits with a start or an
-/// interruption until the lane is up or was given up. It says that a command ended by a loss once
-/// the lane's actor has told of that loss. The viewer is one of the lane whose handle it has.
+/// Whether the lane's actor has the order to interrupt a command.
+#[derive(Clone, Copy, PartialEq, Eq)]
+enum Interruption {
+    NotWanted,
+    /// It is to be handed over: memory was wanting for that.
+    Wanted,
+    HandedOver,
+}
+
+/// The port of a build. It asks how its command does once a tick, and at once where it has ended.
+/// It waits with a start until the lane is up or was given up, with an interruption for nothing. It
+/// says that a command ended by a loss once the lane's actor has told of that loss. The viewer is
+/// one of the lane whose handle it has.
 #[derive(Drop)]
-pub struct LanePort<'a, Y: Yard, S, R, W> {
+pub struct LanePort<'a, Y: Yard, S, R: Wait + Clock + Drop, W> {
     rt: &'a R,
     alloc: Global,
     handle: LaneHandle<S>,
     viewer: Viewer<Y>,
+    /// What calls the lane's builds, and tells that its viewers may see more.
+    gate: &'a DrainGate<R>,
+    /// How often it had called when the last tick that is over began.
+    calls: u64,
     /// Set once the build is cancelled.
-    cancelled: &'a AtomicBool,
+    cancelled: &'a CancelFlag,
     /// Whether a cancel came before a step that always runs: it waits for the next one that
     /// doesn't.
     is_held: bool,
@@ -67,12 +64,13 @@ pub struct LanePort<'a, Y: Yard, S, R, W> {
     meter: StepMeter,
     /// What the updates of its command carried.
     bytes: Option<ByteCount>,
+    interruption: Interruption,
     watch: W,
     entries: Entries,
     refused: bool,
 }
 
-impl<'a, Y: Yard, S, R, W> Model for LanePort<'a, Y, S, R, W> {
+impl<'a, Y: Yard, S, R: Wait + Clock + Drop, W> Model for LanePort<'a, Y, S, R, W> {
     ghost use Rattle.std.specs.Prelude.{◌≡◌};
     ghost use Rattle.bm_lane_actor.specs.Ports.{PortView};
 
@@ -88,50 +86,33 @@ impl<'a, Y: Yard, S, R, W> Model for LanePort<'a, Y, S, R, W> {
     ghost invariant = { λ p. p.viewer.lane ≡ p.handle };
 }
 
-/// What a look at the log of a command says of it. A refused look says that it runs.
-fn polled(state: Result<LogState, ViewRefusal>, is_cancelled: bool) -> Polled
-    ensures { result ≡ polled is_cancelled state }
-{
-    match state {
-        Ok(
-            LogState {
-                ended: Some(outcome),
-                ..
-            },
-        ) => Polled::Ended(outcome),
-        _ if is_cancelled => Polled::Cancel,
-        _ => Polled::Running,
+/// What is left of a tick that began then, if it isn't over. Where the clock fails it is waited for
+/// here.
+fn left_of_tick<R: Wait + Clock>(rt: &R, began: &Option<Instant>) -> Option<Duration> {
+    let tick = Duration::from_millis(TICK_MS);
+    let passed = match began {
+        Some(began) => began.elapsed(rt).ok(),
+        None => None,
+    };
+    match passed {
+        Some(passed) if passed < tick => tick.checked_sub(passed),
+        Some(_) => None,
+        None => {
+            thread::sleep(rt, tick);
+            None
+        }
     }
 }
 
-/// What a line of a log says, where it is one of headers, and no longer than is told of it.
-fn header_in(alloc: Global, line: &str) -> Option<Text>
-    ensures { IfSome result (λ said. (line.now ≡ codes "h" ++ (said ++ codes "\n"))
-        × (length said ≤ 256)) }
-{
-    let said = line.strip_prefix("h")?.strip_suffix("\n")?;
-    if said.len() <= MOST_SAID {
-        Text::from_str(alloc, said).ok()
-    } else {
-        None
-    }
-}
-
-/// Whether a command that ended so did by the loss of its lane.
-fn is_lost(outcome: Results) -> bool
-    ensures { result ≡ is_lost outcome }
-{
-    outcome == Results::Retry
-}
-
-impl<'a, Y: Yard, S: Drop, R: Wait + Clock, W: Watch + Drop> LanePort<'a, Y, S, R, W> {
+impl<'a, Y: Yard, S: Drop, R: Wait + Clock + Drop, W: Watch + Drop> LanePort<'a, Y, S, R, W> {
     /// A port that has started nothing. It takes no memory.
     pub fn over(
         rt: &'a R,
         alloc: Global,
         viewer: Viewer<Y>,
         handle: LaneHandle<S>,
-        cancelled: &'a AtomicBool,
+        gate: &'a DrainGate<R>,
+        cancelled: &'a CancelFlag,
         watch: W,
     ) -> LanePort<'a, Y, S, R, W>
         requires { viewer.lane ≡ handle }
@@ -142,10 +123,13 @@ impl<'a, Y: Yard, S: Drop, R: Wait + Clock, W: Watch + Drop> LanePort<'a, Y, S, 
             alloc,
             handle,
             viewer,
+            gate,
+            calls: 0,
             cancelled,
             is_held: false,
-            meter: StepMeter::new(0, 0),
+            meter: StepMeter::new(0, 0, 0),
             bytes: None,
+            interruption: Interruption::NotWanted,
             watch,
             entries: Entries::new(alloc),
             refused: false,
@@ -160,7 +144,8 @@ impl<'a, Y: Yard, S: Drop, R: Wait + Clock, W: Watch + Drop> LanePort<'a, Y, S, 
     }
 }
 
-impl<'a, Y: Yard, S: Drop, R: Wait + Clock, W: Watch + Drop> Port for LanePort<'a, Y, S, R, W> {
+impl<'a, Y: Yard, S: Drop, R: Wait + Clock + Drop, W: Watch + Drop> Port
+    for LanePort<'a, Y, S, R, W> {
     ghost told = { λ p. p.told };
 
     ghost refused = { λ p. p.refused };
@@ -190,9 +175,12 @@ impl<'a, Y: Yard, S: Drop, R: Wait + Clock, W: Watch + Drop> Port for LanePort<'
             self.entries.note(k, said);
             return said;
         }
-        thread::sleep(self.rt, Duration::from_millis(TICK_MS));
+        self.wait(k);
         let said = self.see(k);
         self.entries.note(k, said);
+        if said == Polled::Cancel {
+            self.watch.cancelled();
+        }
         if let Polled::Ended(outcome) = said {
             self.handle.tell(self.rt, LaneRequest::Seen(k));
             if is_lost(outcome) {
@@ -205,11 +193,11 @@ impl<'a, Y: Yard, S: Drop, R: Wait + Clock, W: Watch + Drop> Port for LanePort<'
     }
 
     fn interrupt(&mut self, k: u64) {
-        interrupt(self.rt, self.alloc, &self.handle, k);
+        self.stop(k);
     }
 }
 
-impl<'a, Y: Yard, S: Drop, R: Wait + Clock, W: Watch + Drop> LanePort<'a, Y, S, R, W> {
+impl<'a, Y: Yard, S: Drop, R: Wait + Clock + Drop, W: Watch + Drop> LanePort<'a, Y, S, R, W> {
     /// Starts the step's command, with room for its entry. A cancel ends one step: where this one
     /// always runs, that is the next that doesn't.
     ///
@@ -217,7 +205,7 @@ impl<'a, Y: Yard, S: Drop, R: Wait + Clock, W: Watch + Drop> LanePort<'a, Y, S, 
     ///
     /// Why it isn't started; nothing has changed then.
     fn begin(&mut self, step: &StepPlan) -> Result<u64, StartRefusal>
-        ensures { Begins self.old (fresh step.now.max_bytes step.now.timeout_ticks) result self.new }
+        ensures { Begins self.old (fresh step.now.max_bytes step.now.timeout_ticks step.now.silent_ticks) result self.new }
     {
         if self.entries.reserve().is_err() {
             return Err(StartRefusal::Memory);
@@ -228,15 +216,17 @@ impl<'a, Y: Yard, S: Drop, R: Wait + Clock, W: Watch + Drop> LanePort<'a, Y, S, 
         let Ok(bytes) = Arc::new(self.alloc, AtomicU64::new(0)) else {
             return Err(StartRefusal::Memory);
         };
-        let (rt, alloc) = (self.rt, self.alloc);
-        let command = match start(rt, alloc, &self.handle, step, self.cancelled, &bytes) {
+        let (rt, alloc, gate) = (self.rt, self.alloc, self.gate);
+        let command = match start(rt, alloc, gate, &self.handle, step, self.cancelled, &bytes) {
             Ok(command) => command,
             Err(why) => return Err(why),
         };
-        self.meter = StepMeter::new(step.max_bytes, step.timeout_ticks);
+        self.meter = StepMeter::new(step.max_bytes, step.timeout_ticks, step.silent_ticks);
         self.bytes = Some(bytes);
+        self.interruption = Interruption::NotWanted;
         if step.always_run && self.cancelled.swap(false, Ordering::SeqCst) {
             self.is_held = true;
+            self.watch.cancelled();
         }
         match self.entries.begin(command) {
             Ok(()) => {}
@@ -244,6 +234,65 @@ impl<'a, Y: Yard, S: Drop, R: Wait + Clock, W: Watch + Drop> LanePort<'a, Y, S, 
         }
         self.watch.started(step, command);
         Ok(command)
+    }
+
+    /// What the gate had called for when the tick began was looked at until it was over.
+    fn has_looked(&mut self, calls: u64)
+        ensures { self.new ≡ self.old }
+    {
+        self.calls = calls;
+    }
+
+    /// Has the command interrupted, but once. Where memory is wanting for that, the next tick tries
+    /// again.
+    fn stop(&mut self, k: u64)
+        ensures { self.new ≡ self.old }
+    {
+        if self.interruption == Interruption::HandedOver {
+            return;
+        }
+        self.interruption = if interrupt(self.rt, self.alloc, &self.handle, k) {
+            Interruption::HandedOver
+        } else {
+            Interruption::Wanted
+        };
+    }
+
+    /// Does at once what need not wait for the end of a tick: a cancel is told and obeyed.
+    fn obey(&mut self, k: u64, seen: Polled)
+        ensures { self.new ≡ self.old }
+    {
+        if seen == Polled::Cancel {
+            self.watch.cancelled();
+            self.stop(k);
+        }
+    }
+
+    /// Waits until the command is seen to have ended, or a tick is over. Once the gate has called
+    /// for what may be its end, it looks whenever the pool has shown the lane's viewers more.
+    fn wait(&mut self, k: u64)
+        ensures { Waits self.old self.new }
+    {
+        let place = self.handle.lane() as usize;
+        let began = Instant::now(self.rt).ok();
+        let called = self.gate.calls(place);
+        for _ in self.rt.forever() {
+            let calls = self.gate.calls(place);
+            let took = self.gate.took(place);
+            let seen = self.look(k);
+            if let Polled::Ended(_) = seen {
+                return;
+            }
+            self.obey(k, seen);
+            let Some(left) = left_of_tick(self.rt, &began) else {
+                return self.has_looked(called);
+            };
+            if calls == self.calls {
+                self.gate.wait_for_call(place, calls, left);
+            } else {
+                self.gate.wait_for_drain(place, took, left);
+            }
+        }
     }
 
     // How the command does, by what the viewer sees and by the limits of its step.
@@ -290,8 +339,8 @@ impl<'a, Y: Yard, S: Drop, R: Wait + Clock, W: Watch + Drop> LanePort<'a, Y, S, 
     }
 
     /// What is to be said of a command that was seen so, a tick later, when its updates have
-    /// carried so many bytes. Where it has reached a limit of its step it is interrupted, and its
-    /// end is waited for, but not for ever.
+    /// carried so many bytes. Where it has reached a limit of its step it is interrupted. The end
+    /// of one that was interrupted is waited for, but not for ever.
     fn limited(&mut self, k: u64, seen: Polled, bytes: u64) -> Polled
         ensures said { result ≡ at_limits self.old.meter bytes seen }
         ensures meter { self.new ≡ with_meter self.old (ticked self.old.meter bytes seen) }
@@ -299,12 +348,16 @@ impl<'a, Y: Yard, S: Drop, R: Wait + Clock, W: Watch + Drop> LanePort<'a, Y, S, 
         if let Polled::Ended(outcome) = seen {
             return Polled::Ended(self.meter.outcome(outcome));
         }
-        if let Some(limit) = self.meter.tick(bytes) {
+        let is_cancel = seen == Polled::Cancel;
+        let reached = self.meter.tick(bytes, is_cancel);
+        if let Some(limit) = reached {
             self.watch.stopped(k, limit);
-            interrupt(self.rt, self.alloc, &self.handle, k);
+        }
+        if reached.is_some() || self.interruption == Interruption::Wanted {
+            self.stop(k);
         }
         if self.meter.is_given_up() {
-            Polled::Ended(Results::Exception)
+            Polled::Ended(self.meter.given_up_result())
         } else {
             seen
         }

@@ -2,19 +2,26 @@
 
 ghost use Rattle.std.specs.Io.{WritesAtMost};
 
+use crate::read_watch::{LastRead, is_drained};
+use mio::unix::SourceFd;
+use mio::{Interest, Registry, Token};
 use std::alloc::Global;
-use std::io;
 use std::io::{ErrorKind, Read, Write};
 use std::net::{SocketAddr, TcpStream};
-use std::sync::Arc;
+use std::os::fd::AsRawFd;
 use std::sync::atomic::{AtomicBool, AtomicU64, Ordering};
+use std::sync::{Arc, Wait};
 use std::time::{Clock, Duration, Instant};
+use std::{io, thread};
 
 /// How long a login may take, in milliseconds.
 pub const LOGIN_MS: u64 = 10_000;
 
-/// How long a read waits, in milliseconds: so long a request may wait too while a command is open.
+/// How long a read of a login waits before it looks whether the master ends, in milliseconds.
 const READ_MS: u64 = 20;
+
+/// How long a write pauses where the socket has no room, in milliseconds.
+const ROOM_MS: u64 = 1;
 
 /// How long a turn may read, in milliseconds, whatever comes: the reads since the last that met
 /// nothing, or since the last write.
@@ -23,23 +30,22 @@ const TURN_MS: u64 = 50;
 /// How long the writes between two reads may take together, in milliseconds.
 const WRITE_MS: u64 = 5_000;
 
-/// How long they may take once the master ends, and how long one of them waits then, in
-/// milliseconds.
+/// How long they may take once the master ends, in milliseconds.
 const LAST_WRITE_MS: u64 = 100;
 
 /// How many reads in a row may meet nothing before a read fails.
 const MOST_READS: u32 = 1_000_000;
 
 /// How many writes in a row may meet nothing before one fails.
-const MOST_WRITES: u32 = 100;
+const MOST_WRITES: u32 = 10_000;
 
 /// A worker's connection. Nobody waits for its worker for long:
 ///
 /// - Until it has logged in, a read that met nothing is made again, until the time for a login is
 ///   over or the master ends.
-/// - Then a read waits for a short while alone. After the time of a turn it says that nothing
-///   came, whatever comes. What was read stays with who reads, and the rest is read by the next
-///   turn.
+/// - Then a read waits for nothing: who reads is woken once there is more. After the time of a turn
+///   it says that nothing came, whatever comes. What was read stays with who reads, and the rest is
+///   read by the next turn.
 /// - A write fails where the worker reads too slowly. Once the master ends it has a tenth of a
 ///   second.
 /// - Once the worker is given up, each call fails.
@@ -55,10 +61,9 @@ pub struct WorkerStream<R> {
     /// How many reads gave something.
     heard: AtomicU64,
     is_given_up: AtomicBool,
+    last_read: LastRead,
     /// Set once the master ends.
     is_over: Arc<AtomicBool, Global>,
-    /// Whether its writes are bounded as those of a master that ends.
-    is_bound_at_end: bool,
     /// When the turn's first read was made.
     turn_began: Option<Instant>,
     /// How long its writes have taken since its last read.
@@ -96,8 +101,8 @@ impl<R: Clock> WorkerStream<R> {
             is_logged_in: AtomicBool::new(false),
             heard: AtomicU64::new(0),
             is_given_up: AtomicBool::new(false),
+            last_read: LastRead::NotMade,
             is_over,
-            is_bound_at_end: false,
             turn_began: None,
             spent: Duration::from_secs(0),
         }
@@ -108,14 +113,35 @@ impl<R: Clock> WorkerStream<R> {
         self.from
     }
 
-    /// The worker has logged in: the time for that no longer counts.
-    pub(crate) fn set_logged_in(&self) {
+    /// The worker has logged in: the time for that no longer counts, and from now on no call waits
+    /// in the system. Whoever waits at the registry is told of each arrival, under the number of the
+    /// worker's lane.
+    pub(crate) fn set_logged_in(&self, sockets: &Registry, lane: usize) -> io::Result<()> {
+        self.stream.set_nonblocking(true)?;
         self.is_logged_in.store(true, Ordering::SeqCst);
+        let fd = self.stream.as_raw_fd();
+        sockets.register(&mut SourceFd(&fd), Token(lane), Interest::READABLE)
     }
 
     /// A count that grows with what comes from the worker.
     pub(crate) fn heard(&self) -> u64 {
         self.heard.load(Ordering::SeqCst)
+    }
+
+    /// Whether the connection had nothing more by its last read. Else there may be more, of which
+    /// nobody is told.
+    pub(crate) fn is_drained(&self) -> bool {
+        is_drained(self.last_read)
+    }
+
+    /// Whether the peer has closed the connection, or it has failed, and nothing of it is left to
+    /// read. One that has logged in is not waited for.
+    pub(crate) fn has_left(&self) -> bool {
+        let mut byte = [0u8; 1];
+        match self.stream.peek(&mut byte) {
+            Ok(count) => count == 0,
+            Err(error) => error.kind() != ErrorKind::Interrupted && !meets_nothing(error.kind()),
+        }
     }
 
     /// The worker is taken for dead.
@@ -188,36 +214,29 @@ impl<R: Clock> WorkerStream<R> {
         })
     }
 
-    /// Bounds what one call waits for.
-    pub(crate) fn bound_calls(&mut self) -> io::Result<()> {
-        self.bound(WRITE_MS)
-    }
-
-    /// Bounds a write of a master that ends.
-    fn bound_at_end(&mut self) -> io::Result<()> {
-        if self.is_bound_at_end || !self.is_over() {
-            return Ok(());
-        }
-        self.is_bound_at_end = true;
-        self.bound(LAST_WRITE_MS)
-    }
-
-    /// From now on a read waits for `READ_MS` at most, a write for `write_ms`, and a short write
-    /// leaves at once.
-    fn bound(&mut self, write_ms: u64) -> io::Result<()> {
-        let write = Duration::from_millis(write_ms);
+    /// Bounds what one call of a login waits for, and has a short write leave at once.
+    pub(crate) fn bound_calls(&self) -> io::Result<()> {
         self.stream.set_nodelay(true)?;
         self.stream
             .set_read_timeout(Some(Duration::from_millis(READ_MS)))?;
-        self.stream.set_write_timeout(Some(write))
+        self.stream
+            .set_write_timeout(Some(Duration::from_millis(WRITE_MS)))
     }
+}
 
-    /// Writes, and counts how long it took. Where the clock fails no time is left.
+impl<R: Wait + Clock> WorkerStream<R> {
+    /// Writes, and counts how long it took. Where there is no room it pauses for a moment. Where the
+    /// clock fails no time is left.
     fn write_once(&mut self, buf: &[u8]) -> io::Result<usize>
         ensures { WritesAtMost result buf.now }
     {
         let began = Instant::now(&self.rt);
         let answer = self.stream.write(buf);
+        if let Err(error) = &answer {
+            if meets_nothing(error.kind()) {
+                thread::sleep(&self.rt, Duration::from_millis(ROOM_MS));
+            }
+        }
         let took = match began {
             Ok(began) => began.elapsed(&self.rt),
             Err(error) => Err(error),
@@ -233,6 +252,7 @@ impl<R: Clock> WorkerStream<R> {
 impl<R: Clock> Read for WorkerStream<R> {
     fn read(&mut self, buf: &mut [u8]) -> io::Result<usize> {
         self.spent = Duration::from_secs(0);
+        self.last_read = LastRead::NotMade;
         for _ in 0..MOST_READS {
             if self.is_ended() {
                 return Err(aborted());
@@ -243,11 +263,13 @@ impl<R: Clock> Read for WorkerStream<R> {
             match self.stream.read(buf) {
                 Ok(count) => {
                     self.heard.fetch_add(1, Ordering::SeqCst);
+                    self.last_read = LastRead::Gave;
                     return Ok(count);
                 }
                 Err(error) if self.reads_again(error.kind()) => {}
                 Err(error) => {
                     self.turn_began = None;
+                    self.last_read = LastRead::MetNothing;
                     return Err(error);
                 }
             }
@@ -257,10 +279,9 @@ impl<R: Clock> Read for WorkerStream<R> {
     }
 }
 
-impl<R: Clock> Write for WorkerStream<R> {
+impl<R: Wait + Clock> Write for WorkerStream<R> {
     fn write(&mut self, buf: &[u8]) -> io::Result<usize> {
         self.turn_began = None;
-        self.bound_at_end()?;
         for _ in 0..MOST_WRITES {
             if self.is_given_up.load(Ordering::SeqCst) || self.spent >= self.write_time() {
                 break;

@@ -154,14 +154,27 @@ name_size name password h = omega (arith, h.1, sum_by-cons length name (password
 
 pub logins_fit : LoginsFit
 unfolding auth_bytes
-logins_fit name password None h short =
+logins_fit name password None None h short brief =
     fits (of_message 0 (codes "auth") (omega arith)
     (of_pair (codes "username") (omega arith) (of_text name (length name) (omega arith))
     (of_pair (codes "password") (omega arith) (of_text password (length password) (omega arith)) no_more)))
     (omega (arith, name_size name password h))
-logins_fit name password (Some session) h short =
+logins_fit name password (Some session) None h short brief =
     fits (of_message 0 (codes "auth") (omega arith)
     (of_pair (codes "username") (omega arith) (of_text name (length name) (omega arith))
     (of_pair (codes "password") (omega arith) (of_text password (length password) (omega arith))
     (of_pair (codes "session") (omega arith) (of_text session 64 short) no_more))))
+    (omega (arith, name_size name password h))
+logins_fit name password None (Some next) h short brief =
+    fits (of_message 0 (codes "auth") (omega arith)
+    (of_pair (codes "username") (omega arith) (of_text name (length name) (omega arith))
+    (of_pair (codes "password") (omega arith) (of_text password (length password) (omega arith))
+    (of_pair (codes "next_session") (omega arith) (of_text next 64 brief) no_more))))
+    (omega (arith, name_size name password h))
+logins_fit name password (Some session) (Some next) h short brief =
+    fits (of_message 0 (codes "auth") (omega arith)
+    (of_pair (codes "username") (omega arith) (of_text name (length name) (omega arith))
+    (of_pair (codes "password") (omega arith) (of_text password (length password) (omega arith))
+    (of_pair (codes "session") (omega arith) (of_text session 64 short)
+    (of_pair (codes "next_session") (omega arith) (of_text next 64 brief) no_more)))))
     (omega (arith, name_size name password h))

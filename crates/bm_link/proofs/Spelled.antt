@@ -37,12 +37,12 @@ module _ {X : Type 0} (P : Tree → X → Type 0) where
 -- a message that is no login, and so a tree that is none
 pub no_login_of_message : (t : Tree) (m : Meaning) → ((n : Meaning) → IsMessage t n → n ≡ m) → is_login m ≡ false → (l : Credentials) → ¬ IsLoginOf t l
 no_login_of_message t m only other l is =
-    let yes : true ≡ is_login m = ap is_login (only (request l.named.seq (auth l.username l.password l.named.session)) is) in
+    let yes : true ≡ is_login m = ap is_login (only (request l.named.seq (auth l.username l.password l.named.session)) is.0) in
     cc
 
 -- a tree that is no message is no login
 pub no_login_of_tree : (t : Tree) → ((n : Meaning) → ¬ IsMessage t n) → (l : Credentials) → ¬ IsLoginOf t l
-no_login_of_tree t none l is = none (request l.named.seq (auth l.username l.password l.named.session)) is
+no_login_of_tree t none l is = none (request l.named.seq (auth l.username l.password l.named.session)) is.0
 
 pub gives_no_login : (bytes : List ℕ) (r : Result Credentials LinkFault) → IfErr r (λ f. f ≡ BadMessage → (l : Credentials) → ¬ AreLogin bytes l)
     → IfErr r (λ f. (f ≡ BadMessage) ⊎ (f ≡ Mem)) → IfErr r (GivesNoLogin bytes)

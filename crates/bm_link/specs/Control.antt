@@ -1,15 +1,20 @@
 -- What a master's link sends beside messages: a ping, a close frame, and `busy` to a login.
-use Rattle.std.specs.Prelude.{◌≡◌, ℕ, false, List, Option, Some, None, Result, Ok, Err}
+use Rattle.std.specs.Prelude.{◌≡◌, ℕ, Bool, false, List, Option, Some, None, Result, Ok, Err}
 use Rattle.bm_lane.specs.declared.refusals.HearRefusal.TheVariants.{Busy}
 use Rattle.bm_link.specs.declared.credentials.Named.{Named}
 use Rattle.bm_link.specs.declared.fault.LinkFault.{LinkFault}
 use Rattle.bm_link.specs.declared.fault.LinkFault.TheVariants.{Closed, Lane}
 use Rattle.bm_link.specs.declared.parts.Stage.{Stage}
 use Rattle.bm_link.specs.declared.parts.Stage.TheVariants as stage
-use Rattle.bm_link.specs.Carries.{Carried, may_cut}
+use Rattle.bm_link.specs.Carries.{Carried, is_same, may_cut}
 use Rattle.bm_link.specs.Frames.{SendsClose, SendsPing}
 use Rattle.bm_link.specs.Link.{LinkState}
 use Rattle.bm_link.specs.Telling.{text_of_refusal, TellsAny}
+
+-- the login names the session that is kept
+abbrev pub names_kept : Carried → Option Named → Bool
+names_kept carry (Some login) = is_same carry.text login.session
+names_kept carry None = false
 
 module _ {S : Type 0} where
   -- the link stays up; or it failed, and its lane is still to be cut or taken down

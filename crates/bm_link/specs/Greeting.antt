@@ -1,14 +1,14 @@
 -- How a worker logs in, and what its master answers.
-use Rattle.std.specs.Prelude.{◌≡◌, ◌≤◌, ◌⊎◌, ℕ, true, false, List, Option, Ok}
+use Rattle.std.specs.Prelude.{◌≡◌, ◌≤◌, ◌⊎◌, ℕ, true, false, List, Option, None, Ok}
 use Rattle.tungstenite.specs.Content.{binary}
 use Rattle.tungstenite.specs.Socket.{Socket, Reads, content_of}
 use Rattle.tungstenite.specs.declared.message.Message.{Message}
 use Rattle.bm_value.specs.Spelling.{Spells}
 use Rattle.bm_value.specs.Tree.{Tree, depth}
 use Rattle.bm_value.specs.Writing.{written}
-use Rattle.bm_msg.specs.Meaning.{Meaning, request, response, auth}
+use Rattle.bm_msg.specs.Meaning.{Meaning, response}
 use Rattle.bm_msg.specs.Messages.{IsMessage}
-use Rattle.bm_msg.specs.Trees.{tree_of}
+use Rattle.bm_msg.specs.Trees.{login_tree}
 use Rattle.bm_link.specs.declared.attaching.Attached.{Attached}
 use Rattle.bm_link.specs.Accepting.{IsConnected}
 use Rattle.bm_link.specs.Attaching.{IsAttached}
@@ -18,9 +18,10 @@ use Rattle.bm_link.specs.Sending.{SendsBytes}
 use Rattle.bm_link.specs.declared.fault.LinkFault.{LinkFault}
 use Rattle.bm_link.specs.declared.fault.LinkFault.TheVariants.{BadLogin, BadMessage, Mem}
 
--- the bytes of the login, which is request 0
-unfoldable pub auth_bytes : List ℕ → List ℕ → Option (List ℕ) → List ℕ
-auth_bytes name password session = written (tree_of (request 0 (auth name password session)))
+-- the bytes of the login, which is request 0: its name, its password, the session that it asks to
+-- resume, and the text that a session is to have which begins by it
+unfoldable pub auth_bytes : List ℕ → List ℕ → Option (List ℕ) → Option (List ℕ) → List ℕ
+auth_bytes name password session next = written (login_tree name password session next)
 
 -- the message is the response to request 0, and tells this
 abbrev pub IsAnswerOf : Meaning → Attached → Type 0
@@ -72,17 +73,17 @@ module _ {S : Type 0} where
 
   -- the login was sent, and the answer was read
   abbrev pub Greets : (S → Option (List ℕ)) → (S → Option (List ℕ)) → List ℕ → List ℕ
-      → Option (List ℕ) → Socket S → Socket S → Attached → Type 0
-  Greets remaining contents name password session old new a =
-      (mid : Socket S) × SendsBytes contents (auth_bytes name password session) old mid
+      → Option (List ℕ) → Option (List ℕ) → Socket S → Socket S → Attached → Type 0
+  Greets remaining contents name password session next old new a =
+      (mid : Socket S) × SendsBytes contents (auth_bytes name password session next) old mid
       × ReadsAnswer remaining mid new a
 
   -- why there is no answer: the login was not sent, or the message after it is none
   abbrev pub FailsToGreet : (S → Option (List ℕ)) → (S → Option (List ℕ)) → List ℕ → List ℕ
-      → Option (List ℕ) → Socket S → LinkFault → Socket S → Type 0
-  FailsToGreet remaining contents name password session old f new =
-      IsUnsent contents (auth_bytes name password session) old f new
-      ⊎ ((mid : Socket S) × SendsBytes contents (auth_bytes name password session) old mid
+      → Option (List ℕ) → Option (List ℕ) → Socket S → LinkFault → Socket S → Type 0
+  FailsToGreet remaining contents name password session next old f new =
+      IsUnsent contents (auth_bytes name password session next) old f new
+      ⊎ ((mid : Socket S) × SendsBytes contents (auth_bytes name password session next) old mid
       × FailsAtFirst AreNoAnswer remaining contents mid f new)
 
   -- why a worker gets no link: no WebSocket is agreed, or the login fails
@@ -91,4 +92,4 @@ module _ {S : Type 0} where
   FailsToConnect remaining contents name password session f =
       IsNotAgreed f
       ⊎ ((start : Socket S) × (end : Socket S) × IsConnected start
-      × FailsToGreet remaining contents name password session start f end)
+      × FailsToGreet remaining contents name password session None start f end)

@@ -25,5 +25,6 @@ IsKeepable (Some session) = length session ≤ 64
 -- a login
 abbrev pub LoginsFit : Type 0
 LoginsFit =
-    (name password : List ℕ) (session : Option (List ℕ)) → AreShort (name ∷ password ∷ [])
-    → IsKeepable session → length (auth_bytes name password session) ≤ most_bytes
+    (name password : List ℕ) (session next : Option (List ℕ)) → AreShort (name ∷ password ∷ [])
+    → IsKeepable session → IsKeepable next
+    → length (auth_bytes name password session next) ≤ most_bytes

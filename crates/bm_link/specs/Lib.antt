@@ -29,11 +29,12 @@ pub mod Received
 pub mod Working
 -- What is sent beside messages: pings, and close frames.
 pub mod Frames
--- Laws of what is kept for the next link, of what a fault leaves behind it, and of messages with
--- short texts.
+-- Laws of what is kept for the next link, of what a fault leaves behind it, of messages with short
+-- texts, and of sessions that nobody heard of.
 pub mod Laws
 pub mod LawsOfFaults
 pub mod LawsOfTexts
+pub mod LawsOfSessions
 -- This one only helps proofs: what a part of a call does. So do, of the others, `IsLimited`,
 -- `Clears`, `unread_fault`, `is_login`, `IsLogin`, `AdmitsOrFails`, `IsKeptAs`, `ReadsNext`,
 -- `GivesNext`, `HasNumber`, `items_of`, `Hears`, `ReadsMessage`, `HearsMessage` and `Responds`.

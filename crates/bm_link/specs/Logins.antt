@@ -6,7 +6,7 @@ use Rattle.tungstenite.specs.declared.message.Message.{Message}
 use Rattle.bm_value.specs.Spelling.{Spells}
 use Rattle.bm_value.specs.Tree.{Tree, depth}
 use Rattle.bm_msg.specs.Meaning.{Meaning, request, auth}
-use Rattle.bm_msg.specs.Messages.{IsMessage}
+use Rattle.bm_msg.specs.Messages.{IsMessage, next_session_of}
 use Rattle.bm_link.specs.declared.credentials.Credentials.{Credentials}
 use Rattle.bm_link.specs.declared.credentials.Named.{Named}
 use Rattle.bm_link.specs.declared.fault.LinkFault.{LinkFault}
@@ -30,9 +30,11 @@ is_login _ = false
 abbrev pub IsLogin : Meaning → Credentials → Type 0
 IsLogin m l = m ≡ request l.named.seq (auth l.username l.password l.named.session)
 
--- the tree is such a message
+-- the tree is such a message, and names this next session
 abbrev pub IsLoginOf : Tree → Credentials → Type 0
-IsLoginOf t l = IsMessage t (request l.named.seq (auth l.username l.password l.named.session))
+IsLoginOf t l =
+    IsMessage t (request l.named.seq (auth l.username l.password l.named.session))
+    × (next_session_of t ≡ l.named.next)
 
 -- the bytes spell such a tree
 abbrev pub AreLogin : List ℕ → Credentials → Type 0

@@ -1,8 +1,8 @@
 //! What a master's link sends beside messages: a ping, a close frame, and the answer to a login
-//! whose lane can't be asked.
+//! whose lane can't be asked. Also whose login it is.
 
 ghost use Rattle.std.specs.Prelude.{◌≡◌};
-ghost use Rattle.bm_link.specs.Control.{ClosesFor, PingsFor, PutsOff};
+ghost use Rattle.bm_link.specs.Control.{ClosesFor, PingsFor, PutsOff, names_kept};
 
 use crate::fault::LinkFault;
 use crate::frames::{send_close, send_ping};
@@ -61,6 +61,17 @@ impl<S: Read + Write + Drop> MasterLink<S> {
         self.kept = None;
         self.stage = Stage::Falling { may_cut: false };
         answer
+    }
+
+    /// Whether the login that waits names the session that is kept there. So its worker is the one
+    /// that has that session. False where no login waits.
+    pub fn names_kept(&self, resume_state: &ResumeState) -> bool
+        ensures { result ≡ names_kept resume_state.now self.now.login }
+    {
+        match &self.login {
+            Some(login) => resume_state.is(&login.session),
+            None => false,
+        }
     }
 
     /// Answers the login that waits by `busy`, where its lane can't be asked just now. The result

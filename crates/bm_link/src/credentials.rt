@@ -5,11 +5,12 @@ ghost use Rattle.std.specs.Prelude.{◌<◌, ◌^◌};
 use bm_lines::Text;
 
 /// The login that an `auth` asks for: the number of its answer, and the session that the worker
-/// names.
+/// asks to resume. `next` is the text that it would have a new session have.
 #[derive(Drop)]
 pub(crate) struct Named {
     pub seq: u64,
     pub session: Option<Text>,
+    pub next: Option<Text>,
     pub ghost in_range: { seq < 2 ^ 63 },
 }
 

@@ -14,7 +14,7 @@ use crate::fault::{LinkFault, fault_of};
 use crate::parts::send;
 use crate::reading::{message_in, tree_in};
 use bm_lines::Text;
-use bm_msg::{Message, Numbered, Request, Response, write_request};
+use bm_msg::{Message, Response, write_login};
 use bm_value::Value;
 use std::alloc::{AllocError, Global};
 use std::io::{Read, Write};
@@ -36,16 +36,16 @@ fn auth_bytes(
     name: &str,
     password: &str,
     session: Option<&str>,
+    next: Option<&str>,
 ) -> Result<Vec<u8>, AllocError>
-    ensures { IfOk result (λ v. v.items
-        ≡ auth_bytes name.now password.now (option_copied session.entry)) }
+    ensures { IfOk result (λ v. v.items ≡ auth_bytes name.now password.now
+        (option_copied session.entry) (option_copied next.entry)) }
 {
-    let request = Request::Auth {
-        username: Text::from_str(alloc, name)?,
-        password: Text::from_str(alloc, password)?,
-        session: text_of(alloc, session)?,
-    };
-    match write_request(alloc, &Numbered { seq: 0, request }) {
+    let name = Text::from_str(alloc, name)?;
+    let password = Text::from_str(alloc, password)?;
+    let session = text_of(alloc, session)?;
+    let next = text_of(alloc, next)?;
+    match write_login(alloc, &name, &password, &session, &next) {
         Ok(bytes) => Ok(bytes),
         Err(_) => Err(AllocError),
     }
@@ -144,15 +144,16 @@ pub(crate) fn greet<S: Read + Write + Drop, K: MaskKeys + Drop>(
     name: &str,
     password: &str,
     session: Option<&str>,
+    next: Option<&str>,
 ) -> Result<Attached, LinkFault>
     ensures answer { IfOk result
         (Greets S.remaining S.contents name.now password.now (option_copied session.entry)
-        socket.old socket.new) }
+        (option_copied next.entry) socket.old socket.new) }
     ensures fault { IfErr result
         (λ f. FailsToGreet S.remaining S.contents name.now password.now
-        (option_copied session.entry) socket.old f socket.new) }
+        (option_copied session.entry) (option_copied next.entry) socket.old f socket.new) }
 {
-    let Ok(bytes) = auth_bytes(alloc, name, password, session) else {
+    let Ok(bytes) = auth_bytes(alloc, name, password, session, next) else {
         return Err(LinkFault::Mem);
     };
     match send(alloc, socket, bytes.as_slice()) {

@@ -13,7 +13,7 @@ use crate::reading::{message_in, reset, tree_in};
 use crate::telling::send_refusal;
 use crate::user::{User, place_of};
 use bm_lines::Text;
-use bm_msg::{Message, Numbered, Request};
+use bm_msg::{Message, Numbered, Request, next_session};
 use bm_value::Value;
 use bumpalo::Bump;
 use std::alloc::Global;
@@ -29,9 +29,9 @@ pub(crate) enum Unadmitted {
     Unread(LinkFault),
 }
 
-/// The login that a message is.
-fn credentials_of(message: Message) -> Option<Credentials>
-    ensures login { IfSome result (IsLogin (meaning message)) }
+/// The login that a message is, with the next session that its value names.
+fn credentials_of(message: Message, next: Option<Text>) -> Option<Credentials>
+    ensures login { IfSome result (λ l. IsLogin (meaning message) l × (l.named.next ≡ next)) }
     ensures other { is_some result ≡ is_login (meaning message) }
 {
     match message {
@@ -47,7 +47,7 @@ fn credentials_of(message: Message) -> Option<Credentials>
         ) => Some(Credentials {
             username,
             password,
-            named: Named { seq, session },
+            named: Named { seq, session, next },
         }),
         _ => None,
     }
@@ -60,12 +60,16 @@ fn login_in(alloc: Global, message: &Value<&Bump>) -> Result<Credentials, LinkFa
         → ¬ IsLoginOf (tree message.now) l) }
     ensures fault { IfErr result (λ f. (f ≡ LinkFault.BadMessage) ⊎ (f ≡ LinkFault.Mem)) }
 {
-    match message_in(alloc, message) {
-        Ok(message) => match credentials_of(message) {
-            Some(login) => Ok(login),
-            None => Err(LinkFault::BadMessage),
-        },
-        Err(fault) => Err(fault),
+    let auth = match message_in(alloc, message) {
+        Ok(auth) => auth,
+        Err(fault) => return Err(fault),
+    };
+    let Ok(next) = next_session(alloc, message) else {
+        return Err(LinkFault::Mem);
+    };
+    match credentials_of(auth, next) {
+        Some(login) => Ok(login),
+        None => Err(LinkFault::BadMessage),
     }
 }
 

@@ -1,10 +1,11 @@
-//! New connections of workers.
+//! New connections of workers, and what comes on those that have logged in.
 ghost use Rattle.std.specs.Thread.{IsSend, IsSync};
 
 use crate::events::{MasterEvent, RefusedConnection};
 use crate::shared_state::SharedState;
+use crate::sockets::{LISTENER, SocketEvents};
 use bm_lane::Yard;
-use bm_lane_actor::{LOGIN_MS, WorkerStream, log_in, refusal_in};
+use bm_lane_actor::{LOGIN_MS, LaneSignal, WorkerStream, log_in, refusal_in};
 use bm_operator::LoginRefusal;
 use std::net::{SocketAddr, TcpListener, TcpStream};
 use std::sync::atomic::Ordering;
@@ -13,7 +14,7 @@ use std::thread::{Scope, Threads};
 use std::time::{Clock, Duration, Instant};
 use std::{io, thread};
 
-/// How long the acceptor waits before it looks for the next connection.
+/// How long the acceptor waits after a connection that could not be accepted, before it tries again.
 const PAUSE_MS: u64 = 20;
 
 // Tells the coordinator of a connection that is not taken up, and gave no name.
@@ -30,16 +31,21 @@ fn refuse<Y: Yard, R: Wait + Clock + Drop>(
 }
 
 // Serves a connection up to its login, and tells the coordinator where that is refused.
-fn welcome<Y, R>(shared: &SharedState<Y, R>, stream: WorkerStream<R>, from: SocketAddr)
+fn welcome<Y, R>(
+    shared: &SharedState<Y, R>,
+    stream: WorkerStream<R>,
+    from: SocketAddr,
+    began: Option<Instant>,
+)
 where
     Y: Yard + Send + Sync,
     R: Wait + Clock + Copy + Drop,
 {
     let rt = &shared.rt;
-    let began = Instant::now(rt).ok();
     let (users, lanes) = (shared.users.as_slice(), shared.lanes.as_slice());
     let mut name = None;
-    if let Err(fault) = log_in(rt, shared.alloc, stream, users, lanes, &mut name) {
+    let sockets = &shared.sockets.connections;
+    if let Err(fault) = log_in(rt, shared.alloc, stream, users, lanes, sockets, &mut name) {
         let took = began.and_then(|began| began.elapsed(rt).ok());
         let is_late = took.is_some_and(|took| took >= Duration::from_millis(LOGIN_MS));
         let why = refusal_in(fault, shared.is_over.load(Ordering::SeqCst), is_late);
@@ -66,10 +72,13 @@ where
     if !shared.logins.enter(rt) {
         return refuse(shared, from, LoginRefusal::Crowded);
     }
+    // Before the time for the login begins, so that one which ran out is told as that, however late
+    // its thread starts.
+    let began = Instant::now(rt).ok();
     let stream = WorkerStream::new(*rt, stream, from, is_over);
     let thread = scope.spawn(move || {
         let stream = stream;
-        welcome(shared, stream, from);
+        welcome(shared, stream, from, began);
         shared.logins.leave(rt);
     });
     if thread.is_err() {
@@ -78,40 +87,89 @@ where
     }
 }
 
-// Accepts connections until the master ends, and serves each in a thread of its own.
+// Accepts all connections that wait, and serves each in a thread of its own. The answer is whether
+// one could not be accepted, and is to be tried again after a pause.
 fn accept_all<'s, E, Y, R>(
     scope: &Scope<'s, E>,
     shared: &'s SharedState<Y, R>,
     listener: &TcpListener,
-)
+    was_paused: bool,
+) -> bool
 where
     Y: Yard + Send + Sync + 's,
     R: Wait + Clock + Threads + Copy + Drop + Send + Sync + 's,
 {
     let rt = &shared.rt;
-    let mut is_paused = false;
     for _ in rt.forever() {
         if shared.is_over.load(Ordering::SeqCst) {
-            break;
+            return false;
         }
         match listener.accept() {
-            Ok((stream, from)) => {
-                is_paused = false;
-                receive(scope, shared, stream, from);
-            }
-            Err(error) => {
-                if error.kind() != io::ErrorKind::WouldBlock && !is_paused {
-                    is_paused = true;
+            Ok((stream, from)) => receive(scope, shared, stream, from),
+            Err(error) if error.kind() == io::ErrorKind::WouldBlock => return false,
+            Err(_) => {
+                if !was_paused {
                     shared.events.tell(rt, MasterEvent::Paused);
                 }
-                thread::sleep(rt, Duration::from_millis(PAUSE_MS));
+                return true;
             }
+        }
+    }
+    unreachable!()
+}
+
+// Tells each lane on whose connections something came. The answer is whether connections wait.
+fn tell_lanes<Y: Yard, R: Wait + Clock + Drop>(
+    shared: &SharedState<Y, R>,
+    sockets: &SocketEvents,
+) -> bool {
+    let mut has_come = false;
+    for event in sockets.events.iter() {
+        let place = event.token().0;
+        if let Some(lane) = shared.lanes.get(place) {
+            lane.signal(&shared.rt, LaneSignal::Readable);
+        }
+        has_come = has_come || place == LISTENER;
+    }
+    has_come
+}
+
+// Accepts connections and tells the lanes of arrivals, until the master ends.
+fn serve_sockets<'s, E, Y, R>(
+    scope: &Scope<'s, E>,
+    shared: &'s SharedState<Y, R>,
+    listener: &TcpListener,
+    sockets: SocketEvents,
+)
+where
+    Y: Yard + Send + Sync + 's,
+    R: Wait + Clock + Threads + Copy + Drop + Send + Sync + 's,
+{
+    let mut sockets = sockets;
+    let pause = Duration::from_millis(PAUSE_MS);
+    let mut is_paused = false;
+    for _ in shared.rt.forever() {
+        if shared.is_over.load(Ordering::SeqCst) {
+            return;
+        }
+        let most = if is_paused { Some(pause) } else { None };
+        if sockets.poll.poll(&mut sockets.events, most).is_err() {
+            thread::sleep(&shared.rt, pause);
+        }
+        let has_come = tell_lanes(shared, &sockets);
+        if has_come || is_paused {
+            is_paused = accept_all(scope, shared, listener, is_paused);
         }
     }
 }
 
-/// Accepts connections until the master ends. Then those that have not logged in end too.
-pub fn accept_connections<Y, R>(shared: &SharedState<Y, R>, listener: TcpListener)
+/// Accepts connections, and tells the lanes what comes on them, until the master ends. Then those
+/// that have not logged in end too.
+pub fn accept_connections<Y, R>(
+    shared: &SharedState<Y, R>,
+    listener: TcpListener,
+    sockets: SocketEvents,
+)
 where
     Y: Yard + Send + Sync,
     R: Wait + Clock + Threads + Copy + Drop + Send + Sync,
@@ -121,6 +179,6 @@ where
         &shared.rt,
         |scope| -> ()
             requires { IsSend Y.row × IsSync Y.row × IsSend R.row × IsSync R.row }
-        { accept_all(scope, shared, &listener) },
+        { serve_sockets(scope, shared, &listener, sockets) },
     )
 }

@@ -6,7 +6,7 @@ use crate::shared_state::SharedState;
 use bm_board::{Build, StepPlan};
 use bm_build_queue::Assignment;
 use bm_lane::{Viewer, Yard};
-use bm_lane_actor::{LaneHandle, LanePort, Watch, WorkerStream, handle_of};
+use bm_lane_actor::{CancelFlag, DrainGate, LaneHandle, LanePort, Watch, WorkerStream, handle_of};
 use bm_lines::Text;
 use bm_operator::{StartRefusal, StepEvent, StepLimit};
 use bm_runner::run_build;
@@ -14,7 +14,7 @@ use bm_session::Results;
 use crossbeam_channel::bounded;
 use std::alloc::Global;
 use std::sync::Wait;
-use std::sync::atomic::{AtomicBool, Ordering};
+use std::sync::atomic::Ordering;
 use std::thread::{Scope, Threads};
 use std::time::Clock;
 
@@ -40,10 +40,36 @@ struct StepReporter<'s, Y: Yard, R: Wait + Clock> {
     name: Option<Text>,
     /// Whether its command has reached a limit.
     is_stopped: bool,
-    cancelled: &'s AtomicBool,
+    /// Whether the cancel that the flag holds was told.
+    is_told: bool,
+    cancelled: &'s CancelFlag,
 }
 
 impl<'s, Y: Yard, R: Wait + Clock> StepReporter<'s, Y, R> {
+    // Tells of the steps of this build, of which nothing happened yet.
+    fn new(
+        rt: &'s R,
+        events: EventSender<Y>,
+        build: u64,
+        cancelled: &'s CancelFlag,
+    ) -> StepReporter<'s, Y, R> {
+        StepReporter {
+            rt,
+            events,
+            build,
+            name: None,
+            is_stopped: false,
+            is_told: false,
+            cancelled,
+        }
+    }
+
+    // The cancel has ended its step: the next is another one.
+    fn obeyed(&mut self) {
+        self.is_told = false;
+        self.cancelled.store(false, Ordering::SeqCst);
+    }
+
     // Tells what happened to the step.
     fn tell(&self, event: StepEvent, said: Option<Text>) {
         let name = match &self.name {
@@ -69,6 +95,14 @@ impl<'s, Y: Yard, R: Wait + Clock> Watch for StepReporter<'s, Y, R> {
         self.tell(StepEvent::Started(command), None);
     }
 
+    fn cancelled(&mut self) {
+        if !self.is_told {
+            self.is_told = true;
+            self.events
+                .tell(self.rt, MasterEvent::Cancelling(self.build));
+        }
+    }
+
     fn stopped(&mut self, command: u64, limit: StepLimit) {
         self.is_stopped = true;
         self.tell(StepEvent::Stopped(command, limit), None);
@@ -76,7 +110,8 @@ impl<'s, Y: Yard, R: Wait + Clock> Watch for StepReporter<'s, Y, R> {
 
     fn refused(&mut self, step: &StepPlan, why: StartRefusal) {
         if why == StartRefusal::Cancelled {
-            self.cancelled.store(false, Ordering::SeqCst);
+            self.cancelled();
+            self.obeyed();
         }
         self.name = step.name.copy().ok();
         self.tell(StepEvent::Refused(why), None);
@@ -85,7 +120,7 @@ impl<'s, Y: Yard, R: Wait + Clock> Watch for StepReporter<'s, Y, R> {
     // A cancel ends one step: those that always run are run after it.
     fn ended(&mut self, command: u64, outcome: Results, said: Option<Text>) {
         if outcome == Results::Cancelled {
-            self.cancelled.store(false, Ordering::SeqCst);
+            self.obeyed();
         }
         if outcome == Results::Exception && !self.is_stopped {
             self.tell(StepEvent::Failed(command), said);
@@ -100,7 +135,8 @@ fn run<Y, R>(
     alloc: Global,
     build: &Build,
     task: BuildTask<Y, R>,
-    cancelled: &AtomicBool,
+    gate: &DrainGate<R>,
+    cancelled: &CancelFlag,
     events: EventSender<Y>,
     steps: EventSender<Y>,
 )
@@ -113,15 +149,8 @@ where
         viewer,
         lane,
     } = task;
-    let reporter = StepReporter {
-        rt,
-        events: steps,
-        build: number,
-        name: None,
-        is_stopped: false,
-        cancelled,
-    };
-    let mut port = LanePort::over(rt, alloc, viewer, lane, cancelled, reporter);
+    let reporter = StepReporter::new(rt, steps, number, cancelled);
+    let mut port = LanePort::over(rt, alloc, viewer, lane, gate, cancelled, reporter);
     let result = match run_build(alloc, build, &mut port, TURNS) {
         Ok(report) => Some(report.result),
         Err(_) => None,
@@ -171,12 +200,11 @@ where
     Y: Yard + Send + Sync + 's,
     R: Wait + Clock + Threads + Drop + Send + Sync + 's,
 {
-    let (rt, alloc) = (&shared.rt, shared.alloc);
-    let number = assignment.number as usize;
-    let build = shared.config.builds.as_slice().get(number);
-    let (Some(build), Some(cancelled)) = (build, shared.cancels.get(number)) else {
+    let (rt, alloc, gate) = (&shared.rt, shared.alloc, &shared.drain_gate);
+    let Some((build, cancel)) = shared.build(assignment.number) else {
         return Err(assignment.viewer);
     };
+    cancel.begins(assignment.worker);
     let (Ok(events), Ok(steps)) = (shared.events.copy(), shared.events.copy()) else {
         return Err(assignment.viewer);
     };
@@ -187,10 +215,10 @@ where
         Ok(task) => task,
         Err(assignment) => return Err(assignment.viewer),
     };
-    // The task follows the thread, so that it isn't lost where there is none.
+    // The task follows the thread, so that it isn't lost.
     let thread = scope.spawn(move || {
         if let Ok(task) = take.recv(rt) {
-            run(rt, alloc, build, task, cancelled, events, steps);
+            run(rt, alloc, build, task, gate, &cancel.flag, events, steps);
         }
     });
     if thread.is_err() {

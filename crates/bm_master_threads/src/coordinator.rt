@@ -4,6 +4,7 @@ ghost use Rattle.bm_build_queue.specs.BuildQueue.{AreResults};
 ghost use Rattle.std.specs.Thread.{IsSend, IsSync};
 
 use crate::events::{EventReceiver, MasterEvent};
+use crate::held_builds::HeldBuilds;
 use crate::host::MasterHost;
 use crate::remarks::Remarks;
 use crate::shared_state::SharedState;
@@ -56,6 +57,8 @@ pub struct CoordinatorLeft<Y: Yard, O> {
 pub struct Coordinator<'s, Y: Yard, R: Wait + Clock + Drop, O> {
     pub shared: &'s SharedState<Y, R>,
     pub queue: BuildQueue<Y>,
+    /// The builds that hold their slots although they have their results.
+    pub held: HeldBuilds<Y>,
     /// The workers, in their order.
     pub workers: Vec<WorkerEntry>,
     pub output: O,
@@ -100,7 +103,9 @@ where
 
     // Whether ticks count.
     fn is_timed(&self) -> bool {
-        self.queue.is_short() || self.workers.iter().any(|worker| worker.is_timed())
+        self.queue.is_short()
+            || !self.held.is_empty()
+            || self.workers.iter().any(|worker| worker.is_timed())
     }
 
     // Does what follows from an event. Builds may then be wanted or started that were not before,
@@ -109,6 +114,9 @@ where
         match event {
             MasterEvent::Step(step) => return self.hear_step(&step),
             MasterEvent::Refused(refused) => return self.hear_refused(&refused),
+            MasterEvent::Cancelling(build) => {
+                return self.remark(&Remark::BuildCancelled { build });
+            }
             MasterEvent::Paused => return self.remark(&Remark::AcceptingPaused),
             MasterEvent::Lane(worker, event) => self.hear_lane(worker, event),
             MasterEvent::Ended(build) => self.hear_build(build),
@@ -149,6 +157,7 @@ where
             let ticks = self.ended_ticks();
             if is_timed {
                 self.is_stale = self.is_stale || self.queue.is_short();
+                self.release_free();
                 for _ in 0..ticks {
                     self.tick();
                 }
@@ -160,6 +169,7 @@ where
                 self.tell_left_out();
             }
         }
+        self.release_all();
         self.end_processes();
     }
 
@@ -213,6 +223,7 @@ where
             let mut coordinator = Coordinator {
                 shared,
                 queue,
+                held: HeldBuilds::new(shared.alloc),
                 workers,
                 output,
                 remarks,

@@ -4,12 +4,11 @@ use crate::build_thread::start_build;
 use crate::coordinator::Coordinator;
 use crate::events::FinishedBuild;
 use crate::host::MasterHost;
-use bm_build_queue::Cancelled;
+use bm_build_queue::{Cancelled, HeldBuild};
 use bm_lane::{Viewer, Yard};
 use bm_operator::{OutputLine, Remark};
 use bm_session::Results;
 use std::io::Write;
-use std::sync::atomic::Ordering;
 use std::thread::Scope;
 
 impl<'s, Y, R, O> Coordinator<'s, Y, R, O>
@@ -45,16 +44,47 @@ where
         });
     }
 
-    // A build has ended, with this result of its runner.
+    // A build has ended, with this result of its runner. It holds its slot and its locks while a
+    // command of it may be open.
     fn ends(&mut self, number: u64, reported: Results, viewer: Viewer<Y>) {
-        if !self.queue.end(number, reported, viewer) {
-            self.has_failed = true;
-        }
+        self.queue.report(number, reported);
         if let Some(result) = self.queue.result(number) {
             self.remark(&Remark::BuildEnded {
                 build: number,
                 result,
             });
+        }
+        if let Some(build) = self.held.hold(number, viewer) {
+            self.release(build);
+        }
+    }
+
+    // A build gives its slot, its locks and its viewer back.
+    fn release(&mut self, build: HeldBuild<Y>) {
+        let (number, viewer) = build.into_parts();
+        if !self.queue.release(number, viewer) {
+            self.has_failed = true;
+        }
+    }
+
+    /// Releases the builds that were held for a command, and of which none is open any more.
+    pub fn release_free(&mut self) {
+        for _ in 0..self.queue.builds() {
+            let Some(build) = self.held.take_free() else {
+                return;
+            };
+            self.release(build);
+            self.is_stale = true;
+        }
+    }
+
+    /// Releases the builds that are held, whatever becomes of their commands.
+    pub fn release_all(&mut self) {
+        for _ in 0..self.queue.builds() {
+            let Some(build) = self.held.take_any() else {
+                return;
+            };
+            self.release(build);
         }
     }
 
@@ -71,7 +101,8 @@ where
         self.ends(number, result.unwrap_or(Results::Retry), viewer);
     }
 
-    /// Cancels a build, where it has not ended.
+    /// Cancels a build, where it has not ended. A running one is called, and tells itself that it
+    /// obeys.
     pub fn cancel(&mut self, number: u64) {
         match self.queue.cancel(number) {
             Cancelled::Waiting => self.remark(&Remark::BuildEnded {
@@ -79,10 +110,9 @@ where
                 result: Results::Cancelled,
             }),
             Cancelled::Running => {
-                if let Some(cancelled) = self.shared.cancels.get(number as usize) {
-                    cancelled.store(true, Ordering::SeqCst);
+                if let Some(cancel) = self.shared.cancels.get(number as usize) {
+                    self.shared.drain_gate.call_builds(cancel.set());
                 }
-                self.remark(&Remark::BuildCancelled { build: number });
             }
             Cancelled::Nothing => {}
         }

@@ -5,7 +5,7 @@ use crate::events::{RefusedConnection, ReportedStep};
 use crate::host::MasterHost;
 use bm_lane::Yard;
 use bm_lane_actor::refusal_remark;
-use bm_operator::Remark;
+use bm_operator::{Remark, StepEvent};
 use std::io::Write;
 
 /// What is told of a command without an exit code whose worker doesn't say why.
@@ -40,8 +40,12 @@ where
         }
     }
 
-    /// Something happened to a step of a build.
+    /// Something happened to a step of a build. The build holds its slot until each command that it
+    /// starts has ended.
     pub fn hear_step(&mut self, reported: &ReportedStep) {
+        if let StepEvent::Started(command) = reported.event {
+            self.held.note(reported.build, command);
+        }
         let step = match &reported.name {
             Some(name) => name.as_str(),
             None => "",

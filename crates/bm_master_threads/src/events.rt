@@ -56,6 +56,8 @@ pub enum MasterEvent<Y: Yard> {
     Ended(FinishedBuild<Y>),
     /// Something happened to a step of a build.
     Step(ReportedStep),
+    /// This build obeys a cancel.
+    Cancelling(u64),
     /// A connection was not taken up.
     Refused(RefusedConnection),
     /// No connection could be accepted just now.

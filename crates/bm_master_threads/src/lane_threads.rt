@@ -142,6 +142,7 @@ impl<Y: Yard> LaneThreads<Y> {
             let _ = readers.push(actor.join(rt));
         }
         if let Some(acceptor) = acceptor {
+            shared.sockets.wake();
             acceptor.join(rt);
         }
         shared.drain_gate.stop();

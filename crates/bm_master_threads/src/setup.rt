@@ -4,6 +4,7 @@ use crate::coordinator::CoordinatorOwned;
 use crate::events::{EventReceiver, open_events};
 use crate::remarks::Remarks;
 use crate::shared_state::SharedState;
+use crate::sockets::open_sockets;
 use crate::threads::ThreadOwned;
 use crate::worker_entry::entries_of;
 use bm_build_queue::{BuildQueue, ViewerPool};
@@ -13,7 +14,7 @@ use bm_lane_actor::{Mailboxes, WorkerStream, open_mailboxes};
 use bm_lanes::{DealtLanes, maxima_of, slots_of};
 use bm_web_server::LogService;
 use std::alloc::Global;
-use std::net::{SocketAddr, TcpListener};
+use std::net::{Net, SocketAddr, TcpListener};
 use std::sync::{Arc, Wait};
 use std::time::Clock;
 
@@ -111,13 +112,14 @@ pub fn prepare<Y, R, I, O>(
 >
 where
     Y: Yard,
-    R: Wait + Clock + Copy + Drop,
+    R: Wait + Clock + Net + Copy + Drop,
     I: Drop,
     O: Drop,
 {
     let all = open_mailboxes(alloc, ends.states.len()).ok();
     let (events, all) = open_events(alloc).ok().zip(all)?;
     let (sender, events) = events;
+    let (sockets, registry) = open_sockets(rt, alloc, &streams.workers)?;
     let Mailboxes { handles, mailboxes } = all;
     let DealtLanes {
         states,
@@ -133,7 +135,7 @@ where
         remarks,
     } = streams;
     let coordinator = coordinator_of(alloc, &config, at, pools, events, output, remarks);
-    let shared = SharedState::new(rt, alloc, config, handles, sender, writers);
+    let shared = SharedState::new(rt, alloc, config, handles, sender, registry, writers);
     let (made, logs) = shared.zip(coordinator).zip(logs_of(alloc, web_viewers))?;
     let (shared, coordinator) = made;
     let (served, logs) = logs;
@@ -141,6 +143,7 @@ where
         states,
         mailboxes,
         workers,
+        sockets,
         web,
         logs: served,
         coordinator,

@@ -1,16 +1,40 @@
 //! What all threads of a master share.
 
 use crate::events::EventSender;
+use crate::sockets::SocketRegistry;
 use crate::web::WebStop;
+use bm_board::Build;
 use bm_config::Config;
 use bm_lane::{WriterEnd, Yard};
-use bm_lane_actor::{DrainGate, LaneHandle, LoginLimit, WorkerStream};
+use bm_lane_actor::{CancelFlag, DrainGate, LaneHandle, LoginLimit, WorkerStream};
 use bm_lanes::users_of;
 use bm_link::User;
 use std::alloc::{AllocError, Global};
-use std::sync::atomic::AtomicBool;
+use std::sync::atomic::{AtomicBool, AtomicU64, Ordering};
 use std::sync::{Arc, Mutex, Wait};
 use std::time::Clock;
+
+/// Whether a build is to be cancelled, and where it is called.
+#[derive(Drop)]
+pub struct BuildCancel {
+    /// Set by the coordinator, cleared by the build once a step has ended by it.
+    pub flag: CancelFlag,
+    /// The number of the lane on which the build runs, once it does.
+    lane: AtomicU64,
+}
+
+impl BuildCancel {
+    /// The build begins on this lane.
+    pub fn begins(&self, lane: usize) {
+        self.lane.store(lane as u64, Ordering::SeqCst);
+    }
+
+    /// The build is to be cancelled. The answer is the lane on which it runs.
+    pub fn set(&self) -> usize {
+        self.flag.store(true, Ordering::SeqCst);
+        self.lane.load(Ordering::SeqCst) as usize
+    }
+}
 
 /// What all threads of a master share. Each list is in the order of the lanes, but for `cancels`.
 #[derive(Drop)]
@@ -18,14 +42,16 @@ pub struct SharedState<Y: Yard, R: Wait + Clock + Drop> {
     pub rt: R,
     pub alloc: Global,
     pub config: Config,
-    /// For each build, whether its step is to be cancelled.
-    pub cancels: Vec<AtomicBool>,
+    /// For each build, whether it is to be cancelled.
+    pub cancels: Vec<BuildCancel>,
     /// Who may log in.
     pub users: Vec<User>,
     /// By what the lanes' actors are reached.
     pub lanes: Vec<LaneHandle<WorkerStream<R>>>,
     /// By what the coordinator is reached.
     pub events: EventSender<Y>,
+    /// By what the acceptor is woken, and told of connections.
+    pub sockets: SocketRegistry,
     /// How many connections without a login there may be.
     pub logins: LoginLimit,
     /// The writers' ends, which the pool drains.
@@ -46,10 +72,11 @@ impl<Y: Yard, R: Wait + Clock + Copy + Drop> SharedState<Y, R> {
         config: Config,
         lanes: Vec<LaneHandle<WorkerStream<R>>>,
         events: EventSender<Y>,
+        sockets: SocketRegistry,
         writers: Vec<Mutex<WriterEnd<Y, R>>>,
     ) -> Option<SharedState<Y, R>> {
         let drain_gate = DrainGate::new(*rt, alloc, writers.len(), config.writers as usize).ok();
-        let cancels = flags_of(alloc, config.builds.as_slice().len()).ok();
+        let cancels = cancels_of(alloc, config.builds.as_slice().len()).ok();
         let users = users_of(alloc, config.workers.as_slice()).ok();
         let is_over = Arc::new(alloc, AtomicBool::new(false)).ok();
         let made = drain_gate.zip(is_over).zip(cancels.zip(users));
@@ -64,6 +91,7 @@ impl<Y: Yard, R: Wait + Clock + Copy + Drop> SharedState<Y, R> {
             users,
             lanes,
             events,
+            sockets,
             logins: LoginLimit::new(),
             writers,
             drain_gate,
@@ -73,11 +101,22 @@ impl<Y: Yard, R: Wait + Clock + Copy + Drop> SharedState<Y, R> {
     }
 }
 
-// A flag for each build, which isn't set.
-fn flags_of(alloc: Global, builds: usize) -> Result<Vec<AtomicBool>, AllocError> {
-    let mut flags = Vec::with_capacity(alloc, builds)?;
-    for _ in 0..builds {
-        flags.push(AtomicBool::new(false))?;
+impl<Y: Yard, R: Wait + Clock + Drop> SharedState<Y, R> {
+    /// The build of this number, and by what it is cancelled.
+    pub fn build(&self, number: u64) -> Option<(&Build, &BuildCancel)> {
+        let build = self.config.builds.as_slice().get(number as usize)?;
+        Some((build, self.cancels.get(number as usize)?))
     }
-    Ok(flags)
+}
+
+// For each build, that it isn't to be cancelled.
+fn cancels_of(alloc: Global, builds: usize) -> Result<Vec<BuildCancel>, AllocError> {
+    let mut cancels = Vec::with_capacity(alloc, builds)?;
+    for _ in 0..builds {
+        cancels.push(BuildCancel {
+            flag: Arc::new(alloc, AtomicBool::new(false))?,
+            lane: AtomicU64::new(0),
+        })?;
+    }
+    Ok(cancels)
 }

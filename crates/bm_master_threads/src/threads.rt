@@ -5,7 +5,7 @@
 //! | first | the web's socket | with the coordinator, which it joins |
 //! | pool | nothing: it drains the shared writers' ends | once the gate is stopped |
 //! | actor, one a lane | the lane's state and its mailbox | once its mailbox is told `Leave` |
-//! | acceptor | the workers' socket | once `is_over` is set |
+//! | acceptor | the workers' listener; it waits for all their sockets | woken once `is_over` is set |
 //! | coordinator | builds, workers, output and remarks | once all builds and the input have ended |
 //! | input | standard input | with it |
 //!
@@ -19,6 +19,7 @@ use crate::host::MasterHost;
 use crate::input::start_input;
 use crate::lane_threads::{LaneThreads, drain_lanes, start_actors};
 use crate::shared_state::SharedState;
+use crate::sockets::SocketEvents;
 use crate::web::serve_web;
 use bm_lane::{ReaderEnd, Yard};
 use bm_lane_actor::{LaneState, Mailbox, WorkerStream};
@@ -38,6 +39,8 @@ pub struct ThreadOwned<Y: Yard, R: Wait + Clock + Drop, I, O> {
     pub mailboxes: Vec<Mailbox<WorkerStream<R>>>,
     /// The acceptor's. Its `accept` doesn't wait.
     pub workers: TcpListener,
+    /// The acceptor's: where it waits for all of the workers' sockets.
+    pub sockets: SocketEvents,
     /// The first thread's: where it serves, and what.
     pub web: TcpListener,
     pub logs: Arc<LogService<Y>>,
@@ -104,6 +107,7 @@ where
         states,
         mailboxes,
         workers,
+        sockets,
         web,
         logs,
         coordinator,
@@ -112,7 +116,7 @@ where
     let pool = scope.spawn(move || drain_lanes(shared)).ok();
     let has_actors = start_actors(scope, shared, states, mailboxes, &mut actors);
     let acceptor = scope
-        .spawn(move || accept_connections(shared, workers))
+        .spawn(move || accept_connections(shared, workers, sockets))
         .ok();
     let lane_threads = LaneThreads {
         pool,

@@ -9,3 +9,4 @@ pub mod Heard
 pub mod TreeLists
 pub mod Writable
 pub mod ReadsBack
+pub mod Logins

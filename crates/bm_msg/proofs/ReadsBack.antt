@@ -31,7 +31,7 @@ log_name name h =
     let short : length name ≤ 255 = h.short in
     both (nat_le 1 (length name)) (nat_le (length name) 255) (grind (arith, nat_tests)) (grind (arith, nat_tests))
 
-session_name : (s : List ℕ) → 1 ≤ length s → length s ≤ 64 → is_session s ≡ true
+pub session_name : (s : List ℕ) → 1 ≤ length s → length s ≤ 64 → is_session s ≡ true
 session_name s some short = both (nat_le 1 (length s)) (nat_le (length s) 64) (grind (arith, nat_tests)) (grind (arith, nat_tests))
 
 onto : (f : Field) (fs : List Field) (o : Option (List Field)) → o ≡ Some fs → option_map (λ back. (f ∷ []) ++ back) o ≡ Some (f ∷ fs)

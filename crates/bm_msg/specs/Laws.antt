@@ -8,8 +8,8 @@ use Rattle.bm_lines.specs.Names.{IsLogName}
 use Rattle.bm_msg.specs.declared.field.Field.{Field}
 use Rattle.bm_msg.specs.declared.field.Field.TheVariants.{Text, Named, Rc}
 use Rattle.bm_msg.specs.Meaning.{Asked, auth, start_command, interrupt_command, update, complete, unknown, Meaning, request, response}
-use Rattle.bm_msg.specs.Messages.{IsMessage, is_op}
-use Rattle.bm_msg.specs.Trees.{tree_of}
+use Rattle.bm_msg.specs.Messages.{IsMessage, is_op, next_session_of}
+use Rattle.bm_msg.specs.Trees.{login_tree, tree_of}
 
 -- the names of named texts are names of logs, as in every field
 abbrev pub AreNamed : List Field → Type 0
@@ -55,3 +55,18 @@ abbrev pub WrittenIsRead : Type 0
 WrittenIsRead =
     (m : Meaning) → IsPlainMessage m → IsReadBack (tree_of m)
     → (t : Tree) → Spells (written (tree_of m)) t → IsMessage t m
+
+-- A login that names no next session has the tree of its `auth`, and so the same bytes.
+abbrev pub FirstLoginsStay : Type 0
+FirstLoginsStay =
+    (username password : List ℕ) (session : Option (List ℕ))
+    → login_tree username password session None
+    ≡ tree_of (request 0 (auth username password session))
+
+-- Whatever tree the bytes of a login spell is that `auth`, and names that next session.
+abbrev pub LoginsAreRead : Type 0
+LoginsAreRead =
+    (username password : List ℕ) (session next : Option (List ℕ))
+    → IsSession session → IsSession next → IsReadBack (login_tree username password session next)
+    → (t : Tree) → Spells (written (login_tree username password session next)) t
+    → IsMessage t (request 0 (auth username password session)) × (next_session_of t ≡ next)

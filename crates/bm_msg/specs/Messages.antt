@@ -45,6 +45,10 @@ abbrev pub session_of : Option Tree → Option (List ℕ)
 session_of (Some (str s)) = if is_session s then Some s else None
 session_of _ = None
 
+-- the text that a session is to have which begins by this login, read alike
+abbrev pub next_session_of : Tree → Option (List ℕ)
+next_session_of t = session_of (field t (codes "next_session"))
+
 -- the operations of the protocol
 abbrev pub ops : List (List ℕ)
 ops =

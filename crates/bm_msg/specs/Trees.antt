@@ -1,6 +1,6 @@
 -- The trees that messages are written as: the number and the operation first, then the keys of
 -- the operation.
-use Rattle.std.specs.Prelude.{ℕ, pos, Bool, true, false, List, [], ◌∷◌, map, codes, Option, Some, None}
+use Rattle.std.specs.Prelude.{ℕ, pos, Bool, true, false, List, [], ◌∷◌, ◌++◌, map, codes, Option, Some, None}
 use Rattle.std.specs.Fmt.{decimal}
 use Rattle.bm_value.specs.Tree.{Tree, nil, bool, int, str, array, dict, none, item, TreePair}
 use Rattle.bm_value.specs.View.{trees_of, pairs_of}
@@ -84,6 +84,17 @@ abbrev pub tree_of : Meaning → Tree
 tree_of (request n asked) = message_tree n (op_of asked) (keys_of asked)
 tree_of (response n result exception) =
     message_tree n (codes "response") (at (codes "result") result ∷ exception_key exception)
+
+abbrev pub next_session_key : Option (List ℕ) → List TreePair
+next_session_key None = []
+next_session_key (Some s) = at (codes "next_session") (str s) ∷ []
+
+-- The tree of a login, which is request 0: that of the `auth`, and behind its keys the text that a
+-- session is to have which begins by it.
+abbrev pub login_tree : List ℕ → List ℕ → Option (List ℕ) → Option (List ℕ) → Tree
+login_tree username password session next =
+    message_tree 0 (codes "auth")
+    (keys_of (auth username password session) ++ next_session_key next)
 
 -- the response that is nil, or the exception with this text
 abbrev pub answer : ℕ → Option (List ℕ) → Meaning

@@ -4,7 +4,7 @@ ghost use Rattle.std.specs.Prelude.{◌≡◌, codes, IfOk};
 ghost use Rattle.std.specs.Option.{option_copied, option_and_then};
 ghost use Rattle.bm_value.specs.Field.{field};
 ghost use Rattle.bm_value.specs.View.{tree};
-ghost use Rattle.bm_msg.specs.Messages.{session_of, is_exception};
+ghost use Rattle.bm_msg.specs.Messages.{session_of, next_session_of, is_exception};
 ghost use Rattle.bm_msg.specs.Reading.{str_of, seq_of, command_number, text_at, number_at, command_at};
 
 use bm_lines::Text;
@@ -85,16 +85,43 @@ pub fn command_at<A: Allocator>(message: &Value<A>) -> Option<u64>
     }
 }
 
-/// The session that an `auth` names.
-pub fn session<A: Allocator>(alloc: Global, message: &Value<A>) -> Result<Option<Text>, AllocError>
-    ensures { IfOk result (λ s. s ≡ session_of (field (tree message.now) (codes "session"))) }
+/// The text of a session under a key.
+fn session_at<A: Allocator>(
+    alloc: Global,
+    message: &Value<A>,
+    key: &str,
+) -> Result<Option<Text>, AllocError>
+    ensures { IfOk result (λ s. s ≡ session_of (field (tree message.now) key.now)) }
 {
-    match text_at(message, "session") {
+    match text_at(message, key) {
         Some(text) if !text.is_empty() && text.len() <= LONGEST_SESSION => Ok(Some(Text::from_str(
             alloc, text,
         )?)),
         _ => Ok(None),
     }
+}
+
+/// The session that an `auth` asks to resume.
+pub fn session<A: Allocator>(alloc: Global, message: &Value<A>) -> Result<Option<Text>, AllocError>
+    ensures { IfOk result (λ s. s ≡ session_of (field (tree message.now) (codes "session"))) }
+{
+    session_at(alloc, message, "session")
+}
+
+/// The text that a session is to have which begins by this `auth`: the str of 1 to 64 bytes under
+/// `next_session`. None where the key is missing, or has any other value. It stands beside
+/// [`crate::Request::Auth`], whose readers need not know of it.
+///
+/// # Errors
+///
+/// Want of memory.
+pub fn next_session<A: Allocator>(
+    alloc: Global,
+    message: &Value<A>,
+) -> Result<Option<Text>, AllocError>
+    ensures { IfOk result (λ s. s ≡ next_session_of (tree message.now)) }
+{
+    session_at(alloc, message, "next_session")
 }
 
 /// Whether a response is an exception.

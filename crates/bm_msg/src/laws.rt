@@ -1,6 +1,6 @@
 //! Laws of messages, as contracts.
 
-ghost use Rattle.bm_msg.specs.Laws.{ToldOnce, WrittenIsMessage, WrittenIsRead};
+ghost use Rattle.bm_msg.specs.Laws.{FirstLoginsStay, LoginsAreRead, ToldOnce, WrittenIsMessage, WrittenIsRead};
 
 /// No tree is two messages.
 pub fn told_once()
@@ -18,4 +18,11 @@ pub fn written_is_message()
 /// that write a message answer that its bytes are read back.
 pub fn written_is_read()
     ensures { WrittenIsRead }
+{}
+
+/// A login without a next session is written as its `auth` alone. Whatever tree the bytes of a
+/// login spell is its `auth`, and names the next session that it named: each has 1 to 64 bytes.
+pub fn logins_are_read()
+    ensures first { FirstLoginsStay }
+    ensures read { LoginsAreRead }
 {}

@@ -2,8 +2,8 @@
 //! bytes.
 //!
 //! The messages are those of the master-worker protocol of the Buildbot manual, MessagePack over
-//! WebSocket. The items of an update, the item `log` and the key `session` of `auth` are this
-//! project's profile.
+//! WebSocket. The items of an update, the item `log` and the keys `session` and `next_session` of
+//! `auth` are this project's profile.
 //!
 //! Promised: `read` gives just the message that a tree is, or the first fault. What is written is
 //! read back as the same message. A body could still want memory.
@@ -17,6 +17,7 @@ mod items;
 mod keys;
 pub mod laws;
 mod limits;
+mod login_writing;
 mod message;
 mod reading;
 mod request;
@@ -27,7 +28,8 @@ pub use fault::MsgError;
 pub use field::{Field, Fields};
 pub use incoming::Incoming;
 pub use item_writing::stream_name;
-pub use keys::NUMBER_LIMIT;
+pub use keys::{NUMBER_LIMIT, next_session};
+pub use login_writing::write_login;
 pub use message::{Message, Numbered, Response};
 pub use reading::read;
 pub use request::Request;

@@ -25,7 +25,7 @@ fn args_nest(request: &Request) -> bool
     }
 }
 
-fn fits(text: &str) -> bool
+pub(crate) fn fits(text: &str) -> bool
     ensures { IsTrue result ↔ (length text.now < 2 ^ 32) }
 {
     text.len() < 1 << 32
@@ -52,7 +52,7 @@ fn each_is_short(fields: &[Field]) -> bool
     true
 }
 
-fn option_is_short(said: &Option<Text>) -> bool
+pub(crate) fn option_is_short(said: &Option<Text>) -> bool
     ensures { IsTrue result ↔ IsShortOption said.now }
 {
     match said {

@@ -37,7 +37,7 @@ fn put(
 }
 
 /// The keys that every message has.
-fn first_keys(alloc: Global, seq: u64, op: &str) -> Result<Vec<Pair<Global>>, AllocError>
+pub(crate) fn first_keys(alloc: Global, seq: u64, op: &str) -> Result<Vec<Pair<Global>>, AllocError>
     ensures { IfOk result (λ v. map pair_tree v.items
         ≡ at (codes "seq_number") (int (pos seq)) ∷ at (codes "op") (str op.now) ∷ []) }
 {
@@ -60,7 +60,7 @@ fn command_key(alloc: Global, keys: &mut Vec<Pair<Global>>, command: u64) -> Res
     )
 }
 
-fn text_key(
+pub(crate) fn text_key(
     alloc: Global,
     keys: &mut Vec<Pair<Global>>,
     key: &str,
@@ -113,7 +113,7 @@ fn session_key(
     }
 }
 
-fn auth_keys(
+pub(crate) fn auth_keys(
     alloc: Global,
     keys: &mut Vec<Pair<Global>>,
     username: &Text,
@@ -186,7 +186,7 @@ fn put_keys(
 }
 
 /// The written form of a map of these pairs.
-fn written_map(alloc: Global, keys: Vec<Pair<Global>>) -> Result<Vec<u8>, AllocError>
+pub(crate) fn written_map(alloc: Global, keys: Vec<Pair<Global>>) -> Result<Vec<u8>, AllocError>
     requires nests { depth (dict (pairs_of (map pair_tree keys.items))) ≤ 32 }
     requires short { IsShort (dict (pairs_of (map pair_tree keys.items))) }
     ensures ok { IfOk result (λ v. v.items ≡ written (dict (pairs_of (map pair_tree keys.items)))) }

@@ -50,6 +50,7 @@ start_text start.Memory = codes "out of memory"
 abbrev pub limit_text : StepLimit → List ℕ
 limit_text limit.Bytes = codes "max_bytes"
 limit_text limit.Ticks = codes "timeout_ticks"
+limit_text limit.Silence = codes "silent_ticks"
 
 -- why the program of a worker wasn't started
 abbrev pub program_text : ProgramRefusal → List ℕ

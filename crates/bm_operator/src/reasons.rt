@@ -133,6 +133,8 @@ pub enum StepLimit {
     Bytes,
     /// It has run for as many ticks as it may.
     Ticks,
+    /// Its updates have carried nothing for as many ticks as they may.
+    Silence,
 }
 
 impl StepLimit {
@@ -143,6 +145,7 @@ impl StepLimit {
         match self {
             StepLimit::Bytes => "max_bytes",
             StepLimit::Ticks => "timeout_ticks",
+            StepLimit::Silence => "silent_ticks",
         }
     }
 }

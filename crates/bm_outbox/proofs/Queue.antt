@@ -7,6 +7,7 @@ use Rattle.bm_outbox.specs.Faults.{fault_line}
 use Rattle.bm_outbox.specs.Headers.{exit_line}
 use Rattle.bm_outbox.specs.OutboxEntries.{Tells}
 use Rattle.bm_outbox.specs.Opening.{Closes, Fails, IsHeader, waiting_texts}
+use Rattle.bm_outbox.specs.Stopping.{AreHeaders, Stops, ending_of, stop_lines}
 use Rattle.bm_outbox.specs.Telling.{TellsNext, waits_on}
 use Rattle.bm_outbox.specs.declared.ending.Ending.TheVariants.{Code, CannotStart}
 use Rattle.bm_outbox.specs.declared.outbox_entry.OutboxEntry.{OutboxEntry}
@@ -16,6 +17,8 @@ use Rattle.bm_outbox.specs.declared.progress.Progress.TheVariants as progress
 use Rattle.bm_outbox.specs.declared.pipes.ExitCode.{ExitCode}
 use Rattle.bm_outbox.specs.declared.said.Said.{Said}
 use Rattle.bm_outbox.specs.declared.start_fault.StartFault.{StartFault}
+use Rattle.bm_outbox.specs.declared.stopping.Leftover.{Leftover}
+use Rattle.bm_outbox.specs.declared.stopping.StopCause.{StopCause}
 
 goes-on : (first : OutboxEntry) (rest : List OutboxEntry) (t : Progress) → t ≢ progress.Full → rest ≡ waits_on first rest (Ok t)
 goes-on first rest progress.Nothing other = refl
@@ -39,3 +42,8 @@ closes code said old mid new header is ended = (said, header, ended ∙ ap (λ m
 pub fails : (k : ℕ) (why : StartFault) (said : Said) (old mid new : List OutboxEntry) → said.letter ≡ H → said.text ≡ fault_line why
     → mid ≡ old ++ entry.Text k said ∷ [] → new ≡ mid ++ entry.End k CannotStart ∷ [] → Fails k why old new
 fails k why said old mid new letter text is ended = (_, (said, letter, text, refl), ended ∙ ap (λ m. m ++ entry.End k CannotStart ∷ []) is ∙ append_assoc old _ _)
+
+-- the lines that say why wait, and then the end does
+pub stops : (k : ℕ) (why : StopCause) (left : Leftover) (said : List Said) (old mid new : List OutboxEntry) → AreHeaders (stop_lines why left) said
+    → mid ≡ old ++ waiting_texts k said → new ≡ mid ++ entry.End k (ending_of why) ∷ [] → Stops k why left old new
+stops k why left said old mid new header is ended = (said, header, ended ∙ ap (λ m. m ++ entry.End k (ending_of why) ∷ []) is)

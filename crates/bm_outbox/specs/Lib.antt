@@ -11,7 +11,9 @@ pub mod Joining
 pub mod Pieces
 pub mod Pipes
 pub mod Opening
--- What is done about a silent master.
+pub mod Stopping
+-- What is done about a silent master, and how often a worker connects again.
 pub mod Keepalives
+pub mod Tries
 -- How much of a pipe is shown at once. It helps the proofs alone.
 pub mod Stretches

@@ -1,5 +1,5 @@
 -- What waits to be told, and what telling it does to the worker's core.
-use Rattle.std.specs.Prelude.{◌≡◌, ◌==◌, ℕ, not, List, [], ◌∷◌, length, filter, codes, Some, Result, Ok, Err}
+use Rattle.std.specs.Prelude.{◌≡◌, ℕ, List, [], ◌∷◌, length, codes, Some, Result, Ok, Err}
 use Rattle.std.specs.declared.alloc.AllocError.{AllocError}
 use Rattle.bm_work.specs.Core.{Core, next_number, refusal, with_reports, without_command}
 use Rattle.bm_work.specs.Reports.{reports_of}
@@ -57,7 +57,3 @@ Tells i c (Ok progress.Passed) c2 =
     (refusal c (command_of i) (length (reports_in i)) ≡ Some NoSuchCommand) × (c2 ≡ c)
 Tells i c (Ok progress.Nothing) c2 = ⊥
 Tells i c (Err e) c2 = c2 ≡ c
-
--- what waits of the other commands
-abbrev pub without : ℕ → List OutboxEntry → List OutboxEntry
-without k waiting = filter (λ i. not (command_of i == k)) waiting

@@ -7,6 +7,7 @@
 //! A driver could end a pipe that it has not read to its end.
 #![tactic(auto)]
 
+mod command_end;
 mod ending;
 mod joining;
 mod keepalive;
@@ -18,11 +19,14 @@ mod progress;
 mod said;
 mod session;
 mod start_fault;
+mod stop_lines;
+mod stopping;
 mod stretch;
 mod tries;
 mod turn;
 mod words;
 
+pub use command_end::CommandEnd;
 pub use ending::Ending;
 pub use keepalive::{Keepalive, after_silence};
 pub use outbox::Outbox;
@@ -33,5 +37,6 @@ pub use progress::Progress;
 pub use said::{MOST_BYTES, Said};
 pub use session::begin;
 pub use start_fault::StartFault;
-pub use tries::Tries;
+pub use stopping::{Leftover, StopCause, Sweep, stop_end};
+pub use tries::{ConnectFault, Tries};
 pub use turn::{Ready, next_turn};

@@ -4,10 +4,12 @@ ghost use Rattle.std.specs.Prelude.{◌≡◌, ◌==◌, ◌∷◌, ◌++◌, []
 ghost use Rattle.bm_lines.specs.declared.letter.Letter.TheVariants.{H};
 ghost use Rattle.bm_outbox.specs.Faults.{fault_line};
 ghost use Rattle.bm_outbox.specs.Headers.{exit_line};
-ghost use Rattle.bm_outbox.specs.OutboxEntries.{without, IsOwnEnding, Tells, TellsOwnCode};
+ghost use Rattle.bm_outbox.specs.OutboxEntries.{Tells, TellsOwnCode};
 ghost use Rattle.bm_outbox.specs.Opening.{Closes, Fails, IsHeader, Opens, waiting_texts};
+ghost use Rattle.bm_outbox.specs.Stopping.{Ends, IsOwnEnd, Stops};
 ghost use Rattle.bm_outbox.specs.Telling.{TellsNext};
 
+use crate::command_end::CommandEnd;
 use crate::ending::Ending;
 use crate::outbox_entry::OutboxEntry;
 use crate::pipe_texts::PipeTexts;
@@ -15,6 +17,8 @@ use crate::pipes::ExitCode;
 use crate::progress::Progress;
 use crate::said::Said;
 use crate::start_fault::StartFault;
+use crate::stop_lines::{ending_of, stop_texts};
+use crate::stopping::{Leftover, StopCause};
 use crate::words::{exit_line, fault_line, words_line};
 use bm_lines::{Letter, Text};
 use bm_work::{WorkRefusal, Worker};
@@ -122,18 +126,41 @@ impl Outbox {
         Ok(())
     }
 
-    /// Ends a command at once: what waits of it is given up, and how it ended waits behind the
-    /// others. At want of memory its end doesn't wait.
-    pub fn cut_short(&mut self, command: u64, ending: Ending) -> Result<(), AllocError>
-        requires { IsOwnEnding command ending }
-        ensures ok { OnOk result (self.new
-            ≡ without command self.old ++ OutboxEntry.End command ending ∷ []) }
-        ensures err { OnErr result (self.new ≡ without command self.old) }
+    /// Tells the end of a command that its worker ended: which processes may go on, and why it was
+    /// ended. These lines wait behind the others, and the end behind them.
+    ///
+    /// # Errors
+    ///
+    /// Want of memory. A part of the lines may wait then.
+    #[tactic(auto, using(crate::proofs::Queue::stops))]
+    pub fn stop(
+        &mut self,
+        alloc: Global,
+        command: u64,
+        why: StopCause,
+        left: Leftover,
+    ) -> Result<(), AllocError>
+        ensures { OnOk result (Stops command why left self.old self.new) }
     {
-        give_up(&mut self.waiting, command);
-        match self.waiting.push_back(OutboxEntry::End { command, ending }) {
-            Ok(()) => Ok(()),
-            Err(_) => Err(AllocError),
+        let texts = stop_texts(alloc, why, left)?;
+        self.push_all(command, texts)?;
+        let ending = ending_of(why);
+        self.push(OutboxEntry::End { command, ending })?;
+        Ok(())
+    }
+
+    /// Tells how a command ended, behind all that waits.
+    ///
+    /// # Errors
+    ///
+    /// Want of memory. A part of its lines may wait then.
+    pub fn end(&mut self, alloc: Global, command: u64, end: CommandEnd) -> Result<(), AllocError>
+        requires { IsOwnEnd command end }
+        ensures { OnOk result (Ends command end self.old self.new) }
+    {
+        match end {
+            CommandEnd::Code(code) => self.close(alloc, code),
+            CommandEnd::Stopped(why, left) => self.stop(alloc, command, why, left),
         }
     }
 
@@ -164,13 +191,6 @@ impl Outbox {
             Err(error) => Err(error),
         }
     }
-}
-
-/// Gives up what waits of a command.
-fn give_up(waiting: &mut VecDeque<OutboxEntry>, command: u64)
-    ensures { waiting.new.items ≡ without command waiting.old.items }
-{
-    waiting.retain(|entry| entry.command() != command);
 }
 
 /// Tells an entry by the worker's core.

@@ -42,7 +42,7 @@ short (code k z) h = (lit< tt, (tt, tt))
 short (over k None) h = tt
 short (over k (Some fault)) h = let few : length fault ≤ 65536 = h.2 in omega arith
 
-numeral : (k : ℕ) → k < 2 ^ 63 → IsUtf8 (decimal k)
+pub numeral : (k : ℕ) → k < 2 ^ 63 → IsUtf8 (decimal k)
 numeral k h = IsUtf8-from_ascii (decimal k) (IsAscii-decimal k (omega arith))
 
 -- a word of the protocol has only bytes below 128
@@ -57,7 +57,7 @@ ascii (b ∷ bs) h = go (ascii bs (and-right (nat_lt b 128) (list_all (λ b. nat
     go rest zero = grind (arith, nat_tests)
     go rest (suc i) = rest i
 
-word : (bs : List ℕ) → list_all (λ b. nat_lt b 128) bs ≡ true → IsUtf8 bs
+pub word : (bs : List ℕ) → list_all (λ b. nat_lt b 128) bs ≡ true → IsUtf8 bs
 word bs h = IsUtf8-from_ascii bs (ascii bs h)
 
 stream_name : (letter : Letter) → IsUtf8 (stream_of letter)

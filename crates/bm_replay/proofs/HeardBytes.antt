@@ -39,7 +39,7 @@ hears-spelled bytes fault only = λ n r low can same.
     unspelled fault read.tree (as_heard n r) (only read.tree (subst (λ b. Spells b read.tree) (sym same) read.spelled) read.nests)
 
 -- the tree that they spell is a message
-told-by : (bytes : List ℕ) (n : ℕ) (r : Report) (t : Tree) → n < 2 ^ 63 → CanBeSaid r → bytes ≡ (sent n r).bytes → Spells bytes t → IsMessage t (request n (asked_by r))
+pub told-by : (bytes : List ℕ) (n : ℕ) (r : Report) (t : Tree) → n < 2 ^ 63 → CanBeSaid r → bytes ≡ (sent n r).bytes → Spells bytes t → IsMessage t (request n (asked_by r))
 told-by bytes n r t low can same spelled =
     let read : AreRead (sent n r).bytes (request n (asked_by r)) = bytes_are_read n r low can in
     let one : read.tree ≡ t = spelled_once (sent n r).bytes read.tree t read.spelled (subst (λ b. Spells b t) same spelled) in

@@ -1,11 +1,11 @@
-mod Lists
-mod Sessions
-mod Agreement
-mod Quiet
-mod Requests
-mod Starts
-mod Acts
-mod Logged
+pub mod Lists
+pub mod Sessions
+pub mod Agreement
+pub mod Quiet
+pub mod Requests
+pub mod Starts
+pub mod Acts
+pub mod Logged
 mod Settled
 mod OtherNames
 mod ScheduleExamples
@@ -15,8 +15,8 @@ mod Connections
 mod OneSession
 mod Resumptions
 mod ResumedExamples
-mod Bytes
-mod HeardBytes
+pub mod Bytes
+pub mod HeardBytes
 mod WireExamples
-mod SmallNumbers
+pub mod SmallNumbers
 mod Lines

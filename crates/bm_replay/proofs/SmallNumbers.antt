@@ -26,14 +26,14 @@ no-reason : (b : Bool) (r : Refusal) → reason_if b r ≡ None → b ≡ false
 no-reason false r h = refl
 no-reason true r h = cc
 
-not-full : (t : Trace) (e : Event) → refusal t e ≡ None → full t e ≡ None
+pub not-full : (t : Trace) (e : Event) → refusal t e ≡ None → full t e ≡ None
 not-full t e h =
     later-none (no_such_command t e) (full t e)
     (later-none (too_many_open t e) (first_reason (no_such_command t e) (full t e))
     (later-none (already_up t e) (first_reason (too_many_open t e) (first_reason (no_such_command t e) (full t e)))
     (later-none (not_up t e) (first_reason (already_up t e) (first_reason (too_many_open t e) (first_reason (no_such_command t e) (full t e)))) h)))
 
-room : (t : Trace) → reason_if (nat_le 999999 (length t)) Full ≡ None → length t < 999999
+pub room : (t : Trace) → reason_if (nat_le 999999 (length t)) Full ≡ None → length t < 999999
 room t h = let test : nat_le 999999 (length t) ≡ false = no-reason (nat_le 999999 (length t)) Full h in grind (arith, nat_tests)
 
 one : (b : Bool) → cond b 1 0 ≤ 1
@@ -56,7 +56,7 @@ fewer = snoc_induction (λ t. (commands t ≤ length t) × (requests_taken t ≤
         let requests : cond (begins_session (next t e)) 0 (requests_taken t + cond (is_fresh (next t e)) 1 0) ≤ length t + 1 = fresh (begins_session (next t e)) (is_fresh (next t e)) (requests_taken t) (length t) ih.1 in
         (omega (arith, commands-push t e), omega (arith, requests_taken-push t e))
 
-abbrev IsSmall : Trace → Type 0
+abbrev pub IsSmall : Trace → Type 0
 IsSmall t = (commands t ≤ 999999) × (requests_taken t ≤ 999999)
 
 grown : (t : Trace) (e : Event) → length t < 999999 → IsSmall (t ++ e ∷ [])
@@ -77,7 +77,7 @@ small-next t (Stop k) h s = grown t (Stop k) (room t (not-full t (Stop k) h))
 small-next t Cut h s = grown t Cut (room t (not-full t Cut h))
 small-next t (In n body) h s = grown t (In n body) (room t (not-full t (In n body) h))
 
-small : (t : Trace) → was_taken t ≡ true → IsSmall t
+pub small : (t : Trace) → was_taken t ≡ true → IsSmall t
 small = snoc_induction (λ t. was_taken t ≡ true → IsSmall t) (λ h. (omega arith, omega arith)) step
   where
     step : (t : Trace) (e : Event) → (was_taken t ≡ true → IsSmall t) → was_taken (t ++ e ∷ []) ≡ true → IsSmall (t ++ e ∷ [])

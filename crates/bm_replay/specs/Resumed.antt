@@ -2,9 +2,12 @@
 -- them.
 --
 -- Two things they take for granted of the world. The worker's core is never restarted inside a
--- session: each connection that resumes meets the core that the last one had. And the worker hears
--- of a giving up. No cut drops the answer `new` to the `auth` that follows one, so its core is new
--- from that Up on. What an old core says until it hears `new` counts as said before that Up.
+-- session: each connection that resumes meets the core that the last one had. And no session is
+-- resumed of whose `new` the worker didn't hear, so its core is new from the Up of the session on
+-- that it resumes. A worker that names a fresh next session in each login but its first has that by
+-- `bm_link`'s `unheard_sessions_end`. For another one it says that no cut drops the answer `new`
+-- to the `auth` that follows a giving up. What an old core says until it hears `new` counts as said
+-- before that Up. A session that nobody heard of is an Up and a Down without requests between.
 use Rattle.std.specs.Prelude.{ℕ, ◌+◌, Bool, true, false, ◌==◌, not, ◌&&◌, nat_lt, List, [], ◌∷◌, ◌++◌, length, take, Option, Some, None, if◌then◌else◌, option_map, unwrap_or, slice_get, fold, filter_map}
 use Rattle.std.specs.List.{list_any}
 use Rattle.bm_session.specs.declared.event.Event.TheVariants.{Up}

@@ -9,7 +9,7 @@ use Rattle.bm_runner.specs.Run.{runs_at, ran, told_outcomes}
 
 -- a step by its flags: haltOnFailure, alwaysRun
 abbrev step : Bool → Bool → StepPlan
-step halts always = record { name = []; argv = []; halt_on_failure = halts; flunk_on_failure = true; always_run = always; max_bytes = 0; timeout_ticks = 0 }
+step halts always = record { name = []; argv = []; halt_on_failure = halts; flunk_on_failure = true; always_run = always; max_bytes = 0; timeout_ticks = 0; silent_ticks = 0 }
 
 -- a step that halts the build where it fails, a plain one, and one that always runs
 abbrev three : List StepPlan

@@ -6,7 +6,7 @@ pub mod Staying
 pub mod Words
 mod Rows
 mod States
-mod Orders
+pub mod Orders
 mod Runs
 mod Fields
 pub mod Events
@@ -15,6 +15,6 @@ mod Inserted
 mod Listed
 mod Lookups
 mod Stepped
-mod Taking
+pub mod Taking
 mod Hearing
 mod Logged

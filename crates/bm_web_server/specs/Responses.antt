@@ -1,11 +1,14 @@
 -- The replies that responses are.
-use Rattle.std.specs.Prelude.{◌≡◌, ◌⊎◌, ℕ, List, [], Option, Some, None}
+use Rattle.std.specs.Prelude.{◌≡◌, ◌⊎◌, ℕ, List, [], Option, Some, None, MatchOption, codes, ⊤}
 use Rattle.http.specs.declared.response.Response.{Response}
 use Rattle.http.specs.Response.{head_of, body_of}
 use Rattle.http_uri.specs.declared.uri.Uri.{Uri}
 use Rattle.http_uri.specs.Uri.{uri_path_and_query}
 use Rattle.http_uri.specs.Grammar.{or_slash}
-use Rattle.bm_http.specs.Replies.{Reply, unavailable}
+use Rattle.http_header.specs.FieldValue.{FieldValue}
+use Rattle.http_header.specs.HeaderMap.{Entries, get}
+use Rattle.bm_http.specs.HostFields.{IsHost}
+use Rattle.bm_http.specs.Replies.{Reply, bad_request, unavailable}
 use Rattle.bm_http.specs.LongAnswers.{held}
 use Rattle.bm_web_server.specs.declared.page_body.PageBody.{PageBody}
 use Rattle.bm_web_server.specs.declared.page_body.PageBody.TheVariants.{Whole, Long}
@@ -37,6 +40,17 @@ module _ {R S T E : Type 0} (text : T → List ℕ) (gives : Option E → Reply 
       (seen : Option E) × (reply : Reply) × gives seen reply
       × (((replied text response ≡ reply) × (seen_in response ≡ seen))
       ⊎ (replied text response ≡ unavailable))
+
+-- the field `Host`, where there is one, is a host and maybe a port
+abbrev pub HasHost : Entries FieldValue → Type 0
+HasHost headers = MatchOption (get headers (codes "host")) ⊤ (λ host. IsHost host.bytes)
+
+module _ {R S T E : Type 0} (text : T → List ℕ) (gives : Option E → Reply → Type 0) where
+  -- what a request with these fields gets
+  abbrev pub ChecksHost : Entries FieldValue → Response (PageBody R S T E) → Type 0
+  ChecksHost headers response =
+      (HasHost headers × Responds text gives response)
+      ⊎ (¬ (HasHost headers) × (replied text response ≡ bad_request))
 
 -- the path and the query of a URI; nothing where it has none
 abbrev pub path_text : Option (List ℕ) → List ℕ

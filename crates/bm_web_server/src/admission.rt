@@ -56,6 +56,9 @@ impl<R: Wait + Clock + Copy, S: Handler> Admission<R, S> {
         let Some(Ok(socket)) = ready!(self.incoming.poll_next(cx)) else {
             return Poll::Ready(None);
         };
+        // An answer is several writes. Without this the next would wait until the client has
+        // acknowledged the last. Where it can't be set, the answers come all the same.
+        let _ = socket.set_nodelay(true);
         let Ok(timer) = self.timers.sleep(&self.rt, self.stalled) else {
             return Poll::Ready(None);
         };

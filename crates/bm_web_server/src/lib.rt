@@ -5,7 +5,8 @@
 //! [`LogService`], which answers by the routes of `bm_http` and a viewer of each lane.
 //!
 //! Promised: a response has the status and the text that the service gives for its request, or it
-//! is 503. The pieces of a long answer that is told to its end are its text, joined.
+//! is 503. A request whose field `Host` is no host gets 400, and no other does without the service.
+//! The pieces of a long answer that is told to its end are its text, joined.
 //!
 //! A body could still close a connection early, serve nobody, or keep no limit: tests show these.
 #![tactic(auto)]

@@ -20,6 +20,8 @@ pub struct Unsent<R, S: Handler> {
     pub service: Arc<S>,
     pub rest: S::Rest,
     pub seen: Option<S::Source>,
+    /// Whether a piece was told since other tasks had their turn.
+    pub has_told: bool,
 }
 
 impl<R: Wait + Drop, S: Handler> Unsent<R, S> {
@@ -28,6 +30,7 @@ impl<R: Wait + Drop, S: Handler> Unsent<R, S> {
         ensures { MatchOption result (S.text self.old.rest ≡ [])
             (λ r. IfOk r (λ b. S.text self.old.rest ≡ b ++ S.text self.new.rest)) }
     {
+        self.has_told = true;
         self.service.piece(&self.rt, self.alloc, &mut self.rest)
     }
 }
@@ -53,13 +56,19 @@ impl<R: Wait + Drop, S: Handler> Body for PageBody<R, S> {
 
     fn poll_frame(
         &mut self,
-        _cx: &mut Context<'_>,
+        cx: &mut Context<'_>,
     ) -> Poll<Option<Result<Frame<Bytes>, PieceError>>> {
         match self {
             PageBody::Whole(held, _) => match held.take() {
                 Some(bytes) => Poll::Ready(Some(Ok(Frame::data(bytes)))),
                 None => Poll::Ready(None),
             },
+            // A thread looks at its sockets only once its tasks wait. So readers of long logs would
+            // hold up all others, for as long as they take what they are sent.
+            PageBody::Long(unsent) if unsent.has_told => {
+                unsent.has_told = false;
+                cx.yield_now()
+            }
             PageBody::Long(unsent) => match unsent.next() {
                 Some(Ok(bytes)) => Poll::Ready(Some(Ok(Frame::data(bytes)))),
                 Some(Err(error)) => Poll::Ready(Some(Err(error))),

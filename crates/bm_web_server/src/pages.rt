@@ -1,21 +1,22 @@
 //! The service of one connection.
-ghost use Rattle.std.specs.Prelude.{◌≡◌, ◌⊎◌, IsSomeAnd, IsOkAnd};
+ghost use Rattle.std.specs.Prelude.{◌≡◌, ◌⊎◌, ◌↔◌, IsSomeAnd, IsOkAnd, IsTrue};
 ghost use Rattle.std.specs.Arc.{arc_value};
 ghost use Rattle.http.specs.Request as request;
 ghost use Rattle.bm_http.specs.Replies.{page};
 ghost use Rattle.bm_http.specs.Replies.{unavailable as unavailable_reply};
+ghost use Rattle.bm_http.specs.Replies.{bad_request as bad_request_reply};
 ghost use Rattle.bm_http.specs.Shown.{reply_of};
 ghost use Rattle.bm_http.specs.LongAnswers.{held};
-ghost use Rattle.bm_web_server.specs.Responses.{Responds, body_text, replied, seen_in, seen_of, target_of};
+ghost use Rattle.bm_web_server.specs.Responses.{ChecksHost, HasHost, Responds, body_text, replied, seen_in, seen_of, target_of};
 
 use crate::handler::{Handler, Served};
 use crate::page_body::{PageBody, Unsent};
-use bm_http::{Answer, WholeOrLong};
+use bm_http::{Answer, WholeOrLong, is_host};
 use bytes::Bytes;
 use futures::future;
 use futures::future::Ready;
 use hyper::body::Incoming;
-use hyper::header::{ALLOW, CONTENT_TYPE, HeaderValue};
+use hyper::header::{ALLOW, CONTENT_TYPE, HOST, HeaderMap, HeaderValue};
 use hyper::service::Service;
 use hyper::{Request, Response, StatusCode, Uri};
 use std::alloc::Global;
@@ -51,15 +52,29 @@ impl<R: Wait + Copy, S: Handler, I: Drop> Service<Request<Incoming<I>>> for Page
     type Future = Ready<Result<Response<PageBody<R, S>>, Infallible>>;
 
     // The response is a reply that the service gives to a request with this method and target, made
-    // of what the response keeps.
+    // of what the response keeps. A request whose field `Host` is no host is refused.
     ghost calls = { λ p req future. IsSomeAnd future.0 (λ given. IsOkAnd given (λ response.
-        Responds S.text (S.gives (arc_value p.service) (request.head_of req).method
-        (target_of (request.head_of req).uri)) response)) };
+        ChecksHost S.text (S.gives (arc_value p.service) (request.head_of req).method
+        (target_of (request.head_of req).uri)) (request.head_of req).headers response)) };
 
     fn call(&self, req: Request<Incoming<I>>) -> Self::Future {
+        if !has_host(req.headers()) {
+            return future::ok(bad_request(self.alloc));
+        }
         let method = req.method().as_str();
         let target = target_in(req.uri());
         future::ok(self.page(method, target))
+    }
+}
+
+// Whether the field `Host`, where there is one, is a host (RFC 9112, 3.2). The library refuses a
+// second one, and under HTTP/1.1 none.
+fn has_host(headers: &HeaderMap) -> bool
+    ensures { IsTrue result ↔ HasHost headers.now }
+{
+    match headers.get(HOST) {
+        Some(host) => is_host(host.as_bytes()),
+        None => true,
     }
 }
 
@@ -125,6 +140,7 @@ fn long<R: Wait + Copy, S: Handler>(
         service,
         rest,
         seen,
+        has_told: false,
     };
     let mut response = Response::new(pages.alloc, PageBody::Long(unsent));
     let json = HeaderValue::from_static("application/json");
@@ -141,6 +157,14 @@ fn whole<R: Wait + Drop, S: Handler>(body: Bytes, seen: Option<S::Source>) -> Pa
         return PageBody::Whole(None, seen);
     }
     PageBody::Whole(Some(body), seen)
+}
+
+fn bad_request<R: Drop, S: Handler>(alloc: Global) -> Response<PageBody<R, S>>
+    ensures { replied S.text result ≡ bad_request_reply }
+{
+    let mut response = Response::new(alloc, PageBody::Whole(None, None));
+    *response.status_mut() = StatusCode::BAD_REQUEST;
+    response
 }
 
 fn unavailable<R: Wait + Drop, S: Handler>(alloc: Global) -> Response<PageBody<R, S>>

@@ -67,6 +67,8 @@ where
     ));
     http.header_read_timeout(Some(limits.idle));
     http.max_buf_size(BUFFERED);
+    // Who has asked may close its side, and still gets the answer.
+    http.half_close(true);
     let places = limits.connections.min(Semaphore::MAX_PERMITS);
     let admission = Admission {
         rt,

@@ -8,11 +8,11 @@ use Rattle.bm_outbox.specs.Telling.{TellsNext}
 use Rattle.bm_outbox.specs.declared.outbox_entry.OutboxEntry.{OutboxEntry}
 use Rattle.bm_outbox.specs.declared.progress.Progress.{Progress}
 use Rattle.bm_outbox.specs.declared.progress.Progress.TheVariants as progress
-use Rattle.bm_link.specs.Working.{PingsAt, SendsAt, WorkState, Worked}
+use Rattle.bm_link.specs.Working.{LogsInWhere, PingsAt, SendsAt, WorkState, Worked}
 use Rattle.bm_link.specs.declared.attaching.Attached.{Attached}
 use Rattle.bm_link.specs.declared.attaching.Attached.TheVariants as attached
 use Rattle.bm_link.specs.declared.fault.LinkFault.{LinkFault}
-use Rattle.bm_link.specs.declared.fault.LinkFault.TheVariants.{Closed}
+use Rattle.bm_link.specs.declared.fault.LinkFault.TheVariants.{Closed, Mem}
 use Rattle.bm_link.specs.declared.parts.Turn.{Turn}
 use Rattle.bm_worker_session.specs.declared.session_fault.SessionFault.{SessionFault}
 use Rattle.bm_worker_session.specs.declared.session_fault.SessionFault.TheVariants as fault
@@ -106,13 +106,31 @@ module _ {S : Type 0} where
   SendsNext contents backlog None old r new = (r ≡ Err fault.Link) × (new ≡ old)
 
   -- A resumed session goes on. All that has no answer is to be sent again, with its bytes and in
-  -- its order, and what waits waits on. Another one begins anew.
+  -- its order, and what waits waits on. Another one begins anew, and wants no memory for that.
   abbrev pub BeginsBy : Bool → WorkState S → SessionState S → Result (Unit {0}) AllocError
       → SessionState S → Type 0
   BeginsBy true link old (Ok _) new =
       new ≡ record old { backlog = unanswered_requests old.core; link = Some link }
   BeginsBy false link old (Ok _) new = new ≡ record new_session { link = Some link }
-  BeginsBy resumed link old (Err e) new = new ≡ old
+  BeginsBy true link old (Err e) new = new ≡ old
+  BeginsBy false link old (Err e) new = ⊥
+
+  -- The login by a new link, and what comes of its answer, in one. Where an answer was read, the
+  -- session stands by it: it begins, or is resumed. Behind a fault nothing has changed, and no
+  -- answer was read, or it was that the session is resumed, for which memory was wanting.
+  abbrev pub ConnectsBy : (S → Option (List ℕ)) → (S → Option (List ℕ)) → List ℕ → List ℕ
+      → Option (List ℕ) → Option (List ℕ) → WorkState S → SessionState S
+      → Result Attached LinkFault → SessionState S → Type 0
+  ConnectsBy remaining contents name password session next link old (Ok a) new =
+      (link2 : WorkState S)
+      × LogsInWhere remaining contents name password session next link.failed link (Ok a) link2
+      × BeginsBy (is_resumed a) link2 old (Ok tt) new
+  ConnectsBy remaining contents name password session next link old (Err f) new =
+      (link2 : WorkState S) × (new ≡ old)
+      × (LogsInWhere remaining contents name password session next link.failed link (Err f) link2
+      ⊎ ((f ≡ Mem)
+      × LogsInWhere remaining contents name password session next link.failed link
+      (Ok attached.Resumed) link2))
 
   -- a turn of the link: it changes the core and nothing of what waits
   abbrev pub HearsBy : (S → Option (List ℕ)) → (S → Option (List ℕ)) → Option (WorkState S)

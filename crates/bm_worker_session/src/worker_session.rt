@@ -44,9 +44,11 @@ impl<S, K> Model for WorkerSession<S, K> {
 }
 
 impl<S: Read + Write + Drop, K: MaskKeys + Drop> WorkerSession<S, K> {
-    ghost use Rattle.std.specs.Prelude.{◌≡◌, [], length, not, ◌==◌, min, ◌-◌, ◌^◌, None};
+    ghost use Rattle.std.specs.Prelude.{◌≡◌, ◌∷◌, [], length, not, ◌==◌, min, ◌-◌, ◌^◌, None};
+    ghost use Rattle.std.specs.Option.{option_copied};
+    ghost use Rattle.bm_link.specs.Texts.{AreShort};
     ghost use Rattle.bm_work.specs.Core.{bytes_of, unanswered_requests};
-    ghost use Rattle.bm_worker_session.specs.Sessions.{BeginsBy, HearsBy, PingsBy, SendsNext, is_closed, is_resumed, new_session};
+    ghost use Rattle.bm_worker_session.specs.Sessions.{BeginsBy, ConnectsBy, HearsBy, PingsBy, SendsNext, is_closed, is_resumed, new_session};
 
     /// Nothing runs, nothing was said, and no link is up.
     pub fn new(alloc: Global) -> WorkerSession<S, K>
@@ -60,13 +62,50 @@ impl<S: Read + Write + Drop, K: MaskKeys + Drop> WorkerSession<S, K> {
         }
     }
 
+    /// Logs in by a new link, and goes on by it as the master answers. The worker asks to resume
+    /// `session`; a session that begins by this login has the text `next`, or where that is None
+    /// the text of `session`.
+    ///
+    /// A resumed session's requests without an answer are to be sent again by the link, and what
+    /// waits waits on. Another session begins anew, with no step between that could fail: so no
+    /// answer that was read is forgotten.
+    ///
+    /// # Errors
+    ///
+    /// Those of the link's `login`, where no answer was read. `Mem` also where the session is
+    /// resumed and memory is wanting for what is to be sent again. Nothing was changed, and the new
+    /// link is gone.
+    pub fn connect(
+        &mut self,
+        alloc: Global,
+        link: WorkerLink<S, K>,
+        name: &str,
+        password: &str,
+        session: Option<&str>,
+        next: Option<&str>,
+    ) -> Result<Attached, LinkFault>
+        requires { AreShort (name.now ∷ password.now ∷ []) }
+        ensures { ConnectsBy S.remaining S.contents name.now password.now
+            (option_copied session.entry) (option_copied next.entry) link self.old result self.new }
+    {
+        let mut new_link = link;
+        let attached = match new_link.login(alloc, name, password, session, next) {
+            Ok(attached) => attached,
+            Err(fault) => return Err(fault),
+        };
+        match self.begin(alloc, new_link, attached) {
+            Ok(()) => Ok(attached),
+            Err(_) => Err(LinkFault::Mem),
+        }
+    }
+
     /// Goes on by a new link whose login was answered so. A resumed session's requests without an
     /// answer are to be sent again by it, and what waits waits on. Another session begins anew.
     ///
     /// # Errors
     ///
-    /// Want of memory. Nothing was changed, and the new link is gone.
-    pub fn begin(
+    /// Want of memory, where the session is resumed. Nothing was changed, and the new link is gone.
+    fn begin(
         &mut self,
         alloc: Global,
         link: WorkerLink<S, K>,
@@ -75,7 +114,14 @@ impl<S: Read + Write + Drop, K: MaskKeys + Drop> WorkerSession<S, K> {
         ensures { BeginsBy (is_resumed attached) link self.old result self.new }
     {
         let resumed = is_resumed(attached);
-        let requests = begin(alloc, resumed, &mut self.core, &mut self.outbox)?;
+        if !resumed {
+            self.core.lost();
+            self.outbox = Outbox::new(alloc);
+            self.backlog = VecDeque::new(alloc);
+            self.link = Some(link);
+            return Ok(());
+        }
+        let requests = begin(alloc, true, &mut self.core, &mut self.outbox)?;
         self.backlog = VecDeque::from(requests);
         self.link = Some(link);
         Ok(())

@@ -1,14 +1,20 @@
 //! A build worker, and its loop over a connection: what is told, and what is done about its mail.
 
+ghost use Rattle.std.specs.Prelude.{◌∷◌, []};
+ghost use Rattle.bm_link.specs.Texts.{AreShort};
+
 use crate::connection::{Connection, ConnectionEnd};
 use crate::host::Host;
+use crate::marks::Marks;
 use crate::processes::Processes;
-use bm_link::{Attached, WorkerLink};
+use crate::session_texts::SessionTexts;
+use bm_link::{Attached, LinkFault, WorkerLink};
 use bm_outbox::Tries;
 use bm_worker_session::{SessionFault, WorkerSession};
 use bumpalo::Bump;
-use std::alloc::{AllocError, Global};
+use std::alloc::{AllocError, AllocGlobal, Global};
 use std::io::{Read, Write};
+use std::random::RandomSource;
 use tungstenite::MaskKeys;
 
 /// How many bytes without an answer there are before texts wait, where several commands run. What
@@ -19,55 +25,89 @@ const MOST_UNANSWERED_BYTES: usize = 262_144;
 #[derive(Drop)]
 pub struct BuildWorker<S, K> {
     pub(crate) session: WorkerSession<S, K>,
+    pub(crate) texts: SessionTexts,
     pub(crate) processes: Processes,
     pub(crate) tries: Tries,
-    /// Whether a login was answered.
-    pub(crate) is_known: bool,
 }
 
 impl<S: Read + Write + Drop, K: MaskKeys + Drop> BuildWorker<S, K> {
-    /// Nothing runs, and nothing was said.
-    pub fn new(alloc: Global) -> Result<BuildWorker<S, K>, AllocError> {
+    /// Nothing runs, and nothing was said. The first login is to name this session, or none.
+    pub(crate) fn new(
+        alloc: Global,
+        session: Option<&str>,
+        marks: Marks,
+    ) -> Result<BuildWorker<S, K>, AllocError> {
         Ok(BuildWorker {
             session: WorkerSession::new(alloc),
-            processes: Processes::new(alloc)?,
+            texts: SessionTexts::new(alloc, session)?,
+            processes: Processes::new(alloc, marks)?,
             tries: Tries::new(),
-            is_known: false,
         })
     }
 
-    /// Serves a connection whose login was answered so, to its end. Its link is lost then, and is
+    /// Logs in by a new link, and goes on with the session as the master answers.
+    ///
+    /// # Errors
+    ///
+    /// Those of the session's `connect`. `Mem` also where no text of a next session could be drawn:
+    /// without one no login but the first is made.
+    pub fn log_in<R: RandomSource + AllocGlobal>(
+        &mut self,
+        rt: &R,
+        alloc: Global,
+        link: WorkerLink<S, K>,
+        name: &str,
+        password: &str,
+    ) -> Result<Attached, LinkFault>
+        requires { AreShort (name.now ∷ password.now ∷ []) }
+    {
+        let Ok(next) = self.texts.next(rt) else {
+            return Err(LinkFault::Mem);
+        };
+        let new = match &next {
+            Some(text) => Some(text.as_str()),
+            None => None,
+        };
+        let session = self.texts.session();
+        match self
+            .session
+            .connect(alloc, link, name, password, session, new)
+        {
+            Ok(attached) => {
+                self.texts.answered(attached, next);
+                Ok(attached)
+            }
+            Err(fault) => Err(fault),
+        }
+    }
+
+    /// Serves the connection whose login was answered so, to its end. Its link is lost then, and is
     /// answered.
     pub fn serve<R: Host>(
         &mut self,
         rt: &R,
         alloc: Global,
         connection: &Connection,
-        link: WorkerLink<S, K>,
         attached: Attached,
     ) -> (ConnectionEnd, Option<WorkerLink<S, K>>) {
         let mut arena = Bump::new(alloc);
-        let end = self.work(rt, alloc, &mut arena, connection, link, attached);
+        let end = self.work(rt, alloc, &mut arena, connection, attached);
         if end == ConnectionEnd::Shutdown {
             self.hear_last_answers(rt, alloc, &mut arena, connection);
         }
         (end, self.session.lose())
     }
 
-    /// Goes on with the session, or begins anew, and works until the connection ends.
+    /// Works until the connection ends. What ran in a session that wasn't resumed is killed first.
     fn work<R: Host>(
         &mut self,
         rt: &R,
         alloc: Global,
         arena: &mut Bump,
         connection: &Connection,
-        link: WorkerLink<S, K>,
         attached: Attached,
     ) -> ConnectionEnd {
-        if attached != Attached::Resumed && self.processes.kill_all(alloc).is_err() {
-            return ConnectionEnd::NoMemory;
-        }
-        if self.session.begin(alloc, link, attached).is_err() {
+        if attached != Attached::Resumed && self.processes.kill_all(rt, alloc).is_err() {
             return ConnectionEnd::NoMemory;
         }
         if let Err(end) = self.hear(rt, alloc, arena, connection) {
@@ -102,7 +142,7 @@ impl<S: Read + Write + Drop, K: MaskKeys + Drop> BuildWorker<S, K> {
     fn send_next<R: Host>(&mut self, rt: &R, alloc: Global) -> Result<bool, ConnectionEnd> {
         if self.session.outbox.is_empty() {
             let may_say = self.session.unanswered_bytes() < MOST_UNANSWERED_BYTES;
-            self.processes.look();
+            self.processes.look(rt);
             let outbox = &mut self.session.outbox;
             let next = self.processes.next(rt, alloc, may_say, outbox);
             if next.is_err() {

@@ -2,6 +2,7 @@
 
 use crate::build_worker::BuildWorker;
 use crate::connection::Connection;
+use crate::host::Host;
 use crate::mailbox::WorkerMail;
 use crate::ready_stream::ReadyStream;
 use bm_link::{Turn, WorkerLink};
@@ -22,15 +23,14 @@ const LAST_BYTES_SECONDS: u64 = 1;
 impl<S: Read + Write + Drop, K: MaskKeys + Drop> BuildWorker<S, K> {
     /// Kills all commands, and hears the answers to what was said of them, for a second at the
     /// most. A master that finds its connection closed may not look at what came before that.
-    pub(crate) fn hear_last_answers<R: Wait + Clock>(
+    pub(crate) fn hear_last_answers<R: Host>(
         &mut self,
         rt: &R,
         alloc: Global,
         arena: &mut Bump,
         connection: &Connection,
     ) {
-        // Where memory is wanting they are killed all the same.
-        let _ = self.processes.kill_all(alloc);
+        self.processes.sweep_all(rt, alloc);
         let Some(deadline) = after(rt, LAST_ANSWERS_SECONDS) else {
             return;
         };

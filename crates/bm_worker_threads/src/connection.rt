@@ -12,8 +12,10 @@ pub enum ConnectionEnd {
     Shutdown,
     /// The master closed the connection.
     Closed,
-    /// The connection was lost.
+    /// The connection was lost, or its login got no answer.
     Lost,
+    /// The master refused the login.
+    Refused,
     /// Memory is wanting.
     NoMemory,
 }

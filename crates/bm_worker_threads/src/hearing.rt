@@ -6,7 +6,7 @@ use crate::host::Host;
 use crate::mailbox::WorkerMail;
 use crate::processes::MOST_MAIL;
 use bm_link::Turn;
-use bm_outbox::{Ending, Keepalive};
+use bm_outbox::{Keepalive, StopCause};
 use bm_work::WorkAct;
 use bumpalo::Bump;
 use std::alloc::Global;
@@ -42,7 +42,7 @@ impl<S: Read + Write + Drop, K: MaskKeys + Drop> BuildWorker<S, K> {
     ) -> Result<(), ConnectionEnd> {
         match mail {
             WorkerMail::Process(told) => {
-                match self.processes.keep(told, &mut self.session.outbox) {
+                match self.processes.keep(rt, alloc, told) {
                     Ok(()) => Ok(()),
                     Err(_) => Err(ConnectionEnd::NoMemory),
                 }
@@ -101,7 +101,7 @@ impl<S: Read + Write + Drop, K: MaskKeys + Drop> BuildWorker<S, K> {
             }
             WorkAct::Interrupt(command) => {
                 self.processes
-                    .cut_short(command, Ending::Interrupted, outbox)
+                    .stop(rt, alloc, command, StopCause::Interrupted)
             }
             WorkAct::Shutdown => return Err(ConnectionEnd::Shutdown),
             _ => Ok(()),

@@ -3,29 +3,39 @@
 //!
 //! What is told is put into the session's outbox, and `bm_worker_session` sends it. Promised: of
 //! which command is told next and what, and that a command begins with the line of its words. An
-//! exit code is told of the command whose pipes have both ended.
+//! exit code is told of the command whose pipes have both ended. Of one that its worker ends, why
+//! that is stands before its end, and nothing of it is told behind that.
 //!
-//! A body could still leave mail lying, read no pipe, or never come back. A thread, a pipe and a
-//! process have no contract: the tests of `worker_tests` and of the programs stand in for that.
+//! A body could still leave mail lying, read no pipe, end nothing that a command started, or never
+//! come back. A thread, a pipe, a process and a script have no contract: the tests of `worker_tests`
+//! and of the programs stand in for that.
 #![tactic(auto)]
 
 mod arguments;
 mod build_worker;
 mod closing;
 mod connection;
+mod elapsed;
+mod ending;
 mod hearing;
 mod host;
 mod mailbox;
+mod marks;
 mod pipe_reader;
 mod processes;
 mod ready_stream;
 mod run;
 mod running_command;
 mod session;
+mod session_texts;
 mod socket_watch;
+mod spare_threads;
+mod starting;
+mod sweeping;
 
 pub use arguments::{Arguments, USAGE, read_arguments, words};
 pub use mailbox::{PipeEvent, ProcessEvent, WorkerMail};
+pub use marks::Marks;
 pub use pipe_reader::PipeReader;
 pub use ready_stream::ReadyStream;
 pub use run::work_run;

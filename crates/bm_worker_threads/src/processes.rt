@@ -2,56 +2,66 @@
 
 ghost use Rattle.std.specs.Prelude.{◌≡◌, ◌<◌, length, map, IfOk, IfSome, OnOk};
 ghost use Rattle.bm_outbox.specs.Opening.{Starts};
-ghost use Rattle.bm_outbox.specs.OutboxEntries.{IsOwnEnding};
 ghost use Rattle.bm_worker_threads.specs.Turns.{ready_of, turn_of, IsReady, TellsAt, TellsTurn};
 
 use crate::host::Host;
 use crate::mailbox::{PipeEvent, ProcessEvent, WorkerMail};
+use crate::marks::Marks;
 use crate::pipe_reader::PipeReader;
 use crate::running_command::RunningCommand;
+use crate::starting::{permits, started};
+use crate::sweeping::Sweeper;
 use bm_lines::{Letter, Text};
-use bm_outbox::{Ending, Outbox, OutboxEntry, Pipes, Ready, Said, StartFault, next_turn};
+use bm_outbox::{Outbox, OutboxEntry, Pipes, Ready, StartFault, StopCause, Sweep, next_turn};
 use bm_work::Argv;
 use crossbeam_channel::{Receiver, Sender};
 use std::alloc::{AllocError, Global};
 use std::collections::VecDeque;
 use std::io::Read;
-use std::process::{Child, Command, Stdio};
+use std::process::Child;
 use std::sync::Wait;
+use std::thread;
 use std::time::{Clock, Duration, Instant};
-use std::{mem, thread};
 
 /// How much mail lies before the owner until the threads wait in turn.
 pub const MOST_MAIL: usize = 16;
 
-/// How many texts of a command wait to be told before its pipes' threads wait in turn.
-const MOST_TEXTS: usize = 8;
-
 /// After how many milliseconds a process that is about to end is first looked at again.
-const FIRST_PAUSE_MS: u64 = 1;
+pub(crate) const FIRST_PAUSE_MS: u64 = 1;
 
 /// After how many milliseconds it is looked at again at the latest.
 const LAST_PAUSE_MS: u64 = 64;
+
+/// After how many milliseconds at the latest, while a command is being ended.
+const STOP_PAUSE_MS: u64 = 4;
 
 /// The processes of the commands that run, in the order of their turns, and those whose end nobody
 /// is told of.
 #[derive(Drop)]
 pub struct Processes {
-    running: Vec<RunningCommand>,
-    killed: Vec<Child>,
+    pub(crate) running: Vec<RunningCommand>,
+    pub(crate) killed: Vec<Child>,
+    /// Sweeps whose end nobody is told of.
+    pub(crate) sweepers: Vec<Sweeper>,
+    /// The sweep of all that the worker started, once it ends.
+    pub(crate) last_sweeper: Option<Sweeper>,
+    pub(crate) marks: Marks,
     started: u64,
-    pause_ms: u64,
+    pub(crate) pause_ms: u64,
     pub owner: Sender<WorkerMail>,
     mailbox: Receiver<WorkerMail>,
 }
 
 impl Processes {
     /// No process was started.
-    pub fn new(alloc: Global) -> Result<Processes, AllocError> {
+    pub(crate) fn new(alloc: Global, marks: Marks) -> Result<Processes, AllocError> {
         let (owner, mailbox) = crossbeam_channel::bounded(alloc, MOST_MAIL)?;
         Ok(Processes {
             running: Vec::new(alloc),
             killed: Vec::new(alloc),
+            sweepers: Vec::new(alloc),
+            last_sweeper: None,
+            marks,
             started: 0,
             pause_ms: FIRST_PAUSE_MS,
             owner,
@@ -66,7 +76,12 @@ impl Processes {
             return self.mailbox.recv(rt).ok();
         }
         let pause = Duration::from_millis(self.pause_ms);
-        self.pause_ms = LAST_PAUSE_MS.min(self.pause_ms.saturating_mul(2));
+        let most = if self.is_stopping() {
+            STOP_PAUSE_MS
+        } else {
+            LAST_PAUSE_MS
+        };
+        self.pause_ms = most.min(self.pause_ms.saturating_mul(2));
         self.mailbox.recv_timeout(rt, pause).ok()
     }
 
@@ -80,9 +95,16 @@ impl Processes {
         self.mailbox.try_recv(rt).ok()
     }
 
-    /// Whether a process is about to end.
+    /// Whether a process or a sweep is about to end.
     fn is_ending(&self) -> bool {
-        !self.killed.is_empty() || self.running.iter().any(|process| process.is_ending())
+        !self.killed.is_empty()
+            || !self.sweepers.is_empty()
+            || self.running.iter().any(|process| process.is_ending())
+    }
+
+    /// Whether a command is being ended.
+    fn is_stopping(&self) -> bool {
+        self.running.iter().any(|process| process.stop.is_some())
     }
 
     /// Starts a command. The line of its words is told first, and where the process can't be
@@ -120,24 +142,27 @@ impl Processes {
         self.running.reserve(1)?;
         self.killed.reserve(1)?;
         let (permits, given) = permits(rt, alloc)?;
-        let child = match started(rt, alloc, words) {
+        self.sweepers.reserve(1)?;
+        self.started = self.started.wrapping_add(1);
+        let mark = self.marks.value(self.started)?;
+        let child = match started(rt, alloc, words, mark.as_str()) {
             Ok(child) => child,
             Err(why) => return Ok(Some(why)),
         };
-        self.started = self.started.wrapping_add(1);
         let mut process = RunningCommand {
             number: self.started,
             child,
             pipes: Pipes::open(command),
             texts: VecDeque::new(alloc),
             permits,
-            code: None,
+            stop: None,
+            ended: None,
         };
         if self.watches(rt, alloc, &mut process, &given) {
             self.running.push(process)?;
             return Ok(None);
         }
-        self.kill(process)?;
+        self.kill(rt, alloc, process)?;
         Ok(Some(StartFault::NoThread))
     }
 
@@ -194,7 +219,12 @@ impl Processes {
     }
 
     /// Keeps what a pipe's thread tells until its command's turn.
-    pub fn keep(&mut self, told: ProcessEvent, outbox: &mut Outbox) -> Result<(), AllocError> {
+    pub fn keep<R: Host>(
+        &mut self,
+        rt: &R,
+        alloc: Global,
+        told: ProcessEvent,
+    ) -> Result<(), AllocError> {
         let Some(at) = self
             .running
             .iter()
@@ -215,7 +245,7 @@ impl Processes {
             }
             PipeEvent::NoMemory => {
                 let command = process.pipes.command();
-                self.cut_short(command, Ending::NoMemory, outbox)
+                self.stop(rt, alloc, command, StopCause::NoMemory)
             }
         }
     }
@@ -241,12 +271,14 @@ impl Processes {
     }
 
     /// Looks at the processes that are about to end.
-    pub fn look(&mut self) {
+    pub fn look<R: Clock>(&mut self, rt: &R) {
         self.killed
             .retain_mut(|child| matches!(child.try_wait(), Ok(None)));
+        self.sweepers
+            .retain_mut(|sweeper| sweeper.look() == Sweep::Going);
         for process in self.running.iter_mut() {
             if process.is_ending() {
-                process.look();
+                process.look(rt);
             }
         }
     }
@@ -268,63 +300,15 @@ impl Processes {
         let mut process = self.running.remove(at);
         let command = process.pipes.command();
         let Some(said) = process.texts.pop_front() else {
-            let Some(code) = process.code.take() else {
+            let Some(end) = process.ended.take() else {
                 unreachable!()
             };
-            return outbox.close(alloc, code);
+            return outbox.end(alloc, command, end);
         };
         // It fails where both pipes have ended, and then nobody asks for it.
         let _ = process.permits.send(rt, ());
         self.running.push(process)?;
         outbox.push(OutboxEntry::Text { command, said })
-    }
-
-    /// Ends a command at once: its process is killed, and how it ended is told in place of all that
-    /// waits of it.
-    pub fn cut_short(
-        &mut self,
-        command: u64,
-        ending: Ending,
-        outbox: &mut Outbox,
-    ) -> Result<(), AllocError>
-        requires { IsOwnEnding command ending }
-    {
-        self.killed.reserve(1)?;
-        outbox.cut_short(command, ending)?;
-        if let Some(at) = self
-            .running
-            .iter()
-            .position(|process| process.pipes.command() == command)
-        {
-            let process = self.running.remove(at);
-            self.kill(process)?;
-        }
-        Ok(())
-    }
-
-    /// Kills a process, and hears its pipes no more.
-    fn kill(&mut self, process: RunningCommand) -> Result<(), AllocError> {
-        let RunningCommand { mut child, .. } = process;
-        // A child that can't be killed has ended, or runs as another user.
-        let _ = child.kill();
-        self.killed.push(child)?;
-        self.pause_ms = FIRST_PAUSE_MS;
-        Ok(())
-    }
-
-    /// Kills all processes, since their session was lost or the worker ends.
-    ///
-    /// # Errors
-    ///
-    /// Want of memory for the list of those that were killed. All are killed all the same.
-    pub fn kill_all(&mut self, alloc: Global) -> Result<(), AllocError> {
-        let mut done = Ok(());
-        for process in mem::replace(&mut self.running, Vec::new(alloc)) {
-            if let Err(refused) = self.kill(process) {
-                done = Err(refused);
-            }
-        }
-        done
     }
 }
 
@@ -356,43 +340,4 @@ fn what_is_ready(
         commands.push(process.ready(may_say))?;
     }
     Ok(commands)
-}
-
-/// The permits of the first texts of a command, and where more of them are given.
-fn permits<R: Wait>(rt: &R, alloc: Global) -> Result<(Sender<()>, Receiver<()>), AllocError> {
-    let (permits, given) = crossbeam_channel::bounded(alloc, MOST_TEXTS)?;
-    for _ in 0..MOST_TEXTS {
-        let _ = permits.send(rt, ());
-    }
-    Ok((permits, given))
-}
-
-/// A process of these words with an empty input, and with pipes for its output and its errors; or
-/// why it can't be started.
-fn started<R>(rt: &R, alloc: Global, words: &[Text]) -> Result<Child, StartFault>
-where
-    R: Host,
-{
-    let Ok(mut command) = command_of(alloc, words) else {
-        return Err(StartFault::NoMemory);
-    };
-    command.stdin(Stdio::null());
-    command.stdout(Stdio::piped());
-    command.stderr(Stdio::piped());
-    match command.spawn(rt) {
-        Ok(child) => Ok(child),
-        Err(error) => Err(StartFault::of(&error)),
-    }
-}
-
-/// The command of these words. One without words has no program.
-fn command_of(alloc: Global, words: &[Text]) -> Result<Command, AllocError> {
-    let Some((first, rest)) = words.split_first() else {
-        return Command::new(alloc, "");
-    };
-    let mut command = Command::new(alloc, first.as_str())?;
-    for word in rest {
-        command.arg(word.as_str())?;
-    }
-    Ok(command)
 }

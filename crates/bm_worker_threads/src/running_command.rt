@@ -1,12 +1,24 @@
 //! A command whose process was started.
 
 ghost use Rattle.std.specs.Prelude.{◌≡◌};
-ghost use Rattle.std.specs.Option.{ForSome};
+ghost use Rattle.bm_worker_threads.specs.Givers.{giver};
 
-use bm_outbox::{ExitCode, Pipes, Ready, Said};
+use crate::elapsed::millis_since;
+use crate::sweeping::Sweeper;
+use bm_outbox::{CommandEnd, Pipes, Ready, Said, StopCause, Sweep, stop_end};
 use crossbeam_channel::Sender;
 use std::collections::VecDeque;
 use std::process::Child;
+use std::time::{Clock, Instant};
+
+/// What the worker does to end a command.
+#[derive(Drop)]
+pub(crate) struct Stop {
+    pub(crate) why: StopCause,
+    /// When it began. None where the clock fails.
+    pub(crate) begun: Option<Instant>,
+    pub(crate) sweeper: Sweeper,
+}
 
 /// A command whose process was started.
 #[derive(Drop)]
@@ -19,29 +31,57 @@ pub(crate) struct RunningCommand {
     pub(crate) texts: VecDeque<Said>,
     /// Each of these permits one more text. Without them its pipes' threads end.
     pub(crate) permits: Sender<()>,
+    /// What is done to end it, where anything is.
+    pub(crate) stop: Option<Stop>,
     /// How it ended, once that is known.
-    pub(crate) code: Option<ExitCode>,
-    pub(crate) ghost own: { ForSome code (λ c. c.command ≡ pipes.command) },
+    pub(crate) ended: Option<CommandEnd>,
+    pub(crate) ghost own: { giver pipes.command ended ≡ pipes.command },
 }
 
 impl RunningCommand {
     ghost use Rattle.bm_worker_threads.specs.Turns.{ready_of};
 
-    /// Whether all that the process printed was taken, and how it ended isn't known yet.
+    /// Whether it is about to end: its pipes were read, or it is being ended, and how it ended
+    /// isn't known yet.
     pub(crate) fn is_ending(&self) -> bool {
-        self.pipes.are_over() && self.code.is_none()
+        self.ended.is_none() && (self.pipes.are_over() || self.stop.is_some())
     }
 
     /// Looks how the process ended, where that can be told: -1 where it gave no exit code.
-    pub(crate) fn look(&mut self) {
+    pub(crate) fn look<R: Clock>(&mut self, rt: &R) {
+        if self.stop.is_some() {
+            self.look_at_stop(rt);
+            return;
+        }
         if !self.pipes.are_over() {
             return;
         }
-        self.code = match self.child.try_wait() {
+        self.ended = match self.child.try_wait() {
             Ok(None) => None,
-            Ok(Some(status)) => Some(self.pipes.exit_code(status.code())),
-            Err(_) => Some(self.pipes.exit_code(None)),
+            Ok(Some(status)) => Some(CommandEnd::Code(self.pipes.exit_code(status.code()))),
+            Err(_) => Some(CommandEnd::Code(self.pipes.exit_code(None))),
         };
+    }
+
+    /// Looks whether the end is told of a command that is being ended. What its pipes still gave
+    /// isn't told behind that. Its own process is asked for its end first, so that none stays as a
+    /// zombie; only one that a kill doesn't end isn't awaited.
+    fn look_at_stop<R: Clock>(&mut self, rt: &R) {
+        let is_silent = self.texts.is_empty() && self.pipes.are_over();
+        let is_gone = !matches!(self.child.try_wait(), Ok(None));
+        let Some(stop) = &mut self.stop else {
+            return;
+        };
+        let stopped_ms = millis_since(rt, stop.begun);
+        let sweep = match stop.sweeper.look() {
+            Sweep::Left => Sweep::Left,
+            sweep if is_gone => sweep,
+            _ => Sweep::Going,
+        };
+        if let Some(left) = stop_end(sweep, stopped_ms, is_silent) {
+            self.ended = Some(CommandEnd::Stopped(stop.why, left));
+            self.texts.clear();
+        }
     }
 
     /// What it has to tell, where texts may be said.
@@ -50,7 +90,7 @@ impl RunningCommand {
     {
         if !self.texts.is_empty() {
             if may_say { Ready::Text } else { Ready::Nothing }
-        } else if self.code.is_some() {
+        } else if self.ended.is_some() {
             Ready::End
         } else {
             Ready::Nothing

@@ -94,12 +94,25 @@ fn is_alone<Y: Yard>(queue: &mut BuildQueue<Y>) -> bool {
         && queue.cancel(0) == Cancelled::Running
 }
 
+/// Whether a build that is reported keeps its slot, so that no other one starts until it is released,
+/// and gives it back then.
+fn is_released<Y: Yard>(
+    queue: &mut BuildQueue<Y>,
+    number: u64,
+    reported: Results,
+    viewer: Viewer<Y>,
+) -> bool {
+    queue.report(number, reported);
+    let is_held = queue.result(number).is_some() && queue.has_build(0) && starts_none(queue);
+    queue.release(number, viewer) && !queue.has_build(0) && is_held
+}
+
 fn first_is_run<Y: Yard>(queue: &mut BuildQueue<Y>) -> bool {
     queue.set_ready(0, true);
     match viewer_for(queue, 0) {
         Some(viewer) => {
             let is_alone = is_alone(queue);
-            queue.end(0, Results::Success, viewer) && is_alone
+            is_released(queue, 0, Results::Success, viewer) && is_alone
         }
         None => false,
     }
@@ -115,7 +128,7 @@ fn second_is_run<Y: Yard>(queue: &mut BuildQueue<Y>) -> bool {
     match viewer_for(queue, 1) {
         Some(viewer) => {
             let is_given_up = is_given_up(queue);
-            queue.end(1, Results::Failure, viewer) && is_given_up
+            is_released(queue, 1, Results::Failure, viewer) && is_given_up
         }
         None => false,
     }

@@ -185,6 +185,10 @@ const REST: [(&str, &str); 40] = [
         "build = [{worker=\"w0\",step=[{name=\"s\",command=[\"a\"],timeout_ticks=2147483648}]}]",
         "timeout_ticks",
     ),
+    (
+        "build = [{worker=\"w0\",step=[{name=\"s\",command=[\"a\"],silent_ticks=2147483648}]}]",
+        "silent_ticks",
+    ),
     ("x =", "syntax"),
 ];
 

@@ -3,15 +3,14 @@
 //! Promised: it is safe. All else that is promised stands in the libraries: what a master is sent
 //! in `bm_worker_session`, what is told of a command in `bm_worker_threads`.
 //!
-//! A body could still connect to another address, or wait too long between its tries. What is done
-//! here with the command line and the network is only tested.
+//! A body could still connect to another address. What is done here with the command line and the
+//! network is only tested.
 #![tactic(auto)]
 
-use bm_worker_threads::{USAGE, new_session, read_arguments, words, work_run};
+use bm_worker_threads::{Marks, USAGE, new_session, read_arguments, words, work_run};
 use std::net::{Net, TcpStream, ToSocketAddrs};
 use std::process::ExitCode;
-use std::thread;
-use std::time::{Clock, Duration, Instant};
+use std::time::Duration;
 
 /// The exit status for words that ask for nothing that the program does.
 const WRONG_WORDS: u8 = 2;
@@ -24,12 +23,6 @@ const WRITE_LIMIT_SECONDS: u64 = 60;
 
 /// How long a connection may take to come to be.
 const CONNECT_LIMIT_SECONDS: u64 = 1;
-
-/// How long the worker waits after a refused connection before the next one.
-const PAUSE_MS: u64 = 25;
-
-/// The most connections that are begun in one try.
-const MOST_CONNECTS: u32 = 1_000;
 
 fn main(rt: HostRuntime) -> ExitCode {
     let Ok(words) = words(&rt) else {
@@ -44,33 +37,23 @@ fn main(rt: HostRuntime) -> ExitCode {
         return ExitCode::FAILURE;
     };
     let session = Some(session.as_str());
-    let dial = |limit: Duration| dial(&rt, arguments.address, limit);
-    ExitCode::from(work_run(&rt, dial, arguments.name, arguments.password, session))
-}
-
-/// A connection with the first address that a host's name stands for. It is tried again and again
-/// for as long as the limit says, and once where that is no time.
-fn dial<R: Net<Stream = TcpStream> + Clock>(
-    rt: &R,
-    address: &str,
-    limit: Duration,
-) -> Option<TcpStream> {
-    let begun = Instant::now(rt).ok()?;
-    for _ in 0..MOST_CONNECTS {
-        if let Some(stream) = connected(rt, address) {
-            return Some(stream);
-        }
-        if begun.elapsed(rt).ok()? >= limit {
-            return None;
-        }
-        thread::sleep(rt, Duration::from_millis(PAUSE_MS));
-    }
-    None
+    let Ok(marks) = Marks::new(&rt) else {
+        return ExitCode::FAILURE;
+    };
+    let dial = || dial(&rt, arguments.address);
+    ExitCode::from(work_run(
+        &rt,
+        dial,
+        marks,
+        arguments.name,
+        arguments.password,
+        session,
+    ))
 }
 
 /// A connection with the first address that a host's name stands for. Small messages leave at once,
 /// and neither a read nor a write waits for ever.
-fn connected<R: Net<Stream = TcpStream>>(rt: &R, address: &str) -> Option<TcpStream> {
+fn dial<R: Net<Stream = TcpStream>>(rt: &R, address: &str) -> Option<TcpStream> {
     let first = address.to_socket_addrs(rt).ok()?.next()?;
     let limit = Duration::from_secs(CONNECT_LIMIT_SECONDS);
     let stream = TcpStream::connect_timeout(rt, &first, limit).ok()?;

@@ -2,6 +2,7 @@
 
 mod faults;
 mod forms;
+mod logins;
 mod memory;
 
 use bm_lines::{Letter, Text};

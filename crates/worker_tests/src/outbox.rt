@@ -4,6 +4,8 @@
 
 mod memory;
 mod pipe_texts;
+mod stopping;
+mod tries;
 
 use crate::work::worker::is_numbered;
 use bm_lines::{Letter, Text};
@@ -153,9 +155,25 @@ fn a_full_window_keeps_the_next_text(rt: HostRuntime) -> Result<(), Fail> {
     Ok(())
 }
 
-/// The first request, which ends command 0.
-const INTERRUPTED: &[u8] =
-    b"\x84\xaaseq_number\x00\xa2op\xa8complete\xaacommand_id\xa10\xa4args\xabinterrupted";
+/// The requests of a command that is interrupted: its text, the line that says why, and its end.
+static STOPPED: [&[u8]; 3] = [
+    b"\x84\xaaseq_number\x00\xa2op\xa6update\xaacommand_id\xa10\xa4args\x91\x92\xa6stdout\xa2a\n",
+    b"\x84\xaaseq_number\x01\xa2op\xa6update\xaacommand_id\xa10\xa4args\x91\x92\xa6header\xacinterrupted\n",
+    b"\x84\xaaseq_number\x02\xa2op\xa8complete\xaacommand_id\xa10\xa4args\xabinterrupted",
+];
+
+/// The lines before the end of a command of which a process is left behind.
+static LEFT: [&[u8]; 2] = [
+    b"\x84\xaaseq_number\x00\xa2op\xa6update\xaacommand_id\xa10\xa4args\x91\x92\xa6header\xbecannot end: a process is left\n",
+    b"\x84\xaaseq_number\x01\xa2op\xa6update\xaacommand_id\xa10\xa4args\x91\x92\xa6header\xaeout of memory\n",
+];
+
+/// Whether the end of command 0 waits, which its master asked for.
+fn stops(alloc: Global, outbox: &mut Outbox) -> bool {
+    outbox
+        .stop(alloc, 0, StopCause::Interrupted, Leftover::Nothing)
+        .is_ok()
+}
 
 /// Whether a login that was answered so begins with these requests. None where memory was wanting
 /// for that.
@@ -172,11 +190,11 @@ fn begins(
     }
 }
 
-/// Whether the end of a command is told in place of its text.
-fn ends_at_once(alloc: Global, worker: &mut Worker, outbox: &mut Outbox) -> bool {
+/// Whether the end of a command that is ended is told behind its text and the line that says why.
+fn ends_behind_its_text(alloc: Global, worker: &mut Worker, outbox: &mut Outbox) -> bool {
     pushes(alloc, outbox)
-        && outbox.cut_short(0, Ending::Interrupted).is_ok()
-        && tells(alloc, worker, outbox, &[INTERRUPTED]) == Some(true)
+        && stops(alloc, outbox)
+        && tells_each(alloc, worker, outbox, &STOPPED)
         && outbox.is_empty()
 }
 
@@ -185,18 +203,31 @@ fn ends_at_once(alloc: Global, worker: &mut Worker, outbox: &mut Outbox) -> bool
 fn has_ended(alloc: Global, worker: &mut Worker, outbox: &mut Outbox) -> bool {
     pushes(alloc, outbox)
         && next(alloc, worker, outbox) == Step::Passed
-        && begins(alloc, true, worker, outbox, &[INTERRUPTED]) == Some(true)
+        && begins(alloc, true, worker, outbox, &STOPPED) == Some(true)
         && begins(alloc, false, worker, outbox, &[]) == Some(true)
 }
 
 #[test]
-fn an_end_is_told_at_once_or_behind_the_texts(rt: HostRuntime) -> Result<(), Fail> {
+fn an_interrupted_command_says_why_and_ends(rt: HostRuntime) -> Result<(), Fail> {
     let alloc = rt.alloc();
     let mut worker = worker_of(alloc).ok_or("no command")?;
     let mut outbox = Outbox::new(alloc);
     assert!(rt;
-        ends_at_once(alloc, &mut worker, &mut outbox) && has_ended(alloc, &mut worker, &mut outbox)
+        ends_behind_its_text(alloc, &mut worker, &mut outbox)
+            && has_ended(alloc, &mut worker, &mut outbox)
     );
+    Ok(())
+}
+
+#[test]
+fn what_is_left_is_told_before_the_reason(rt: HostRuntime) -> Result<(), Fail> {
+    let alloc = rt.alloc();
+    let mut worker = worker_of(alloc).ok_or("no command")?;
+    let mut outbox = Outbox::new(alloc);
+    let end = CommandEnd::Stopped(StopCause::NoMemory, Leftover::Process);
+    let is_told = outbox.end(alloc, 0, end).is_ok()
+        && tells_each(alloc, &mut worker, &mut outbox, &LEFT);
+    assert!(rt; is_told);
     Ok(())
 }
 
@@ -308,14 +339,4 @@ fn errors_of_a_start_have_their_texts(rt: HostRuntime) {
         let told = StartFault::of(&io::Error::from_raw_os_error(*number)).reason();
         assert!(rt; told == *want, "error {number}");
     }
-}
-
-#[test]
-fn a_worker_tries_ten_times(rt: HostRuntime) {
-    let mut tries = Tries::new();
-    for made in 0..20u32 {
-        assert!(rt; tries.again() == (made < 10), "try {made}");
-    }
-    tries.heard();
-    assert!(rt; tries.again());
 }

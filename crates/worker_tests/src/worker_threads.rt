@@ -8,12 +8,13 @@ mod memory;
 mod rows;
 mod words;
 
-use bm_worker_threads::{ReadyStream, work_run};
+use bm_worker_threads::{Marks, ReadyStream, work_run};
 use master::Master;
 use std::alloc::{AllocGlobal, Global};
 use std::net::{Net, SocketAddr, TcpListener, TcpStream};
 use std::process::{Processes, SystemProcess};
 use std::random::RandomSource;
+use std::rt::{Env, Files};
 use std::sync::atomic::AtomicU64;
 use std::sync::{Arc, Wait};
 use std::thread;
@@ -74,7 +75,7 @@ where
 }
 
 /// Starts a worker that connects with the address once, and names no session.
-fn worker_at<R>(rt: R, address: SocketAddr) -> Option<JoinHandle<u8>>
+fn worker_at<R>(rt: R, marks: Marks, address: SocketAddr) -> Option<JoinHandle<u8>>
 where
     R: Wait
         + Threads
@@ -91,12 +92,12 @@ where
 {
     let worker = thread::spawn(&rt, move || {
         let mut is_first = true;
-        let dial = |_: Duration| {
+        let dial = || {
             let stream = if is_first { dial(&rt, address) } else { None };
             is_first = false;
             stream
         };
-        work_run(&rt, dial, "w0", "p", None)
+        work_run(&rt, dial, marks, "w0", "p", None)
     });
     worker.ok()
 }
@@ -110,6 +111,8 @@ where
         + Clock
         + RandomSource
         + AllocGlobal
+        + Files
+        + Env
         + Net<Listener = TcpListener, Stream = TcpStream>
         + Processes<Started = SystemProcess>
         + Copy
@@ -122,7 +125,7 @@ where
 {
     let listener = TcpListener::bind(&rt, "127.0.0.1:0").ok()?;
     let address = listener.local_addr().ok()?;
-    let worker = worker_at(rt, address)?;
+    let worker = worker_at(rt, Marks::new(&rt).ok()?, address)?;
     let done = played(rt.alloc(), &listener, script);
     let status = worker.join(&rt);
     match done {

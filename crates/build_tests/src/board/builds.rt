@@ -61,6 +61,7 @@ fn try_step(alloc: Global, plan: &Plan) -> Option<StepPlan> {
             always_run,
             max_bytes: 0,
             timeout_ticks: 0,
+            silent_ticks: 0,
         }),
         Err(_) => None,
     }

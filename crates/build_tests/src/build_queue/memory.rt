@@ -82,7 +82,8 @@ fn is_ended<Y: Yard>(
     reported: Results,
 ) -> bool {
     let is_it = build.number == number;
-    queue.end(number, reported, build.viewer) && is_it
+    queue.report(number, reported);
+    queue.release(number, build.viewer) && is_it
 }
 
 /// Whether the other build is started beside the first, no build is left, and both end with their

@@ -80,6 +80,7 @@ struct StepRow {
     always_run: bool,
     max_bytes: u32,
     timeout_ticks: u32,
+    silent_ticks: u32,
 }
 
 impl Wanted<StepPlan> for StepRow {
@@ -91,6 +92,7 @@ impl Wanted<StepPlan> for StepRow {
             && item.always_run == self.always_run
             && item.max_bytes == self.max_bytes
             && item.timeout_ticks == self.timeout_ticks
+            && item.silent_ticks == self.silent_ticks
     }
 }
 
@@ -178,6 +180,7 @@ static DEFAULTS: Said = Said {
             always_run: false,
             max_bytes: 1 << 30,
             timeout_ticks: 0,
+            silent_ticks: 0,
         }],
     }],
 };
@@ -216,6 +219,7 @@ flunkOnFailure = false
 alwaysRun = true
 max_bytes = 0
 timeout_ticks = 9
+silent_ticks = 7
 ";
 
 static EACH: Said = Said {
@@ -263,6 +267,7 @@ static EACH: Said = Said {
             always_run: true,
             max_bytes: 0,
             timeout_ticks: 9,
+            silent_ticks: 7,
         }],
     }],
 };

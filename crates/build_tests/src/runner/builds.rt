@@ -23,6 +23,7 @@ fn make_step(alloc: Global, (name, halts, always): &Plan) -> Option<StepPlan> {
             always_run: *always,
             max_bytes: 0,
             timeout_ticks: 0,
+            silent_ticks: 0,
         }),
         Err(_) => None,
     }

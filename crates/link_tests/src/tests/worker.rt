@@ -225,3 +225,36 @@ fn a_session_is_named(rt: HostRuntime) {
         assert!(rt; is_attached_by(rt.alloc(), answer, *attached));
     }
 }
+
+/// How a master answers a login, and what that tells.
+pub(super) struct Answered {
+    pub bytes: &'static [u8],
+    pub attached: Attached,
+}
+
+/// Whether a worker that asks for the session `s`, and names this next one, sends this login, and
+/// takes the answer as what it tells.
+pub(super) fn logs_in_by(
+    alloc: Global,
+    next: Option<&str>,
+    login: &[u8],
+    answered: &Answered,
+) -> bool {
+    let Ok(stream) = script_of(alloc, AGREED, &[answered.bytes]) else {
+        return false;
+    };
+    match WorkerLink::open(alloc, Zeros {}, stream) {
+        Ok(link) => sends(alloc, link, next, login, answered.attached),
+        Err(_) => false,
+    }
+}
+
+/// Whether the login by this link sends these bytes, and is answered so.
+fn sends(alloc: Global, mut link: Link, next: Option<&str>, login: &[u8], want: Attached) -> bool {
+    let attached = link.login(alloc, "w0", "p", Some("s"), next);
+    let is_sent = link.get_ref().output.ends_with(login);
+    match attached {
+        Ok(attached) => is_sent && attached == want,
+        Err(_) => false,
+    }
+}

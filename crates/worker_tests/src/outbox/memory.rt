@@ -1,13 +1,12 @@
 //! What waits and is told where a request for memory is refused.
 //!
 //! These are made for `tests/refused_memory`, which refuses each request in turn. Nothing is lost
-//! then, and nothing told twice. Where an end can't be told, its fault is told. In the gate no
-//! request is refused, and no call is made twice.
+//! then, and nothing told twice. In the gate no request is refused, and no call is made twice.
 
 use super::pipe_texts::{says, says_last};
-use super::{INTERRUPTED, begins, exit_code, opens, pushes, tells, worker_of};
+use super::{STOPPED, begins, exit_code, opens, pushes, stops, tells, worker_of};
 use bm_lines::Letter;
-use bm_outbox::{Ending, Outbox, PipeTexts};
+use bm_outbox::{Outbox, PipeTexts};
 use bm_work::Worker;
 use std::alloc::Global;
 use std::test::Fail;
@@ -32,14 +31,8 @@ const EXIT_CODE: &[u8] =
 
 const ENDED: &[u8] = b"\x84\xaaseq_number\x04\xa2op\xa8complete\xaacommand_id\xa10\xa4args\xc0";
 
-const NO_MEMORY: &[u8] =
-    b"\x84\xaaseq_number\x02\xa2op\xa8complete\xaacommand_id\xa10\xa4args\xadout of memory";
-
 /// All requests of a command whose end was told.
 static WHOLE: [&[u8]; 5] = [OPENED, LINE, CLOSED, EXIT_CODE, ENDED];
-
-/// All requests of a command for whose end memory was wanting.
-static CUT_SHORT: [&[u8]; 3] = [OPENED, LINE, NO_MEMORY];
 
 fn worker_again(alloc: Global) -> Option<Worker> {
     match worker_of(alloc) {
@@ -80,7 +73,7 @@ fn pushes_again(alloc: Global, outbox: &mut Outbox) -> bool {
 #[derive(Clone, Copy, PartialEq)]
 enum Outcome {
     Ended,
-    /// Memory was wanting for its end, and that is what was told.
+    /// Memory was wanting for its end, which isn't told then.
     NoMemory,
     Wrongly,
 }
@@ -93,9 +86,9 @@ fn outcome_at_close(alloc: Global, worker: &mut Worker, outbox: &mut Outbox) -> 
             && resends_again(alloc, worker, outbox, &WHOLE);
         (Outcome::Ended, is_told)
     } else {
-        let is_told = outbox.cut_short(0, Ending::NoMemory).is_ok()
-            && tells_again(alloc, worker, outbox, &[NO_MEMORY])
-            && resends_again(alloc, worker, outbox, &CUT_SHORT);
+        // Nothing of the end waits, but for its line.
+        let is_told = (outbox.is_empty() || tells_again(alloc, worker, outbox, &[CLOSED]))
+            && outbox.is_empty();
         (Outcome::NoMemory, is_told)
     };
     if is_told { outcome } else { Outcome::Wrongly }
@@ -129,19 +122,14 @@ fn refused_end_is_a_fault_and_nothing_else_is_lost(rt: HostRuntime) {
     assert!(rt; outcome == Outcome::Ended);
 }
 
-/// Whether the end waits alone, by a second call where memory was wanting. Nothing waits before.
-fn cuts_short_again(outbox: &mut Outbox) -> bool {
-    match outbox.cut_short(0, Ending::Interrupted) {
-        Ok(()) => true,
-        Err(_) => outbox.is_empty() && outbox.cut_short(0, Ending::Interrupted).is_ok(),
-    }
-}
-
-/// Whether the end of a command is told in place of its text, and nothing else is.
+/// Whether the end of a command is told behind its text and the line that says why, by a second
+/// call where memory was wanting. Nothing of it waits before.
 fn is_interrupted(alloc: Global, worker: &mut Worker, outbox: &mut Outbox) -> bool {
     pushes_again(alloc, outbox)
-        && cuts_short_again(outbox)
-        && tells_again(alloc, worker, outbox, &[INTERRUPTED])
+        && (stops(alloc, outbox) || stops(alloc, outbox))
+        && tells_again(alloc, worker, outbox, &[STOPPED[0]])
+        && tells_again(alloc, worker, outbox, &[STOPPED[1]])
+        && tells_again(alloc, worker, outbox, &[STOPPED[2]])
         && outbox.is_empty()
 }
 

@@ -10,7 +10,7 @@ use bm_lane::{Blank, Drained, Ends, Yard, open, same_lane, settle};
 use bm_lines::{STDIO, Text};
 use bm_link::{Ask, MasterLink, ResumeState, User, are_short};
 use bm_session::Results;
-use bm_worker_threads::ReadyStream;
+use bm_worker_threads::{Marks, ReadyStream};
 use bumpalo::Bump;
 use outcome::{Log, log_in};
 use std::alloc::{AllocError, AllocGlobal, Global};
@@ -18,6 +18,7 @@ use std::marker::Brand;
 use std::net::{Net, TcpListener, TcpStream};
 use std::process::{Processes, SystemProcess};
 use std::random::RandomSource;
+use std::rt::{Env, Files};
 use std::sync::Wait;
 use std::thread::Threads;
 use std::time::Clock;
@@ -186,6 +187,8 @@ where
         + Clock
         + RandomSource
         + AllocGlobal
+        + Files
+        + Env
         + Net<Listener = TcpListener, Stream = TcpStream>
         + Processes<Started = SystemProcess>
         + Copy
@@ -196,7 +199,7 @@ where
 {
     let listener = TcpListener::bind(&rt, "127.0.0.1:0").ok()?;
     let address = listener.local_addr().ok()?;
-    let worker = worker_at(rt, address)?;
+    let worker = worker_at(rt, Marks::new(&rt).ok()?, address)?;
     let is_served = desk.serves(&rt, &listener);
     drop(listener);
     Some(worker.join(&rt) == 0 && is_served)
@@ -210,6 +213,8 @@ where
         + Clock
         + RandomSource
         + AllocGlobal
+        + Files
+        + Env
         + Net<Listener = TcpListener, Stream = TcpStream>
         + Processes<Started = SystemProcess>
         + Copy
@@ -233,6 +238,8 @@ where
         + Clock
         + RandomSource
         + AllocGlobal
+        + Files
+        + Env
         + Net<Listener = TcpListener, Stream = TcpStream>
         + Processes<Started = SystemProcess>
         + Copy
@@ -254,6 +261,8 @@ where
         + Clock
         + RandomSource
         + AllocGlobal
+        + Files
+        + Env
         + Net<Listener = TcpListener, Stream = TcpStream>
         + Processes<Started = SystemProcess>
         + Copy

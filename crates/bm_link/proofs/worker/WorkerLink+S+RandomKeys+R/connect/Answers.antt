@@ -1,10 +1,25 @@
 use Rattle.std.proofs.Common.{inr}
+use Rattle.std.specs.Option.{option_copied}
+use Rattle.bm_link.proofs.Opening.{connects, fails_to_connect}
 use Rattle.bm_link.proofs.worker.WorkerLink+S+RandomKeys+R.connect.Goals as goal
 
--- the socket that the handshake gave
-pub returns-in-Ok-greet-clause-login : goal.returns-in-Ok-greet-clause-login
-returns-in-Ok-greet-clause-login g c = (c.in-Ok.socket, c.in-Ok.ensures.connected, c.in-Ok-greet.ensures.answer)
+-- the link that the handshake gave, by which the login was answered
+pub returns-in-Ok-login : goal.returns-in-Ok-login
+returns-in-Ok-login g c =
+    let h = connects g.S.Read.remaining g.S.Write.contents c.args.name.now c.args.password.now (option_copied c.args.session) c.in-Ok.link c.login.new.self c.in-Ok-login.attached
+    c.in-Ok.ensures.opened c.in-Ok-login.ensures in
+    record { fresh = (h.1, h.3, h.2); fault = tt; login = (c.in-Ok.link.socket, c.in-Ok.ensures.opened.0, h.0) }
 
--- the same, over which the login failed
-pub returns-in-Err-greet-clause-fault : goal.returns-in-Err-greet-clause-fault
-returns-in-Err-greet-clause-fault g c = inr (c.in-Ok.socket, c.greet.new.socket, c.in-Ok.ensures.connected, c.in-Err-greet.ensures.fault)
+-- the same, by which the login failed
+pub returns-in-Err-login : goal.returns-in-Err-login
+returns-in-Err-login g c = record {
+  fresh = tt;
+  fault = inr (
+    c.in-Ok.link.socket,
+    c.login.new.self.socket,
+    c.in-Ok.ensures.opened.0,
+    fails_to_connect g.S.Read.remaining g.S.Write.contents c.args.name.now c.args.password.now (option_copied c.args.session) c.in-Ok.link c.login.new.self c.in-Err-login.fault
+        c.in-Ok.ensures.opened c.in-Err-login.ensures,
+  );
+  login = tt;
+}

@@ -3,14 +3,14 @@ use Rattle.std.proofs.lemmas.Bool.{ltb-true}
 use Rattle.std.proofs.lemmas.Option.{slice_get_read}
 use Rattle.bm_build_queue.specs.BuildQueue.{QueueState}
 use Rattle.bm_build_queue.proofs.Pools.{back_at, given_at, lost_at, none_back}
-use Rattle.bm_build_queue.proofs.Wholes.{ended, whole_released, whole_stepped}
-use Rattle.bm_build_queue.proofs.build_queue.BuildQueue.end.Goals as goal
+use Rattle.bm_build_queue.proofs.Wholes.{released, whole_released}
+use Rattle.bm_build_queue.proofs.build_queue.BuildQueue.release.Goals as goal
 
 pub invariant_of-self : goal.invariant_of-self
-invariant_of-self g c = whole_released _ _ c.args.number c.release.ensures.board (whole_stepped _ _ c.args.number c.args.reported c.step_done.ensures.board c.self.invariant)
+invariant_of-self g c = whole_released _ _ c.args.number c.release.ensures.board c.self.invariant
 
-pub returns-in_default-clause-ended : goal.returns-in_default-clause-ended
-returns-in_default-clause-ended g c = ended _ _ _ _ c.args.number c.args.reported (ap (λ (q : QueueState). q.board) c.self.view_is) c.step_done.ensures.board c.release.ensures.board c.self.invariant
+pub returns-in_default-clause-released : goal.returns-in_default-clause-released
+returns-in_default-clause-released g c = released _ _ _ c.args.number (ap (λ (q : QueueState). q.board) c.self.view_is) c.release.ensures.board
 
 pub returns-in_default-clause-answer : goal.returns-in_default-clause-answer
 returns-in_default-clause-answer g c =
@@ -18,10 +18,10 @@ returns-in_default-clause-answer g c =
     c.in_default.ensures.item.3
 
 pub invariant_of-self-2 : goal.invariant_of-self-2
-invariant_of-self-2 g c = whole_released _ _ c.args.number c.release.ensures.board (whole_stepped _ _ c.args.number c.args.reported c.step_done.ensures.board c.self.invariant)
+invariant_of-self-2 g c = whole_released _ _ c.args.number c.release.ensures.board c.self.invariant
 
-pub returns-clause-ended : goal.returns-clause-ended
-returns-clause-ended g c = ended _ _ _ _ c.args.number c.args.reported (ap (λ (q : QueueState). q.board) c.self.view_is) c.step_done.ensures.board c.release.ensures.board c.self.invariant
+pub returns-clause-released : goal.returns-clause-released
+returns-clause-released g c = released _ _ _ c.args.number (ap (λ (q : QueueState). q.board) c.self.view_is) c.release.ensures.board
 
 pub returns-clause-answer : goal.returns-clause-answer
 returns-clause-answer g c =

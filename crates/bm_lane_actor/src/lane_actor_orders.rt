@@ -1,0 +1,85 @@
+//! The orders of builds to a lane's actor.
+
+use crate::connection_state::ConnectionState;
+use crate::lane_actor::LaneActor;
+use crate::lane_event::{EventSink, LaneEvent};
+use crate::lane_request::{CancelFlag, StartOrder};
+use crate::order_outcome::OrderOutcome;
+use bm_lane::Yard;
+use bm_link::are_short;
+use bm_operator::LossCause;
+use std::sync::Wait;
+use std::sync::atomic::Ordering;
+use std::time::Clock;
+
+/// Whether there is a flag, and it is set.
+fn is_set(flag: &Option<CancelFlag>) -> bool {
+    match flag {
+        Some(flag) => flag.load(Ordering::SeqCst),
+        None => false,
+    }
+}
+
+impl<'a, Y, T, R> LaneActor<'a, Y, T, R>
+where
+    Y: Yard,
+    T: EventSink + Drop,
+    R: Wait + Clock + Drop,
+{
+    /// Starts a command. The words of a configuration are short enough. A plan by which others
+    /// come is refused here, before its order is kept to be sent again. The flag is looked at last:
+    /// who set it before the lane took the order knows that no command follows.
+    pub(crate) fn start(&mut self, order: StartOrder) -> OrderOutcome {
+        let StartOrder {
+            words,
+            bytes,
+            cancelled,
+        } = order;
+        let argv = words.as_slice();
+        if !are_short(argv) {
+            return OrderOutcome::TooLong;
+        }
+        if self.commands.reserve().is_err() {
+            return OrderOutcome::Later;
+        }
+        let before = self.state.connection();
+        if is_set(&cancelled) {
+            return OrderOutcome::Cancelled;
+        }
+        let outcome = self.state.start(self.rt, self.alloc, argv);
+        match outcome {
+            OrderOutcome::Started(command) => self.commands.begin(command, bytes),
+            OrderOutcome::Full => self.events.tell(LaneEvent::Filled),
+            OrderOutcome::Interrupted
+            | OrderOutcome::Cancelled
+            | OrderOutcome::Later
+            | OrderOutcome::Refused
+            | OrderOutcome::TooLong => {}
+        }
+        self.note(before, LossCause::Stream);
+        self.reads.told();
+        outcome
+    }
+
+    /// Keeps the order to interrupt a command. False where memory is wanting.
+    pub(crate) fn keep_stop(&mut self, command: u64) -> bool {
+        self.stops.keep(command).is_ok()
+    }
+
+    /// Sends the oldest order to interrupt a command, where the lane takes it. One that it doesn't
+    /// take just now is kept, and so is each while the lane is cut. Another turn follows: it sends
+    /// the next one, or meets the fault of a link by which nothing could be sent.
+    pub(crate) fn send_stop(&mut self) {
+        let (before, took) = (self.state.connection(), self.gate.took(self.place));
+        let Some(command) = self.stops.due(before) else {
+            return;
+        };
+        let outcome = self.state.interrupt(self.rt, self.alloc, command);
+        self.stops.tried(outcome);
+        self.note(before, LossCause::Stream);
+        if outcome == OrderOutcome::Later && self.state.connection() == ConnectionState::Up {
+            self.wait_for_place(took);
+        }
+        self.reads.told();
+    }
+}

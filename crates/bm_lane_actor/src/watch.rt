@@ -1,0 +1,26 @@
+//! Who is told of a build's steps.
+
+use bm_board::StepPlan;
+use bm_lines::Text;
+use bm_operator::{StartRefusal, StepLimit};
+use bm_session::Results;
+
+/// Who is told of a build's steps as they run.
+pub trait Watch {
+    /// The step was started as this command of its lane.
+    fn started(&mut self, step: &StepPlan, command: u64);
+
+    /// The build obeys a cancel: from now on no step is started but those that always run. It may
+    /// be told more than once.
+    fn cancelled(&mut self);
+
+    /// The command has reached a limit of its step, and is interrupted.
+    fn stopped(&mut self, command: u64, limit: StepLimit);
+
+    /// The step was not started. Where its build was cancelled before, that cancel is carried out.
+    fn refused(&mut self, step: &StepPlan, why: StartRefusal);
+
+    /// The command ended so. `said` is what its worker said last of one that ended EXCEPTION,
+    /// where that is a short line of headers behind the first.
+    fn ended(&mut self, command: u64, outcome: Results, said: Option<Text>);
+}

@@ -1,0 +1,35 @@
+-- How often and for how long a worker connects again.
+use Rattle.std.specs.Prelude.{ℕ, ◌+◌, ◌-◌, ◌*◌, min, nat_lt, Bool, true, false, ◌&&◌, Option, Some, None, if◌then◌else◌}
+use Rattle.bm_outbox.specs.declared.tries.ConnectFault.{ConnectFault}
+use Rattle.bm_outbox.specs.declared.tries.ConnectFault.TheVariants as fault
+
+-- the tries in a row, when the last of them began, the pause before its next connect, and whether a
+-- login was answered
+pub record TriesState : Type 0 where
+  pub made : ℕ
+  pub begun_ms : ℕ
+  pub next_pause_ms : ℕ
+  pub is_known : Bool
+
+-- a refused login ends its try
+abbrev pub may_go_on : ConnectFault → Bool
+may_go_on fault.NoAnswer = true
+may_go_on fault.Refused = false
+
+-- a try goes on for six seconds, once a login was answered
+abbrev pub goes_on : ConnectFault → ℕ → TriesState → Bool
+goes_on why now t = t.is_known && may_go_on why && nat_lt 0 t.made && nat_lt (now - t.begun_ms) 6000
+
+-- the pause before the next connect; none where the tenth try has ended
+abbrev pub pause_before : ConnectFault → ℕ → TriesState → Option ℕ
+pause_before why now t =
+    if goes_on why now t then Some t.next_pause_ms else
+    if nat_lt t.made 10 then Some 10 else
+    None
+
+-- the pauses of a try double, up to a second; the next try begins where one has ended
+abbrev pub after_fault : ConnectFault → ℕ → TriesState → TriesState
+after_fault why now t =
+    if goes_on why now t then record t { next_pause_ms = min 1000 (2 * t.next_pause_ms) } else
+    if nat_lt t.made 10 then record t { made = t.made + 1; begun_ms = now; next_pause_ms = 20 } else
+    t

@@ -1,0 +1,168 @@
+//! Processes that carry a mark are looked for and killed, by a script that nobody waits for.
+
+use crate::host::Host;
+use bm_outbox::Sweep;
+use std::alloc::{AllocError, Global};
+use std::io::ErrorKind;
+use std::process::{Child, Command, Stdio};
+use std::time::Duration;
+use std::{io, thread};
+
+/// Kills what carries a mark, its first word, and looks again until two looks in turn find nothing.
+/// A word that is no mark could stand in any process, and nothing is looked for then. A killed
+/// process whose parent hasn't asked for its end has no environment any more, and isn't found. One
+/// that is found in the last round isn't ended by a kill: the script says so, and goes on behind
+/// itself.
+const KILL: &str = r#"
+case $1 in buildworker-?*.?*.) ;; *) exit 5 ;; esac
+PATH=$PATH:/usr/bin:/bin
+command -v grep >/dev/null && [ -r /proc/self/environ ] || exit 3
+look() {
+  found=$(grep -laF -e "$1" /proc/[0-9]*/environ 2>/dev/null)
+  [ $? -lt 100 ] || exit 5
+  for f in $found; do f=${f#/proc/}; kill -9 "${f%/environ}" 2>/dev/null; done
+  [ -n "$found" ]
+}
+round=0 clean=0
+while [ $round -lt 30 ]; do
+  round=$((round + 1))
+  if look "$1"; then
+    clean=0
+    [ $round -lt 5 ] || sleep 0.02
+  else
+    clean=$((clean + 1))
+    [ $clean -lt 2 ] || exit 0
+  fi
+done
+( round=0; while [ $round -lt 60 ] && look "$1"; do round=$((round + 1)); sleep 1; done ) &
+exit 4
+"#;
+
+/// Kills what commands of workers left that are no longer there. The first word is what the marks
+/// of this user's workers begin with, the second what this worker's own environment has of them.
+const KILL_ORPHANS: &str = r#"
+case $1 in buildworker-?*.?*.) ;; *) exit 5 ;; esac
+PATH=$PATH:/usr/bin:/bin
+command -v grep >/dev/null && [ -r /proc/self/environ ] || exit 3
+is_gone() {
+  [ -e "/proc/$1" ] || return 0
+  read -r told 2>/dev/null <"/proc/$1/stat" || return 1
+  set -- "$2" ${told##*\) }
+  [ "$2" = Z ] || [ "$2" = X ] || [ "${21}" != "$1" ]
+}
+round=0 clean=0
+while [ $round -lt 30 ]; do
+  round=$((round + 1)) killed=
+  for found in $(grep -aoE -e "$1[0-9]+\.[0-9]+\." /proc/[0-9]*/environ /dev/null 2>/dev/null); do
+    process=${found%%/environ:*} mark=${found#*:}
+    case $2 in *"$mark"*) continue ;; esac
+    worker=${mark#"$1"} worker=${worker%.}
+    is_gone "${worker%.*}" "${worker#*.}" || continue
+    kill -9 "${process#/proc/}" 2>/dev/null && killed=1
+  done
+  if [ -z "$killed" ]; then
+    clean=$((clean + 1))
+    [ $clean -lt 2 ] || exit 0
+  else
+    clean=0
+    [ $round -lt 5 ] || sleep 0.02
+  fi
+done
+exit 4
+"#;
+
+/// How often a sweep that is waited for is looked at.
+const LOOK_MS: u64 = 2;
+
+/// How often it is looked at before the worker goes on without it: some five seconds.
+const MOST_LOOKS: u32 = 2_500;
+
+/// A sweep: it goes on beside the worker.
+#[derive(Drop)]
+pub(crate) struct Sweeper {
+    child: Option<Child>,
+    state: Sweep,
+}
+
+impl Sweeper {
+    /// Looks for what carries this mark, and kills it.
+    pub(crate) fn kill<R: Host>(rt: &R, alloc: Global, mark: &str) -> Sweeper {
+        Sweeper::of(script(alloc, KILL, &[mark]), rt)
+    }
+
+    /// Looks for what workers left that are no longer there, and kills it. Their marks begin so.
+    /// What carries a mark that is among this worker's own is let be.
+    pub(crate) fn kill_orphans<R: Host>(
+        rt: &R,
+        alloc: Global,
+        place: &str,
+        outer: &str,
+    ) -> Sweeper {
+        Sweeper::of(script(alloc, KILL_ORPHANS, &[place, outer]), rt)
+    }
+
+    fn of<R: Host>(command: Result<Command, AllocError>, rt: &R) -> Sweeper {
+        let Ok(mut command) = command else {
+            return Sweeper {
+                child: None,
+                state: Sweep::Failed,
+            };
+        };
+        match command.spawn(rt) {
+            Ok(child) => Sweeper {
+                child: Some(child),
+                state: Sweep::Going,
+            },
+            Err(error) => Sweeper {
+                child: None,
+                state: unstarted(&error),
+            },
+        }
+    }
+
+    /// What is known of it, once it was looked at.
+    pub(crate) fn look(&mut self) -> Sweep {
+        let Some(child) = &mut self.child else {
+            return self.state;
+        };
+        self.state = match child.try_wait() {
+            Ok(None) => Sweep::Going,
+            Ok(Some(status)) => Sweep::of_code(status.code()),
+            Err(_) => Sweep::Failed,
+        };
+        self.state
+    }
+
+    /// Waits for its end, for some five seconds at the most. It goes on by itself then.
+    pub(crate) fn wait<R: Host>(&mut self, rt: &R) {
+        for _ in 0..MOST_LOOKS {
+            if self.look() != Sweep::Going {
+                return;
+            }
+            thread::sleep(rt, Duration::from_millis(LOOK_MS));
+        }
+    }
+}
+
+/// Why a sweep wasn't started.
+fn unstarted(error: &io::Error) -> Sweep {
+    match error.kind() {
+        ErrorKind::NotFound | ErrorKind::PermissionDenied => Sweep::NoTools,
+        _ => Sweep::Failed,
+    }
+}
+
+/// A shell that runs a script with these words.
+fn script(alloc: Global, text: &str, words: &[&str]) -> Result<Command, AllocError> {
+    let mut command = Command::new(alloc, "/bin/sh")?;
+    command.arg("-c")?;
+    command.arg(text)?;
+    command.arg("sweep")?;
+    for word in words {
+        command.arg(*word)?;
+    }
+    command.stdin(Stdio::null());
+    command.stdout(Stdio::null());
+    command.stderr(Stdio::null());
+    Ok(command)
+}
