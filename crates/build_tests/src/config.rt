@@ -109,7 +109,7 @@ fn workers_are_told_apart(rt: HostRuntime) {
 }
 
 /// What follows the addresses and a worker `w0`, and the key that is told.
-const REST: [(&str, &str); 40] = [
+const REST: [(&str, &str); 41] = [
     ("capacity = 0", "capacity"),
     ("capacity = 1", ""),
     ("capacity = 65536", ""),
