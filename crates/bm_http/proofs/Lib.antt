@@ -6,5 +6,6 @@ pub mod Texts
 pub mod Pairs
 pub mod Asking
 pub mod Once
+pub mod LeftTexts
 pub mod LongAnswers
 pub mod Placing

@@ -1,5 +1,5 @@
 -- Lines of a log that are told piece by piece.
-use Rattle.std.proofs.Common.{◌≡◌, ◌≤◌, ◌+◌, ◌-◌, ◌^◌, ◌⊎◌, ℕ, zero, suc, Bool, true, false, cond, List, [], ◌∷◌, ◌++◌, length, take, drop, Option, Some, None, option_map, Ok, Err, refl, sym, subst, ap, ◌∙◌, arith, append_assoc, length-drop, inl, inr}
+use Rattle.std.proofs.Common.{◌≡◌, ◌≤◌, ◌<◌, ◌+◌, ◌-◌, ◌^◌, ◌⊎◌, ℕ, zero, suc, Bool, true, false, cond, List, [], ◌∷◌, ◌++◌, length, take, drop, Option, Some, None, option_map, Ok, Err, refl, sym, subst, ap, ◌∙◌, arith, append_assoc, length-drop, inl, inr}
 use Rattle.std.specs.Prelude.{min, option_and_then, slice_get, Result, IsTrue, MatchOption}
 use Rattle.std.proofs.lemmas.List.{take-append-le, drop-append-le, take_all}
 use Rattle.std.proofs.lemmas.List.Concat.{flat_map-append}
@@ -97,6 +97,8 @@ portion-stays seen more k name at count skip most p le there h =
       short = h.short;
       parts = ap (λ l. drop skip (content_of l)) (sym whole) ∙ h.parts ∙ ap (λ l. p.content ++ drop p.skip (content_of l)) rest;
       last = λ t. ((h.last t).0 ∙ ap (λ l. drop skip (content_of l)) whole, (h.last t).1 ∙ ap (λ (l : List Line). length l) whole);
+      full = h.full;
+      more = λ t. subst (λ (l : List Line). p.skip < length (content_of l)) rest (h.more t);
     }
 
 -- a look that gave the last portion gave all that was asked

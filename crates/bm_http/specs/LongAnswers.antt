@@ -1,5 +1,5 @@
 -- Answers that are told piece by piece.
-use Rattle.std.specs.Prelude.{ℕ, ◌-◌, List, [], ◌++◌, drop, Option, Some, None}
+use Rattle.std.specs.Prelude.{ℕ, ◌-◌, ◌<◌, ◌≤◌, List, [], ◌++◌, length, drop, Option, Some, None, IfSome}
 use Rattle.json.specs.Print.{escape}
 use Rattle.bm_lines.specs.Names.{Name}
 use Rattle.bm_lines.specs.Lines.{Line, content_of}
@@ -24,3 +24,13 @@ held (Some text) = text
 abbrev pub left_text : Option (List ℕ) → List Line → ℕ → ℕ → ℕ → Option (List ℕ) → List ℕ
 left_text front lines at end skip back =
     held front ++ (escaped skip (slice lines at (end - at)) ++ held back)
+
+-- what stands before or behind the lines has a byte at least
+abbrev pub IsText : Option (List ℕ) → Type 0
+IsText held = IfSome held (λ text. 0 < length text)
+
+-- The lines that are left are there, and where there are any, so is a byte of their text.
+abbrev pub AreLeft : List Line → ℕ → ℕ → ℕ → Type 0
+AreLeft lines at end skip =
+    (at ≤ end) × (end ≤ length lines)
+    × (at < end → skip < length (content_of (slice lines at (end - at))))

@@ -1,5 +1,6 @@
 //! The viewers of all lanes, of which each look takes one.
-ghost use Rattle.std.specs.Prelude.{◌≡◌, ◌∷◌, ◌++◌, [], map, Some, None, slice_get, slice_set, IfSome, IfOk, MatchOption};
+ghost use Rattle.std.specs.Prelude.{◌≡◌, ◌<◌, ◌+◌, ◌∷◌, ◌++◌, [], map, Some, None, slice_get, slice_set, vec_len, vec_capacity, IfSome, IfOk, MatchOption};
+ghost use Rattle.bm_http.specs.Placed.{IsAway, IsPlaced};
 
 use bm_lane::{Viewer, Yard};
 use std::alloc::{AllocError, Global};
@@ -33,7 +34,7 @@ pub struct LaneViewers<Y: Yard> {
 }
 
 impl<Y: Yard> Model for LaneViewers<Y> {
-    ghost use Rattle.std.specs.Prelude.{◌≡◌, [], List, Option};
+    ghost use Rattle.std.specs.Prelude.{◌≡◌, ◌≤◌, [], List, Option, vec_len, vec_capacity};
     ghost use Rattle.bm_lane.specs.Ends.{Watched};
     ghost use Rattle.bm_http.specs.Placed.{IsPlaced};
 
@@ -41,20 +42,37 @@ impl<Y: Yard> Model for LaneViewers<Y> {
 
     ghost view = { λ v. v.places.items };
 
-    ghost invariant = { λ v. IsPlaced v.places.items × (v.room.items ≡ []) };
+    ghost invariant = { λ v. IsPlaced v.places.items × (v.room.items ≡ [])
+        × (vec_len v.places ≤ vec_capacity v.room) };
 }
 
-/// Appends the viewer that lies at a place. None where none does, or memory is wanting.
+/// Places the viewer of the next lane.
+fn add<Y: Yard>(places: &mut Vec<Option<Viewer<Y>>>, viewer: Viewer<Y>) -> Result<(), ViewersError>
+    requires { IsPlaced places.old.items }
+    ensures added { IfOk result (λ _. places.new.items ≡ places.old.items ++ Some viewer ∷ []) }
+    ensures placed { IfOk result (λ _. IsPlaced places.new.items) }
+    ensures count { IfOk result (λ _. vec_len places.new ≡ vec_len places.old + 1) }
+{
+    if viewer.lane() != places.len() as u64 {
+        return Err(ViewersError::Lane);
+    }
+    if places.push(Some(viewer)).is_err() {
+        return Err(ViewersError::Memory);
+    }
+    Ok(())
+}
+
+/// Appends the viewer that lies at a place. None where none does.
 fn keep<Y: Yard>(viewers: &mut Vec<Viewer<Y>>, place: Option<Viewer<Y>>) -> Option<()>
-    ensures { IfSome result
+    requires { vec_len viewers.old < vec_capacity viewers.old }
+    ensures kept { MatchOption result (place ≡ None)
         (λ _. map Some viewers.old.items ++ place ∷ [] ≡ map Some viewers.new.items) }
+    ensures room { vec_capacity viewers.new ≡ vec_capacity viewers.old }
 {
     let Some(viewer) = place else {
         return None;
     };
-    if viewers.push(viewer).is_err() {
-        return None;
-    }
+    viewers.push_reserved(viewer);
     Some(())
 }
 
@@ -64,27 +82,12 @@ impl<Y: Yard> LaneViewers<Y> {
     pub fn new(alloc: Global, viewers: Vec<Viewer<Y>>) -> Result<LaneViewers<Y>, ViewersError>
         ensures { IfOk result (λ all. all ≡ map Some viewers.items) }
     {
-        let mut all = LaneViewers {
-            places: Vec::with_capacity(alloc, viewers.len())?,
-            room: Vec::with_capacity(alloc, viewers.len())?,
-        };
+        let mut places = Vec::with_capacity(alloc, viewers.len())?;
+        let room = Vec::with_capacity(alloc, viewers.len())?;
         for viewer in viewers {
-            all.add(viewer)?;
+            add(&mut places, viewer)?;
         }
-        Ok(all)
-    }
-
-    // Adds the viewer of the next lane.
-    fn add(&mut self, viewer: Viewer<Y>) -> Result<(), ViewersError>
-        ensures { IfOk result (λ _. self.new ≡ self.old ++ Some viewer ∷ []) }
-    {
-        if viewer.lane() != self.places.len() as u64 {
-            return Err(ViewersError::Lane);
-        }
-        if self.places.push(Some(viewer)).is_err() {
-            return Err(ViewersError::Memory);
-        }
-        Ok(())
+        Ok(LaneViewers { places, room })
     }
 
     /// Takes the viewer of a lane. None where another look has it, or there is no such lane.
@@ -110,9 +113,9 @@ impl<Y: Yard> LaneViewers<Y> {
         }
     }
 
-    /// The viewers, given back. None where a look has one.
+    /// The viewers, given back. None exactly where a look has one.
     pub fn into_vec(self) -> Option<Vec<Viewer<Y>>>
-        ensures { IfSome result (λ viewers. self ≡ map Some viewers.items) }
+        ensures { MatchOption result (IsAway self) (λ viewers. self ≡ map Some viewers.items) }
     {
         let LaneViewers { places, mut room } = self;
         for place in places {

@@ -52,16 +52,17 @@ pub struct LongAnswer<Y: Yard> {
 }
 
 impl<Y: Yard> Model for LongAnswer<Y> {
-    ghost use Rattle.std.specs.Prelude.{ℕ, List, ◌≤◌, ◌<◌, length, string_bytes};
-    ghost use Rattle.bm_http.specs.LongAnswers.{left_text, log_in};
+    ghost use Rattle.std.specs.Prelude.{ℕ, List, string_bytes};
+    ghost use Rattle.bm_http.specs.LongAnswers.{AreLeft, IsText, left_text, log_in};
 
     ghost Value = { List ℕ };
 
     ghost view = { λ s. left_text s.front (log_in s.mark.seen s.command (string_bytes s.name)) s.at
         s.end s.skip s.back };
 
-    ghost invariant = { λ s. (s.at ≤ s.end)
-        × (s.end ≤ length (log_in s.mark.seen s.command (string_bytes s.name))) };
+    ghost invariant = { λ s.
+        AreLeft (log_in s.mark.seen s.command (string_bytes s.name)) s.at s.end s.skip
+        × IsText s.front × IsText s.back };
 }
 
 /// A piece of a text: as it is, or still to be escaped.
@@ -163,8 +164,8 @@ impl<Y: Yard> LongAnswer<Y> {
         self.mark.lane()
     }
 
-    /// The next piece of the text, or none at its end. The viewer is one of the lane that the
-    /// answer began at, which has seen no less.
+    /// The next piece of the text, or none exactly at its end. Each piece has some of it. The viewer
+    /// is one of the lane that the answer began at, which has seen no less.
     ///
     /// # Errors
     ///
@@ -175,6 +176,8 @@ impl<Y: Yard> LongAnswer<Y> {
             × IsPrefix viewer.old.seen viewer.new.seen }
         ensures piece { MatchOption result (self.old ≡ [])
             (λ r. IfOk r (λ p. self.old ≡ piece_text p ++ self.new)) }
+        ensures some { IfSome result (λ r. 0 < length self.old) }
+        ensures shorter { IfSome result (λ r. IfOk r (λ p. length self.new < length self.old)) }
         ensures kept { IfSome result (λ r. IfErr r (λ e. self.new ≡ self.old)) }
         ensures bounded { IfSome result (λ r. IfOk r IsBounded) }
     {

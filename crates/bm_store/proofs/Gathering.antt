@@ -183,14 +183,16 @@ whole-portion ps off start before0 limit skip0 i before left skip most out sough
       short = short;
       parts = sym content ∙ sym (append-nil out) ∙ ap (λ l. out ++ content_of l) (sym rest);
       last = λ _. (content, ended.count ∙ ap length (sym same));
+      full = λ h. absurd (cc h);
+      more = λ h. absurd (cc h);
     }
 
 -- a part of what is asked of one block was appended
 pub cut-portion : (ps : List Placed) (off start before0 limit skip0 i : ℕ) (p : Placed) (before left skip told most : ℕ) (out out2 : List ℕ) → IsSought ps off start before0 → slice_get ps i ≡ Some p
-    → IsGathering ps start i before left skip before0 limit skip0 out [] → length out2 ≤ most
-    → out ++ drop skip (content_of (slice p.block before left)) ≡ out2 ++ drop told (content_of (slice p.block before left)) → skip < length (content_of (slice p.block before left)) → told ≤ length (content_of (slice p.block before left))
+    → IsGathering ps start i before left skip before0 limit skip0 out [] → length out2 ≤ most → most < length out2 + 4
+    → out ++ drop skip (content_of (slice p.block before left)) ≡ out2 ++ drop told (content_of (slice p.block before left)) → skip < length (content_of (slice p.block before left)) → told < length (content_of (slice p.block before left))
     → IsPortion (joined (map block_at ps)) off limit skip0 most (record { content = out2; lines = limit - left; skip = told; is_last = false })
-cut-portion ps off start before0 limit skip0 i p before left skip told most out out2 sought at h short cut some inside =
+cut-portion ps off start before0 limit skip0 i p before left skip told most out out2 sought at h short full cut some inside =
     let ls : List Line = joined (map block_at ps) in
     let part : List ℕ = content_of (slice p.block before left) in
     let more : List Line = asked ps (i + 1) (before - length p.block) (left - length (slice p.block before left)) in
@@ -209,8 +211,10 @@ cut-portion ps off start before0 limit skip0 i p before left skip told most out 
           ∙ sym (append_assoc out (drop skip part) (content_of more))
           ∙ ap (λ t. t ++ content_of more) cut
           ∙ append_assoc out2 (drop told part) (content_of more)
-          ∙ ap (λ t. out2 ++ t) (sym (drop-append-le told part (content_of more) inside))
+          ∙ ap (λ t. out2 ++ t) (sym (drop-append-le told part (content_of more) (omega arith)))
           ∙ ap (λ t. out2 ++ drop told t) (sym text)
           ∙ ap (λ l. out2 ++ drop told (content_of l)) (sym rest);
       last = λ h. absurd (cc h);
+      full = λ _. full;
+      more = λ _. omega (arith, ap (λ l. length (content_of l)) rest, ap length text, length-append part (content_of more), inside);
     }

@@ -1,4 +1,5 @@
 pub mod Books
+mod Characters
 pub mod Gathering
 pub mod Growing
 pub mod Looks

@@ -1,6 +1,6 @@
 //! A portion of the text of asked lines, which is bounded in bytes.
 
-ghost use Rattle.std.specs.Prelude.{◌≡◌, ◌++◌, ◌≤◌, ◌<◌, length, map, drop, IfOk, MatchOption, string_bytes};
+ghost use Rattle.std.specs.Prelude.{◌≡◌, ◌+◌, ◌++◌, ◌≤◌, ◌<◌, length, map, drop, IfOk, IfSome, MatchOption, string_bytes};
 ghost use Rattle.bm_session.specs.Trace.{joined};
 ghost use Rattle.bm_store.specs.Book.{placed};
 ghost use Rattle.bm_store.specs.Placing.{block_at};
@@ -25,7 +25,8 @@ pub struct Portion {
 }
 
 /// Appends what a text has behind its first `skip` bytes, as far as there is room for in `most`
-/// bytes. Answers how many bytes of the text were told, where some are left.
+/// bytes. Answers how many bytes of the text were told, where some are left. Then there is room
+/// for three bytes at most, since characters aren't cut.
 ///
 /// An error where memory is wanting, or where `skip` lies inside of a character.
 fn append_part(
@@ -36,11 +37,12 @@ fn append_part(
 ) -> Result<Option<usize>, AllocError>
     requires { length (string_bytes out.old) ≤ most }
     ensures short { IfOk result (λ _. length (string_bytes out.new) ≤ most) }
+    ensures full { IfOk result (λ r. IfSome r (λ _. most < length (string_bytes out.new) + 4)) }
     ensures text { IfOk result (λ r. MatchOption r
         (string_bytes out.new ≡ string_bytes out.old ++ drop skip text.now)
         (λ told. (string_bytes out.old ++ drop skip text.now
         ≡ string_bytes out.new ++ drop told text.now)
-        × (skip < length text.now) × (told ≤ length text.now))) }
+        × (skip < length text.now) × (told < length text.now))) }
 {
     if text.len() <= skip {
         return Ok(None);

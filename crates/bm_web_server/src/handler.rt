@@ -1,5 +1,5 @@
 //! What answers requests.
-ghost use Rattle.std.specs.Prelude.{◌≡◌, ◌++◌, ℕ, [], IfOk, List, MatchOption, Option};
+ghost use Rattle.std.specs.Prelude.{◌≡◌, ◌<◌, ◌++◌, ℕ, [], IfOk, IfSome, List, MatchOption, Option, length};
 ghost use Rattle.bm_http.specs.Replies.{Reply};
 ghost use Rattle.bm_http.specs.WholeOrLong.{reply_told};
 
@@ -40,13 +40,15 @@ pub trait Handler: Drop {
     ) -> Served<Self::Rest, Self::Source>
         ensures { gives self.now method.now target.now result.seen (reply_told text result.reply) };
 
-    /// The next piece of a long answer; none once all was told.
+    /// The next piece of a long answer, which has some of it; none once all was told.
     fn piece<R: Wait>(
         &self,
         rt: &R,
         alloc: Global,
         rest: &mut Self::Rest,
     ) -> Option<Result<Bytes, PieceError>>
-        ensures { MatchOption result (text rest.old ≡ [])
-            (λ r. IfOk r (λ b. text rest.old ≡ b ++ text rest.new)) };
+        ensures piece { MatchOption result (text rest.old ≡ [])
+            (λ r. IfOk r (λ b. text rest.old ≡ b ++ text rest.new)) }
+        ensures shorter { IfSome result
+            (λ r. IfOk r (λ b. length (text rest.new) < length (text rest.old))) };
 }

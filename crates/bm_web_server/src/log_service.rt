@@ -1,5 +1,6 @@
 //! The routes with the viewers that they look at.
 ghost use Rattle.std.specs.Prelude.{◌≡◌, ◌⊎◌, ◌<◌, IfOk, IfSome, length};
+ghost use Rattle.bm_http.specs.FirstLooks.{GoesOn, Tells, lane_asked, shown_by};
 ghost use Rattle.bm_http.specs.Replies.{unavailable};
 ghost use Rattle.bm_http.specs.Shown.{asked_by};
 ghost use Rattle.bm_http.specs.WholeOrLong.{reply_told};
@@ -7,8 +8,8 @@ ghost use Rattle.bm_web_server.specs.Serves.{Serves, TellsOf};
 
 use crate::handler::{Handler, Served};
 use bm_http::{
-    Answer, LaneViewers, LogRequest, LongAnswer, Lookup, PieceError, Routes, ViewersError,
-    WholeOrLong,
+    Answer, FirstLook, LaneViewers, LogRequest, LongAnswer, Lookup, PieceError, Routes,
+    ViewersError, WholeOrLong,
 };
 use bm_lane::{Mark, Viewer, Yard};
 use bytes::Bytes;
@@ -36,6 +37,24 @@ fn turns_of(alloc: Global, lanes: usize) -> Result<Vec<Mutex<()>>, AllocError> {
         turns.push(Mutex::new(()))?;
     }
     Ok(turns)
+}
+
+// What a lane's viewer shows of a request, and the mark of all that it has then seen.
+fn newest_look<'t, Y: Yard>(
+    alloc: Global,
+    request: LogRequest<'t>,
+    lanes: u64,
+    viewer: &mut Viewer<Y>,
+) -> (Result<FirstLook<'t, Y>, AllocError>, Mark<Y>)
+    requires some { 0 < lanes }
+    requires own { IfSome (lane_asked (asked_by request) lanes) (λ lane. viewer.old.lane ≡ lane) }
+    ensures on { GoesOn viewer.old viewer.new }
+    ensures newest { result.1 ≡ viewer.new }
+    ensures told { IfOk result.0
+        (λ g. Tells (asked_by request.entry) lanes result.1 (shown_by g)) }
+{
+    let look = request.first_look(alloc, lanes, viewer);
+    (look, viewer.mark())
 }
 
 impl<Y: Yard> LogService<Y> {
@@ -84,8 +103,7 @@ impl<Y: Yard> LogService<Y> {
         let Some(mut viewer) = self.take(rt, lane) else {
             return Err(AllocError);
         };
-        let look = request.first_look(alloc, self.lanes, &mut viewer);
-        let seen = viewer.mark();
+        let (look, seen) = newest_look(alloc, request, self.lanes, &mut viewer);
         self.put(rt, viewer);
         drop(turn);
         Ok(Served {

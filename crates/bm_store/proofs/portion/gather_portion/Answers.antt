@@ -1,4 +1,4 @@
-use Rattle.std.proofs.Common.{rules, ◌≡◌, ◌++◌, ◌-◌, ◌≤◌, ◌<◌, ◌⊎◌, ◌∙◌, ℕ, List, [], length, ap, arith, get_or, Some, None, drop, inl, inr}
+use Rattle.std.proofs.Common.{rules, ◌≡◌, ◌+◌, ◌++◌, ◌-◌, ◌≤◌, ◌<◌, ◌⊎◌, ◌∙◌, ℕ, List, [], length, ap, arith, get_or, Some, None, drop, inl, inr}
 use Rattle.std.specs.Prelude.{string_bytes, slice_get}
 use Rattle.bm_lines.specs.Lines.{content_of}
 use Rattle.bm_session.specs.Trace.{slice}
@@ -36,11 +36,12 @@ returns-in-Some c =
     let is : c.part-text.result.now ≡ part = c.part-text.ensures in
     let cut = rw c.in-Some.is at c.in_ok-told.ensures.text in
     let same : string_bytes c.loop-at.content ++ drop c.loop-at.skip part ≡ string_bytes c.append_part.new.out ++ drop c.in-Some.told part = rw is at cut.0 in
+    let full : c.args.most < length (string_bytes c.append_part.new.out) + 4 = rw c.in-Some.is at c.in_ok-told.ensures.full in
     let some : c.loop-at.skip < length part = rw is at cut.1 in
-    let inside : c.in-Some.told ≤ length part = rw is at cut.2 in
+    let inside : c.in-Some.told < length part = rw is at cut.2 in
     let whole =
     cut-portion blocks c.args.offset c.seek-start.result.0 c.seek-start.result.1 c.args.limit c.args.skip i here c.loop-at.before c.loop-at.left c.loop-at.skip c.in-Some.told c.args.most
-    (string_bytes c.loop-at.content) (string_bytes c.append_part.new.out) c.seek-start.ensures.rest at c.loop-at.invariant.gathering c.in_ok-told.ensures.short same some inside in
+    (string_bytes c.loop-at.content) (string_bytes c.append_part.new.out) c.seek-start.ensures.rest at c.loop-at.invariant.gathering c.in_ok-told.ensures.short full same some inside in
     rw (← c.from_string.ensures) at whole
 
 pub returns : goal.returns
