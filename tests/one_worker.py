@@ -1,4 +1,5 @@
-"""A master of one worker for `tests/left_processes`: it takes logins and answers what it is told."""
+"""A master of one worker for `tests/left_processes` and `tests/held_pipes`: it takes logins and
+answers what it is told."""
 
 import asyncio
 
@@ -38,12 +39,16 @@ class Listener:
         else:
             assert command not in self.ends, "something was told behind the end"
             self.said.setdefault(command, []).extend(message["args"])
-        await socket.send(wire.packed({"seq_number": message["seq_number"], "op": "response", "result": None}))
+        await self.answer(socket, message["seq_number"])
+
+    async def answer(self, socket, number):
+        """Answers a request of this number."""
+        await socket.send(wire.packed({"seq_number": number, "op": "response", "result": None}))
 
 
-async def worker_under_python():
+async def worker_under_python(listener=None):
     """The socket of a worker that has logged in here, the server, the worker and who listens."""
-    listener = Listener()
+    listener = listener or Listener()
     server, port = await wire.served(listener.serve)
     worker = await asyncio.create_subprocess_exec(WORKER, f"127.0.0.1:{port}", "w0", "p", env=processes.environment())
     await asyncio.wait_for(listener.known.wait(), MOST_SECONDS)

@@ -42,14 +42,14 @@ class Watched:
         """What is timed begins now. It may have begun a moment ago."""
         self.begun = time.monotonic()
 
-    def took(self, promised, least=None):
+    def took(self, promised, least=None, share=SHARE):
         """Asks that it took the promised seconds until now: no less, and not much more."""
         early = EARLY_SECONDS + TIMES * self.latest
-        self.is_right(time.monotonic() - self.begun, promised, promised - early if least is None else least)
+        self.is_right(time.monotonic() - self.begun, promised, promised - early if least is None else least, share)
 
-    def is_right(self, took, promised, least):
+    def is_right(self, took, promised, least, share=SHARE):
         """Asks that these seconds are those that are promised: no less than the least, and not much more."""
-        most = promised * (1 + SHARE) * self.stretch + TIMES * self.latest
+        most = promised * (1 + share) * self.stretch + TIMES * self.latest
         assert least <= took <= most, f"{promised} s are promised, and it took {took:.2f} (at most {most:.2f} here)"
 
     def __exit__(self, *_):

@@ -7,7 +7,7 @@ use Rattle.bm_outbox.specs.Faults.{fault_line}
 use Rattle.bm_outbox.specs.Headers.{exit_line}
 use Rattle.bm_outbox.specs.OutboxEntries.{Tells}
 use Rattle.bm_outbox.specs.Opening.{Closes, Fails, IsHeader, waiting_texts}
-use Rattle.bm_outbox.specs.Stopping.{AreHeaders, Stops, ending_of, stop_lines}
+use Rattle.bm_outbox.specs.Stopping.{AreHeaders, ClosesHeld, Stops, ending_of, held_line, stop_lines}
 use Rattle.bm_outbox.specs.Telling.{TellsNext, waits_on}
 use Rattle.bm_outbox.specs.declared.ending.Ending.TheVariants.{Code, CannotStart}
 use Rattle.bm_outbox.specs.declared.outbox_entry.OutboxEntry.{OutboxEntry}
@@ -37,6 +37,12 @@ told_first waiting first rest c c2 t is other h =
 pub closes : (code : ExitCode) (said : List Said) (old mid new : List OutboxEntry) → IsHeader (exit_line code.code) said
     → mid ≡ old ++ waiting_texts code.command said → new ≡ mid ++ entry.End code.command (Code code) ∷ [] → Closes code old new
 closes code said old mid new header is ended = (said, header, ended ∙ ap (λ m. m ++ entry.End code.command (Code code) ∷ []) is)
+
+-- the line that says that a pipe was held open waits, and then all that closes it
+pub closes_held : (k : ℕ) (code : ExitCode) (said : Said) (old mid new : List OutboxEntry) → k ≡ code.command → said.letter ≡ H → said.text ≡ held_line
+    → mid ≡ old ++ entry.Text k said ∷ [] → Closes code mid new → ClosesHeld code old new
+closes_held k code said old mid new same letter text is closed =
+    (said, letter, text, subst (λ m. Closes code m new) (is ∙ ap (λ j. old ++ entry.Text j said ∷ []) same) closed)
 
 -- the line that says why waits, and then the end does
 pub fails : (k : ℕ) (why : StartFault) (said : Said) (old mid new : List OutboxEntry) → said.letter ≡ H → said.text ≡ fault_line why

@@ -9,6 +9,7 @@ use Rattle.bm_outbox.specs.declared.ending.Ending.{Ending}
 use Rattle.bm_outbox.specs.declared.ending.Ending.TheVariants as ending
 use Rattle.bm_outbox.specs.declared.outbox_entry.OutboxEntry.{OutboxEntry}
 use Rattle.bm_outbox.specs.declared.outbox_entry.OutboxEntry.TheVariants as entry
+use Rattle.bm_outbox.specs.declared.pipes.ExitCode.{ExitCode}
 use Rattle.bm_outbox.specs.declared.said.Said.{Said}
 use Rattle.bm_outbox.specs.declared.stopping.Leftover.{Leftover}
 use Rattle.bm_outbox.specs.declared.stopping.Leftover.TheVariants as leftover
@@ -68,12 +69,23 @@ abbrev pub Stops : ℕ → StopCause → Leftover → List OutboxEntry → List 
 Stops k why left old new = (said : List Said) × AreHeaders (stop_lines why left) said
     × (new ≡ old ++ waiting_texts k said ++ entry.End k (ending_of why) ∷ [])
 
+-- the line that says that a pipe was held open, and is waited for no more
+abbrev pub held_line : List ℕ
+held_line = codes "pipe closed: held open for 60 seconds\n"
+
+-- that line waits behind all that was told, and the end as of any other command behind it
+abbrev pub ClosesHeld : ExitCode → List OutboxEntry → List OutboxEntry → Type 0
+ClosesHeld code old new = (said : Said) × (said.letter ≡ H) × (said.text ≡ held_line)
+    × Closes code (old ++ entry.Text code.command said ∷ []) new
+
 -- an exit code is told of the command whose pipes gave it
 abbrev pub IsOwnEnd : ℕ → CommandEnd → Type 0
 IsOwnEnd k (command_end.Code code) = code.command ≡ k
+IsOwnEnd k (command_end.Held code) = code.command ≡ k
 IsOwnEnd k (command_end.Stopped why left) = ⊤
 
 -- How a command ended is told behind all that was told of it.
 abbrev pub Ends : ℕ → CommandEnd → List OutboxEntry → List OutboxEntry → Type 0
 Ends k (command_end.Code code) old new = (code.command ≡ k) × Closes code old new
+Ends k (command_end.Held code) old new = (code.command ≡ k) × ClosesHeld code old new
 Ends k (command_end.Stopped why left) old new = Stops k why left old new

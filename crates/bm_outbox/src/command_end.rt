@@ -8,6 +8,9 @@ use crate::stopping::{Leftover, StopCause};
 pub enum CommandEnd {
     /// By itself: its pipes gave this exit code.
     Code(ExitCode),
+    /// By itself, and its pipes gave this exit code. One of them was held open, and is waited for
+    /// no more.
+    Held(ExitCode),
     /// Its worker ended it for this reason, and this may go on of it.
     Stopped(StopCause, Leftover),
 }

@@ -3,8 +3,9 @@
 //!
 //! Promised: what waits is told in order, under the next numbers. What is said of a pipe is its
 //! text, in order, with the same lines. An exit code is told only by an [`ExitCode`], which only
-//! [`Pipes`] give that noted the ends of both pipes of its command. A body could still want memory.
-//! A driver could end a pipe that it has not read to its end.
+//! [`Pipes`] give that noted the ends of both pipes of its command, or gave them up after a minute.
+//! A body could still want memory. A driver could end a pipe that it has not read to its end, or
+//! count a minute wrongly.
 #![tactic(auto)]
 
 mod command_end;
@@ -32,7 +33,7 @@ pub use keepalive::{Keepalive, after_silence};
 pub use outbox::Outbox;
 pub use outbox_entry::OutboxEntry;
 pub use pipe_texts::{PipeEnd, PipeTexts};
-pub use pipes::{ExitCode, Pipes};
+pub use pipes::{ExitCode, Pipes, held_ms};
 pub use progress::Progress;
 pub use said::{MOST_BYTES, Said};
 pub use session::begin;

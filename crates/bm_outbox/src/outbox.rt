@@ -6,7 +6,7 @@ ghost use Rattle.bm_outbox.specs.Faults.{fault_line};
 ghost use Rattle.bm_outbox.specs.Headers.{exit_line};
 ghost use Rattle.bm_outbox.specs.OutboxEntries.{Tells, TellsOwnCode};
 ghost use Rattle.bm_outbox.specs.Opening.{Closes, Fails, IsHeader, Opens, waiting_texts};
-ghost use Rattle.bm_outbox.specs.Stopping.{Ends, IsOwnEnd, Stops};
+ghost use Rattle.bm_outbox.specs.Stopping.{ClosesHeld, Ends, IsOwnEnd, Stops};
 ghost use Rattle.bm_outbox.specs.Telling.{TellsNext};
 
 use crate::command_end::CommandEnd;
@@ -17,7 +17,7 @@ use crate::pipes::ExitCode;
 use crate::progress::Progress;
 use crate::said::Said;
 use crate::start_fault::StartFault;
-use crate::stop_lines::{ending_of, stop_texts};
+use crate::stop_lines::{ending_of, held_text, stop_texts};
 use crate::stopping::{Leftover, StopCause};
 use crate::words::{exit_line, fault_line, words_line};
 use bm_lines::{Letter, Text};
@@ -116,6 +116,24 @@ impl Outbox {
         Ok(())
     }
 
+    /// Tells the end of the command whose pipes gave this exit code, one of which was held open.
+    /// The line that says so waits behind the others, and all that closes a command behind it.
+    ///
+    /// # Errors
+    ///
+    /// Want of memory. A part of the lines may wait then.
+    pub fn close_held(&mut self, alloc: Global, code: ExitCode) -> Result<(), AllocError>
+        ensures { OnOk result (ClosesHeld code self.old self.new) }
+    {
+        let text = OutboxEntry::Text {
+            command: code.command(),
+            said: held_text(alloc)?,
+        };
+        self.push(text)?;
+        self.close(alloc, code)?;
+        Ok(())
+    }
+
     // Puts texts of a command behind the others.
     fn push_all(&mut self, command: u64, texts: Vec<Said>) -> Result<(), AllocError>
         ensures { OnOk result (self.new ≡ self.old ++ waiting_texts command texts.items) }
@@ -160,6 +178,7 @@ impl Outbox {
     {
         match end {
             CommandEnd::Code(code) => self.close(alloc, code),
+            CommandEnd::Held(code) => self.close_held(alloc, code),
             CommandEnd::Stopped(why, left) => self.stop(alloc, command, why, left),
         }
     }

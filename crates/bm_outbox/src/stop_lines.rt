@@ -1,8 +1,8 @@
-//! The last header lines of a command that its worker ends.
+//! The last header lines of a command that its worker ends, or whose pipes it gives up.
 
 ghost use Rattle.std.specs.Prelude.{◌≡◌, ◌≤◌, IfOk, length};
 ghost use Rattle.bm_lines.specs.declared.letter.Letter.TheVariants.{H};
-ghost use Rattle.bm_outbox.specs.Stopping.{AreHeaders, ending_of, stop_lines};
+ghost use Rattle.bm_outbox.specs.Stopping.{AreHeaders, ending_of, held_line, stop_lines};
 
 use crate::ending::Ending;
 use crate::said::Said;
@@ -34,6 +34,14 @@ pub(crate) fn stop_texts(
     }
     texts.push(header(alloc, why.line())?)?;
     Ok(texts)
+}
+
+/// What is said of a command whose pipes were held open, and are waited for no more.
+pub(crate) fn held_text(alloc: Global) -> Result<Said, AllocError>
+    ensures letter { IfOk result (λ said. said.letter ≡ H) }
+    ensures text { IfOk result (λ said. said.text ≡ held_line) }
+{
+    header(alloc, "pipe closed: held open for 60 seconds\n")
 }
 
 /// A line as a header.

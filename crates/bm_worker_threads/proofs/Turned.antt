@@ -52,6 +52,7 @@ told_end (Err e) at all running process end k old new within is texts ended left
 -- its end is its own
 pub own_end : (process : RunningCommand) (end : CommandEnd) (k : ℕ) → process.ended ≡ Some end → k ≡ process.pipes.command → IsOwnEnd k end
 own_end process (command_end.Code code) k ended same = subst (λ e. giver process.pipes.command e ≡ process.pipes.command) ended process.own ∙ sym same
+own_end process (command_end.Held code) k ended same = subst (λ e. giver process.pipes.command e ≡ process.pipes.command) ended process.own ∙ sym same
 own_end process (command_end.Stopped why left) k ended same = tt
 
 -- it has something to tell

@@ -140,9 +140,9 @@ impl<S: Read + Write + Drop, K: MaskKeys + Drop> BuildWorker<S, K> {
 
     /// Sends what is next, and answers whether there was anything that can be sent.
     fn send_next<R: Host>(&mut self, rt: &R, alloc: Global) -> Result<bool, ConnectionEnd> {
+        self.processes.look(rt);
         if self.session.outbox.is_empty() {
             let may_say = self.session.unanswered_bytes() < MOST_UNANSWERED_BYTES;
-            self.processes.look(rt);
             let outbox = &mut self.session.outbox;
             let next = self.processes.next(rt, alloc, may_say, outbox);
             if next.is_err() {

@@ -14,7 +14,7 @@ pub(crate) fn millis_since<R: Clock>(rt: &R, begun: Option<Instant>) -> u64 {
 }
 
 /// The milliseconds of a time.
-fn whole_millis(time: Duration) -> u64 {
+pub(crate) fn whole_millis(time: Duration) -> u64 {
     let millis = time.as_secs().saturating_mul(1_000);
     millis.saturating_add(u64::from(time.subsec_millis()))
 }

@@ -3,12 +3,13 @@
 //!
 //! What is told is put into the session's outbox, and `bm_worker_session` sends it. Promised: of
 //! which command is told next and what, and that a command begins with the line of its words. An
-//! exit code is told of the command whose pipes have both ended. Of one that its worker ends, why
-//! that is stands before its end, and nothing of it is told behind that.
+//! exit code is told of the command whose pipes have both ended, or were given up behind a minute;
+//! a line says the latter. Of one that its worker ends, why that is stands before its end, and
+//! nothing of it is told behind that.
 //!
-//! A body could still leave mail lying, read no pipe, end nothing that a command started, or never
-//! come back. A thread, a pipe, a process and a script have no contract: the tests of `worker_tests`
-//! and of the programs stand in for that.
+//! A body could still leave mail lying, read no pipe, count that minute wrongly, end nothing that a
+//! command started, or never come back. A thread, a pipe, a process and a script have no contract:
+//! the tests of `worker_tests` and of the programs stand in for that.
 #![tactic(auto)]
 
 mod arguments;

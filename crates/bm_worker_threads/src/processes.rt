@@ -4,6 +4,7 @@ ghost use Rattle.std.specs.Prelude.{◌≡◌, ◌<◌, length, map, IfOk, IfSom
 ghost use Rattle.bm_outbox.specs.Opening.{Starts};
 ghost use Rattle.bm_worker_threads.specs.Turns.{ready_of, turn_of, IsReady, TellsAt, TellsTurn};
 
+use crate::elapsed::{millis_since, whole_millis};
 use crate::host::Host;
 use crate::mailbox::{PipeEvent, ProcessEvent, WorkerMail};
 use crate::marks::Marks;
@@ -35,6 +36,9 @@ const LAST_PAUSE_MS: u64 = 64;
 /// After how many milliseconds at the latest, while a command is being ended.
 const STOP_PAUSE_MS: u64 = 4;
 
+/// How many milliseconds lie between two glances at the processes of commands whose pipes are open.
+const GLANCE_MS: u64 = 1_000;
+
 /// The processes of the commands that run, in the order of their turns, and those whose end nobody
 /// is told of.
 #[derive(Drop)]
@@ -48,6 +52,8 @@ pub struct Processes {
     pub(crate) marks: Marks,
     started: u64,
     pub(crate) pause_ms: u64,
+    /// When the last glance at all commands was. None where none runs.
+    glanced: Option<Instant>,
     pub owner: Sender<WorkerMail>,
     mailbox: Receiver<WorkerMail>,
 }
@@ -64,16 +70,17 @@ impl Processes {
             marks,
             started: 0,
             pause_ms: FIRST_PAUSE_MS,
+            glanced: None,
             owner,
             mailbox,
         })
     }
 
-    /// The mail that comes next. The answer is None where a process that is about to end is to be
-    /// looked at again first.
+    /// The mail that comes next. The answer is None where a process that is about to end, or may
+    /// have ended, is to be looked at again first.
     pub fn wait<R: Wait + Clock>(&mut self, rt: &R) -> Option<WorkerMail> {
         if !self.is_ending() {
-            return self.mailbox.recv(rt).ok();
+            return self.wait_for_glance(rt);
         }
         let pause = Duration::from_millis(self.pause_ms);
         let most = if self.is_stopping() {
@@ -82,6 +89,18 @@ impl Processes {
             LAST_PAUSE_MS
         };
         self.pause_ms = most.min(self.pause_ms.saturating_mul(2));
+        self.mailbox.recv_timeout(rt, pause).ok()
+    }
+
+    /// The mail that comes next, if any does before the next glance at the commands that run. There
+    /// is no such glance where none runs, or the clock fails.
+    fn wait_for_glance<R: Wait + Clock>(&self, rt: &R) -> Option<WorkerMail> {
+        let passed_ms = millis_since(rt, self.glanced);
+        if self.running.is_empty() || passed_ms == u64::MAX {
+            return self.mailbox.recv(rt).ok();
+        }
+        let pause_ms = GLANCE_MS.saturating_sub(passed_ms).max(1);
+        let pause = Duration::from_millis(pause_ms);
         self.mailbox.recv_timeout(rt, pause).ok()
     }
 
@@ -155,6 +174,8 @@ impl Processes {
             pipes: Pipes::open(command),
             texts: VecDeque::new(alloc),
             permits,
+            has_heard: false,
+            held_ms: None,
             stop: None,
             ended: None,
         };
@@ -218,7 +239,8 @@ impl Processes {
         thread::spawn(rt, move || reader.run(&handle, alloc, pipe)).is_ok()
     }
 
-    /// Keeps what a pipe's thread tells until its command's turn.
+    /// Keeps what a pipe's thread tells until its command's turn. That of a pipe that is waited for
+    /// no more is passed over.
     pub fn keep<R: Host>(
         &mut self,
         rt: &R,
@@ -233,11 +255,17 @@ impl Processes {
             return Ok(());
         };
         let process = &mut self.running[at];
+        if !process.is_heard() {
+            return Ok(());
+        }
         match told.event {
-            PipeEvent::Text(said) => match process.texts.push_back(said) {
-                Ok(()) => Ok(()),
-                Err(_) => Err(AllocError),
-            },
+            PipeEvent::Text(said) => {
+                process.has_heard = true;
+                match process.texts.push_back(said) {
+                    Ok(()) => Ok(()),
+                    Err(_) => Err(AllocError),
+                }
+            }
             PipeEvent::End(end) => {
                 process.pipes.end(end);
                 self.pause_ms = FIRST_PAUSE_MS;
@@ -270,17 +298,39 @@ impl Processes {
         }
     }
 
-    /// Looks at the processes that are about to end.
+    /// Looks at the processes that are about to end, and once a second at all.
     pub fn look<R: Clock>(&mut self, rt: &R) {
         self.killed
             .retain_mut(|child| matches!(child.try_wait(), Ok(None)));
         self.sweepers
             .retain_mut(|sweeper| sweeper.look() == Sweep::Going);
+        let glance = self.glance(rt);
         for process in self.running.iter_mut() {
             if process.is_ending() {
                 process.look(rt);
+            } else if let Some(passed_ms) = glance {
+                process.glance(passed_ms);
             }
         }
+    }
+
+    /// How many milliseconds have passed since the last glance at the commands that run, where the
+    /// next one is due.
+    fn glance<R: Clock>(&mut self, rt: &R) -> Option<u64> {
+        if self.running.is_empty() {
+            self.glanced = None;
+            return None;
+        }
+        let now = Instant::now(rt).ok()?;
+        let passed_ms = match self.glanced {
+            Some(last) => whole_millis(now.duration_since(last)),
+            None => GLANCE_MS,
+        };
+        if passed_ms < GLANCE_MS {
+            return None;
+        }
+        self.glanced = Some(now);
+        Some(passed_ms)
     }
 
     /// Puts a text of the command at this place into the outbox, and permits its pipes another one;

@@ -37,9 +37,10 @@ const DONE: u8 = 0;
 /// The exit status of a worker that gave up.
 const GIVEN_UP: u8 = 1;
 
-/// What a worker logs in with.
+/// What a worker logs in with, and the host that its handshake names.
 #[derive(Clone, Copy)]
 pub struct Login<'a> {
+    pub host: &'a str,
     pub name: &'a str,
     pub password: &'a str,
 }
@@ -53,11 +54,13 @@ type LinkedWorker<S, R> = BuildWorker<ReadyStream<S>, RandomKeys<R>>;
 /// None where that fails. A read of its streams is to wait for some seconds at the most, since a
 /// login waits for its answer. What commands of workers left that are no longer there is killed
 /// first, and all that its own commands left at the end. The tries last for a minute where a
-/// session is named, which may be resumed, and was begun.
+/// session is named, which may be resumed, and was begun. `host` is the master's name, as it was
+/// dialled.
 pub fn work_run<S, D, R>(
     rt: &R,
     dial: D,
     marks: Marks,
+    host: &str,
     name: &str,
     password: &str,
     session: Option<&str>,
@@ -80,7 +83,11 @@ where
     requires short { AreShort (name.now ∷ password.now ∷ []) }
 {
     let alloc = rt.alloc();
-    let login = Login { name, password };
+    let login = Login {
+        host,
+        name,
+        password,
+    };
     if !has_threads(rt, alloc) {
         return GIVEN_UP;
     }
@@ -155,7 +162,7 @@ where
     if thread::spawn(rt, move || watch.run(&handle)).is_err() {
         return ConnectionEnd::Lost;
     }
-    let Ok(link) = WorkerLink::open(alloc, *rt, ready) else {
+    let Ok(link) = WorkerLink::open(alloc, *rt, ready, login.host) else {
         return ConnectionEnd::Lost;
     };
     let attached = match worker.log_in(rt, alloc, link, login.name, login.password) {

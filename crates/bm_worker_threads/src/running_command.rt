@@ -5,7 +5,7 @@ ghost use Rattle.bm_worker_threads.specs.Givers.{giver};
 
 use crate::elapsed::millis_since;
 use crate::sweeping::Sweeper;
-use bm_outbox::{CommandEnd, Pipes, Ready, Said, StopCause, Sweep, stop_end};
+use bm_outbox::{CommandEnd, Pipes, Ready, Said, StopCause, Sweep, held_ms, stop_end};
 use crossbeam_channel::Sender;
 use std::collections::VecDeque;
 use std::process::Child;
@@ -29,6 +29,11 @@ pub(crate) struct RunningCommand {
     pub(crate) pipes: Pipes,
     /// What its pipes gave and isn't told yet.
     pub(crate) texts: VecDeque<Said>,
+    /// Whether a text came since the last glance at its process.
+    pub(crate) has_heard: bool,
+    /// For how many milliseconds its pipes were held open since its process was seen to have ended.
+    /// None before that.
+    pub(crate) held_ms: Option<u64>,
     /// Each of these permits one more text. Without them its pipes' threads end.
     pub(crate) permits: Sender<()>,
     /// What is done to end it, where anything is.
@@ -45,6 +50,35 @@ impl RunningCommand {
     /// isn't known yet.
     pub(crate) fn is_ending(&self) -> bool {
         self.ended.is_none() && (self.pipes.are_over() || self.stop.is_some())
+    }
+
+    /// Whether what its pipes give is still told. It isn't once both count as ended, or the end of
+    /// the command is known: what comes then is of something else.
+    pub(crate) fn is_heard(&self) -> bool {
+        self.ended.is_none() && !self.pipes.are_over()
+    }
+
+    /// Looks whether its process has ended although its pipes are open, so many milliseconds after
+    /// the last such glance. How it ended is known once they were held open for too long.
+    pub(crate) fn glance(&mut self, passed_ms: u64) {
+        if !self.is_heard() {
+            return;
+        }
+        let code = match self.child.try_wait() {
+            Ok(None) => return,
+            Ok(Some(status)) => status.code(),
+            Err(_) => None,
+        };
+        let is_blocked = !self.texts.is_empty() && !self.has_heard;
+        self.has_heard = false;
+        let held = match self.held_ms {
+            Some(before) => held_ms(before, passed_ms, is_blocked),
+            None => 0,
+        };
+        self.held_ms = Some(held);
+        if self.pipes.give_up(held) {
+            self.ended = Some(CommandEnd::Held(self.pipes.exit_code(code)));
+        }
     }
 
     /// Looks how the process ended, where that can be told: -1 where it gave no exit code.

@@ -45,6 +45,7 @@ fn main(rt: HostRuntime) -> ExitCode {
         &rt,
         dial,
         marks,
+        arguments.address,
         arguments.name,
         arguments.password,
         session,

@@ -296,6 +296,29 @@ fn header_lines_stand_first_and_last(rt: HostRuntime) -> Result<(), Fail> {
     Ok(())
 }
 
+/// The lines before the exit code of a command of which a pipe was held open.
+static HELD: [&[u8]; 2] = [
+    b"\x84\xaaseq_number\x00\xa2op\xa6update\xaacommand_id\xa10\xa4args\x91\x92\xa6header\xd9\x26pipe closed: held open for 60 seconds\n",
+    b"\x84\xaaseq_number\x01\xa2op\xa6update\xaacommand_id\xa10\xa4args\x91\x92\xa6header\xd9\x23program finished with exit code -1\n",
+];
+
+/// Whether the end of command 0 waits, whose pipes were given up.
+fn gives_up(alloc: Global, outbox: &mut Outbox) -> bool {
+    let mut pipes = Pipes::open(0);
+    pipes.give_up(60_000)
+        && pipes.are_over()
+        && outbox.close_held(alloc, pipes.exit_code(None)).is_ok()
+}
+
+#[test]
+fn a_held_pipe_is_told_before_the_exit_code(rt: HostRuntime) -> Result<(), Fail> {
+    let alloc = rt.alloc();
+    let mut worker = worker_of(alloc).ok_or("no command")?;
+    let mut outbox = Outbox::new(alloc);
+    assert!(rt; gives_up(alloc, &mut outbox) && tells_each(alloc, &mut worker, &mut outbox, &HELD));
+    Ok(())
+}
+
 /// The requests of a command whose program is missing, in their order.
 static UNSTARTED: [&[u8]; 3] = [
     b"\x84\xaaseq_number\x00\xa2op\xa6update\xaacommand_id\xa10\xa4args\x91\x92\xa6header\xa7echo z\n",

@@ -97,7 +97,7 @@ where
             is_first = false;
             stream
         };
-        work_run(&rt, dial, marks, "w0", "p", None)
+        work_run(&rt, dial, marks, "master", "w0", "p", None)
     });
     worker.ok()
 }

@@ -57,6 +57,8 @@ pub(crate) enum Row {
     Logs(&'static str, Option<Results>),
     /// The lane was cut, taken down and taken up again.
     IsGivenUp,
+    /// That happened twice, with an order between.
+    IsGivenUpTwice,
 }
 
 fn is_noted<Y: Yard, R: Wait>(rt: &R, reader: &mut ReaderEnd<Y>) -> bool {
@@ -85,6 +87,23 @@ fn is_given_up(trace: &[Event]) -> bool {
     matches!(
         trace,
         [Event::Up, Event::Go, Event::Cut, Event::Down, Event::Up]
+    )
+}
+
+fn is_given_up_twice(trace: &[Event]) -> bool {
+    matches!(
+        trace,
+        [
+            Event::Up,
+            Event::Go,
+            Event::Cut,
+            Event::Down,
+            Event::Up,
+            Event::Go,
+            Event::Cut,
+            Event::Down,
+            Event::Up
+        ]
     )
 }
 
@@ -186,6 +205,7 @@ impl<Y: Yard, W: Wait + Drop> LinkedLane<Y, W> {
             Row::IsCut => reader.is_cut(),
             Row::Logs(content, ended) => self.logged("stdio", content) && self.ended() == ended,
             Row::IsGivenUp => is_given_up(reader.trace()),
+            Row::IsGivenUpTwice => is_given_up_twice(reader.trace()),
         }
     }
 

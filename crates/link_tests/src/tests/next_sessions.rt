@@ -51,7 +51,7 @@ fn an_unheard_session_is_never_resumed(rt: HostRuntime) {
         Row::Calls(Call::Login, Answer::Place(1)),
         Row::Calls(Call::Attach, BEGUN),
         Row::WroteAll(&[NEW]),
-        Row::IsGivenUp,
+        Row::IsGivenUpTwice,
         Row::Calls(Call::Start, Answer::Started(2)),
     ];
     assert!(rt; plays(&rt, rt.alloc(), 32, true, &ROWS));

@@ -243,7 +243,7 @@ pub(super) fn logs_in_by(
     let Ok(stream) = script_of(alloc, AGREED, &[answered.bytes]) else {
         return false;
     };
-    match WorkerLink::open(alloc, Zeros {}, stream) {
+    match WorkerLink::open(alloc, Zeros {}, stream, "master") {
         Ok(link) => sends(alloc, link, next, login, answered.attached),
         Err(_) => false,
     }
