@@ -54,6 +54,15 @@ event_of (event.Lost c) = Some worker.Lost
 event_of (event.Declined f from) = None
 event_of event.Filled = None
 
+-- a login was declined
+abbrev pub declines : LaneEvent → Bool
+declines (event.Declined f from) = true
+declines event.Attached = false
+declines event.Resumed = false
+declines (event.Cut c) = false
+declines (event.Lost c) = false
+declines event.Filled = false
+
 -- the lane takes nothing more: that was refused, or a session or a login ended by it
 abbrev pub fills : LaneEvent → Bool
 fills (event.Lost loss.Full) = true

@@ -21,6 +21,7 @@ pub mod ByteCount
 -- is read no more until something comes.
 pub mod StopOrders
 pub mod ReadWatch
--- What a gate of a pool answers, and how many connections may wait for their login.
+-- What a gate of a pool answers. How many connections may wait for their login, and which of them
+-- makes room for another.
 pub mod Gates
 pub mod LoginLimits

@@ -23,11 +23,13 @@ refusal_of (link.Lane (lane.Session session.AlreadyUp)) = why.AlreadyUp
 refusal_of (link.Lane (lane.Session session.Full)) = why.Full
 refusal_of f = why.Memory
 
--- the same before a login, where a failed stream may have been the master's end or came too late
-abbrev pub refusal_in : Bool → Bool → LinkFault → LoginRefusal
-refusal_in true is_late link.Stream = why.Closing
-refusal_in false true link.Stream = why.Late
-refusal_in is_over is_late f = refusal_of f
+-- The same before a login. A failed stream may have been the master's end, or its place was given to
+-- another connection, or it came too late.
+abbrev pub refusal_in : Bool → Bool → Bool → LinkFault → LoginRefusal
+refusal_in true is_put_out is_late link.Stream = why.Closing
+refusal_in false true is_late link.Stream = why.Crowded
+refusal_in false false true link.Stream = why.Late
+refusal_in is_over is_put_out is_late f = refusal_of f
 
 -- the line that tells of a connection that was not taken up, by the name of its login, if that is
 -- told

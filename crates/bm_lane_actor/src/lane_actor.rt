@@ -80,8 +80,8 @@ fn arena_of(alloc: Global) -> Bump {
 /// it wakes the gate. What happens to the lane it tells before it takes or answers a request after
 /// that.
 ///
-/// Then the mailbox is shut, the worker is told by a close frame, the session is given up, and the
-/// lane's end comes back.
+/// Then the mailbox is shut, and a login that waits is told `busy`. The worker is told by a close
+/// frame, the session is given up, and the lane's end comes back.
 pub fn serve_lane<Y, T, R>(
     rt: &R,
     alloc: Global,
@@ -119,6 +119,7 @@ where
         }
     }
     mailbox.shut();
+    actor.put_off_waiting();
     actor.leave()
 }
 
@@ -217,6 +218,10 @@ where
             }
             LaneRequest::Seen(command) => self.commands.end(command),
             LaneRequest::Settle(answer) => {
+                let _ = answer.send(self.rt, ());
+            }
+            LaneRequest::PutOff(answer) => {
+                self.put_off_waiting();
                 let _ = answer.send(self.rt, ());
             }
             LaneRequest::Look => {}

@@ -152,6 +152,17 @@ where
         self.gate.wake(self.place);
     }
 
+    /// A link that waits is told `busy`, since the master ends.
+    pub(crate) fn put_off_waiting(&mut self) {
+        let Some(link) = self.waiting.take() else {
+            return;
+        };
+        let mut link = link;
+        let from = link.get_ref().from();
+        let fault = link.put_off(self.alloc);
+        self.events.tell(LaneEvent::Declined(fault, from));
+    }
+
     /// A count of what came from the worker by the lane's link.
     fn came(&self) -> u64 {
         match self.state.stream() {

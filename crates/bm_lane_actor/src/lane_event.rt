@@ -2,7 +2,7 @@
 
 ghost use Rattle.std.specs.Prelude.{◌≡◌};
 ghost use Rattle.bm_operator.specs.Remark.{remark_line};
-ghost use Rattle.bm_lane_actor.specs.LaneEvents.{connection_of, event_after, event_line, event_of, fills, loss_of};
+ghost use Rattle.bm_lane_actor.specs.LaneEvents.{connection_of, declines, event_after, event_line, event_of, fills, loss_of};
 
 use crate::connection_state::ConnectionState;
 use crate::login_refusal::refusal_of;
@@ -103,6 +103,20 @@ pub fn fills(event: LaneEvent) -> bool
         | LaneEvent::Declined(LinkFault::Full, _)
         | LaneEvent::Filled => true,
         _ => false,
+    }
+}
+
+/// Whether it says that a login was declined.
+pub fn declines(event: LaneEvent) -> bool
+    ensures { result ≡ declines event }
+{
+    match event {
+        LaneEvent::Declined(..) => true,
+        LaneEvent::Attached
+        | LaneEvent::Resumed
+        | LaneEvent::Cut(_)
+        | LaneEvent::Lost(_)
+        | LaneEvent::Filled => false,
     }
 }
 

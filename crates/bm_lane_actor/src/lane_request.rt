@@ -36,6 +36,8 @@ pub enum LaneRequest<S> {
     Seen(u64),
     /// Answer once all that happened to the lane so far was told.
     Settle(Sender<(), Global>),
+    /// The master ends: tell a login that waits `busy`, and answer.
+    PutOff(Sender<(), Global>),
     /// Look at the signals.
     Look,
 }

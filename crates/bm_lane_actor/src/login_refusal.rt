@@ -28,13 +28,14 @@ pub fn refusal_of(fault: LinkFault) -> LoginRefusal
     }
 }
 
-/// The same before a login, where a failed stream may have been the master's end or a login's that
-/// came too late.
-pub fn refusal_in(fault: LinkFault, is_over: bool, is_late: bool) -> LoginRefusal
-    ensures { result ≡ refusal_in is_over is_late fault }
+/// The same before a login. A failed stream may have been the master's end, that of a connection
+/// whose place was given to another one, or a login's that came too late.
+pub fn refusal_in(fault: LinkFault, is_over: bool, is_put_out: bool, is_late: bool) -> LoginRefusal
+    ensures { result ≡ refusal_in is_over is_put_out is_late fault }
 {
     match fault {
         LinkFault::Stream if is_over => LoginRefusal::Closing,
+        LinkFault::Stream if is_put_out => LoginRefusal::Crowded,
         LinkFault::Stream if is_late => LoginRefusal::Late,
         _ => refusal_of(fault),
     }

@@ -2,6 +2,7 @@
 
 ghost use Rattle.std.specs.Io.{WritesAtMost};
 
+use crate::pending_login::PendingLogin;
 use crate::read_watch::{LastRead, is_drained};
 use mio::unix::SourceFd;
 use mio::{Interest, Registry, Token};
@@ -42,7 +43,7 @@ const MOST_WRITES: u32 = 10_000;
 /// A worker's connection. Nobody waits for its worker for long:
 ///
 /// - Until it has logged in, a read that met nothing is made again, until the time for a login is
-///   over or the master ends.
+///   over, the master ends, or its place is given to another connection.
 /// - Then a read waits for nothing: who reads is woken once there is more. After the time of a turn
 ///   it says that nothing came, whatever comes. What was read stays with who reads, and the rest is
 ///   read by the next turn.
@@ -57,6 +58,8 @@ pub struct WorkerStream<R> {
     from: SocketAddr,
     /// When the time for its login is over. Where the clock failed it is over at once.
     login_ends: Option<Instant>,
+    /// Whether its place was given to another one before it logged in.
+    pending: Arc<PendingLogin, Global>,
     is_logged_in: AtomicBool,
     /// How many reads gave something.
     heard: AtomicU64,
@@ -88,6 +91,7 @@ impl<R: Clock> WorkerStream<R> {
         stream: TcpStream,
         from: SocketAddr,
         is_over: Arc<AtomicBool, Global>,
+        pending: Arc<PendingLogin, Global>,
     ) -> WorkerStream<R> {
         let login_ends = match Instant::now(&rt) {
             Ok(now) => now.checked_add(Duration::from_millis(LOGIN_MS)),
@@ -98,6 +102,7 @@ impl<R: Clock> WorkerStream<R> {
             rt,
             from,
             login_ends,
+            pending,
             is_logged_in: AtomicBool::new(false),
             heard: AtomicU64::new(0),
             is_given_up: AtomicBool::new(false),
@@ -157,10 +162,24 @@ impl<R: Clock> WorkerStream<R> {
         self.is_over.load(Ordering::SeqCst)
     }
 
+    /// Whether a login isn't waited for any more: the master ends, or another connection has its
+    /// place.
+    fn is_put_off(&self) -> bool {
+        !self.is_logged_in() && (self.is_over() || self.pending.is_put_out())
+    }
+
     /// Whether nothing is read any more. A worker that has logged in may still be told that the
     /// master ends.
     fn is_ended(&self) -> bool {
-        self.is_given_up.load(Ordering::SeqCst) || !self.is_logged_in() && self.is_over()
+        self.is_given_up.load(Ordering::SeqCst) || self.is_put_off()
+    }
+
+    /// Something came.
+    fn has_heard(&self) {
+        self.heard.fetch_add(1, Ordering::SeqCst);
+        if !self.is_logged_in() {
+            self.pending.told();
+        }
     }
 
     /// Whether so much time has passed since then. Where the clock fails it has.
@@ -262,7 +281,7 @@ impl<R: Clock> Read for WorkerStream<R> {
             }
             match self.stream.read(buf) {
                 Ok(count) => {
-                    self.heard.fetch_add(1, Ordering::SeqCst);
+                    self.has_heard();
                     self.last_read = LastRead::Gave;
                     return Ok(count);
                 }

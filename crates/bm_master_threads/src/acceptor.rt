@@ -5,7 +5,7 @@ use crate::events::{MasterEvent, RefusedConnection};
 use crate::shared_state::SharedState;
 use crate::sockets::{LISTENER, SocketEvents};
 use bm_lane::Yard;
-use bm_lane_actor::{LOGIN_MS, LaneSignal, WorkerStream, log_in, refusal_in};
+use bm_lane_actor::{LOGIN_MS, LaneSignal, PendingLogin, WorkerStream, log_in, refusal_in};
 use bm_operator::LoginRefusal;
 use std::net::{SocketAddr, TcpListener, TcpStream};
 use std::sync::atomic::Ordering;
@@ -36,6 +36,7 @@ fn welcome<Y, R>(
     stream: WorkerStream<R>,
     from: SocketAddr,
     began: Option<Instant>,
+    pending: &PendingLogin,
 )
 where
     Y: Yard + Send + Sync,
@@ -48,7 +49,8 @@ where
     if let Err(fault) = log_in(rt, shared.alloc, stream, users, lanes, sockets, &mut name) {
         let took = began.and_then(|began| began.elapsed(rt).ok());
         let is_late = took.is_some_and(|took| took >= Duration::from_millis(LOGIN_MS));
-        let why = refusal_in(fault, shared.is_over.load(Ordering::SeqCst), is_late);
+        let is_over = shared.is_over.load(Ordering::SeqCst);
+        let why = refusal_in(fault, is_over, pending.is_put_out(), is_late);
         let refused = RefusedConnection { from, name, why };
         shared.events.tell(rt, MasterEvent::Refused(refused));
     }
@@ -66,23 +68,27 @@ where
     R: Wait + Clock + Threads + Copy + Drop + Send + Sync + 's,
 {
     let rt = &shared.rt;
-    let Ok(is_over) = Arc::try_clone(&shared.is_over) else {
+    let pending = match shared.logins.enter(rt, shared.alloc) {
+        Ok(pending) => pending,
+        Err(why) => return refuse(shared, from, why),
+    };
+    let number = pending.number();
+    let own = Arc::try_clone(&pending).ok();
+    let Some((is_over, own)) = Arc::try_clone(&shared.is_over).ok().zip(own) else {
+        shared.logins.leave(rt, number);
         return refuse(shared, from, LoginRefusal::Memory);
     };
-    if !shared.logins.enter(rt) {
-        return refuse(shared, from, LoginRefusal::Crowded);
-    }
     // Before the time for the login begins, so that one which ran out is told as that, however late
     // its thread starts.
     let began = Instant::now(rt).ok();
-    let stream = WorkerStream::new(*rt, stream, from, is_over);
+    let stream = WorkerStream::new(*rt, stream, from, is_over, own);
     let thread = scope.spawn(move || {
         let stream = stream;
-        welcome(shared, stream, from, began);
-        shared.logins.leave(rt);
+        welcome(shared, stream, from, began, &pending);
+        shared.logins.leave(rt, number);
     });
     if thread.is_err() {
-        shared.logins.leave(rt);
+        shared.logins.leave(rt, number);
         refuse(shared, from, LoginRefusal::NoThread);
     }
 }

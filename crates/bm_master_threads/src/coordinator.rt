@@ -170,6 +170,7 @@ where
             }
         }
         self.release_all();
+        self.put_off_logins(events);
         self.end_processes();
     }
 

@@ -4,6 +4,7 @@ use crate::events::{EventSender, MasterEvent};
 use crate::shared_state::SharedState;
 use bm_lane::Yard;
 use bm_operator::read_cancel;
+use crossbeam_channel::{Receiver, Sender, bounded};
 use std::alloc::Global;
 use std::io::{ErrorKind, Read};
 use std::sync::Wait;
@@ -78,24 +79,34 @@ where
     }
 }
 
-/// Starts the thread that reads the input. Where it can't be started the input has ended for the
-/// coordinator; the answer is then false.
+// Reads the input once there is a coordinator that hears of it.
+fn read_once_heard<I, Y, R>(shared: &SharedState<Y, R>, input: I, begins: &Receiver<bool, Global>)
+where
+    I: Read + Drop,
+    Y: Yard,
+    R: Wait + Clock + Drop,
+{
+    if let Ok(true) = begins.recv(&shared.rt) {
+        read_input(&shared.rt, shared.alloc, input, &shared.events);
+        shared.events.tell(&shared.rt, MasterEvent::InputEnded);
+    }
+}
+
+/// Starts the thread that reads the input. It begins once it is told true, and ends at once where
+/// it is told anything else. None where it can't be started.
 pub fn start_input<'s, E, Y, R, I>(
     scope: &Scope<'s, E>,
     shared: &'s SharedState<Y, R>,
     input: I,
-) -> bool
+) -> Option<Sender<bool, Global>>
 where
     Y: Yard + Send + Sync + 's,
     R: Wait + Clock + Threads + Drop + Send + Sync + 's,
     I: Read + Drop + Send + 's,
 {
-    let reading = scope.spawn(move || {
-        read_input(&shared.rt, shared.alloc, input, &shared.events);
-        shared.events.tell(&shared.rt, MasterEvent::InputEnded);
-    });
-    if reading.is_err() {
-        shared.events.tell(&shared.rt, MasterEvent::InputEnded);
-    }
-    reading.is_ok()
+    let (begin, begins) = bounded(shared.alloc, 1).ok()?;
+    scope
+        .spawn(move || read_once_heard(shared, input, &begins))
+        .ok()?;
+    Some(begin)
 }

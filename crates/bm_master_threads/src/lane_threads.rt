@@ -32,7 +32,6 @@ impl<'s, Y: Yard, R: Wait + Clock> EventSink for LaneReporter<'s, Y, R> {
 fn start_actor<'s, E, Y, R>(
     scope: &Scope<'s, E>,
     shared: &'s SharedState<Y, R>,
-    lane: usize,
     state: LaneState<Y, WorkerStream<R>>,
     mailbox: Mailbox<WorkerStream<R>>,
 ) -> Option<JoinHandle<ReaderEnd<Y>>>
@@ -45,6 +44,7 @@ where
     }
     let (rt, alloc, gate) = (&shared.rt, shared.alloc, &shared.drain_gate);
     let events = &shared.events;
+    let lane = state.lane() as usize;
     let reporter = LaneReporter { rt, events, lane };
     scope
         .spawn(move || serve_lane(rt, alloc, state, &mailbox, gate, reporter))
@@ -64,11 +64,11 @@ where
     R: Wait + Clock + Threads + Drop + Send + Sync + 's,
 {
     let mut mailboxes = mailboxes.into_iter();
-    for (lane, state) in states.into_iter().enumerate() {
+    for state in states {
         let Some(mailbox) = mailboxes.next() else {
             return false;
         };
-        let Some(actor) = start_actor(scope, shared, lane, state, mailbox) else {
+        let Some(actor) = start_actor(scope, shared, state, mailbox) else {
             return false;
         };
         if actors.push(actor).is_err() {

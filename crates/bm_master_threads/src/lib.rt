@@ -14,6 +14,7 @@ mod acceptor;
 mod build_thread;
 mod coordinator;
 mod coordinator_builds;
+mod coordinator_end;
 mod coordinator_remarks;
 mod coordinator_workers;
 mod ending;

@@ -52,7 +52,7 @@ pub struct SharedState<Y: Yard, R: Wait + Clock + Drop> {
     pub events: EventSender<Y>,
     /// By what the acceptor is woken, and told of connections.
     pub sockets: SocketRegistry,
-    /// How many connections without a login there may be.
+    /// The connections without a login, and how many of them there may be.
     pub logins: LoginLimit,
     /// The writers' ends, which the pool drains.
     pub writers: Vec<Mutex<WriterEnd<Y, R>>>,
@@ -79,9 +79,11 @@ impl<Y: Yard, R: Wait + Clock + Copy + Drop> SharedState<Y, R> {
         let cancels = cancels_of(alloc, config.builds.as_slice().len()).ok();
         let users = users_of(alloc, config.workers.as_slice()).ok();
         let is_over = Arc::new(alloc, AtomicBool::new(false)).ok();
-        let made = drain_gate.zip(is_over).zip(cancels.zip(users));
+        let logins = LoginLimit::new(alloc).ok();
+        let made = drain_gate.zip(is_over.zip(logins)).zip(cancels.zip(users));
         let (alone, lists) = made?;
-        let (drain_gate, is_over) = alone;
+        let (drain_gate, flags) = alone;
+        let (is_over, logins) = flags;
         let (cancels, users) = lists;
         Some(SharedState {
             rt: *rt,
@@ -92,7 +94,7 @@ impl<Y: Yard, R: Wait + Clock + Copy + Drop> SharedState<Y, R> {
             lanes,
             events,
             sockets,
-            logins: LoginLimit::new(),
+            logins,
             writers,
             drain_gate,
             is_over,

@@ -55,7 +55,7 @@ pub struct MasterLeft<Y: Yard, O> {
     /// The reader's end of each lane whose actor was started.
     pub readers: Vec<ReaderEnd<Y>>,
     pub coordinator: CoordinatorLeft<Y, O>,
-    /// Whether the pool, the input and the web did their work to the end.
+    /// Whether the pool and the web did their work to the end.
     pub is_whole: bool,
 }
 
@@ -66,7 +66,7 @@ fn join_all<Y, R, O>(
     coordinator: Option<JoinHandle<CoordinatorLeft<Y, O>>>,
     lane_threads: LaneThreads<Y>,
     room: Vec<ReaderEnd<Y>>,
-    is_done: bool,
+    is_served: bool,
 ) -> Option<MasterLeft<Y, O>>
 where
     Y: Yard,
@@ -82,8 +82,28 @@ where
     Some(MasterLeft {
         readers,
         coordinator,
-        is_whole: is_done && is_drained,
+        is_whole: is_served && is_drained,
     })
+}
+
+// Starts the coordinator, and the thread that reads the input for it. None where one of them can't
+// be started: a master that hears no input would go on for ever.
+fn start_coordinator<'s, E, Y, R, I, O>(
+    scope: &Scope<'s, E>,
+    shared: &'s SharedState<Y, R>,
+    coordinator: CoordinatorOwned<Y, O>,
+    input: I,
+) -> Option<JoinHandle<CoordinatorLeft<Y, O>>>
+where
+    Y: Yard + Send + Sync + 's,
+    R: MasterHost + 's,
+    I: Read + Drop + Send + 's,
+    O: Write + Drop + Send + 's,
+{
+    let begin = start_input(scope, shared, input)?;
+    let thread = scope.spawn(move || coordinate(shared, coordinator)).ok();
+    let _ = begin.send(&shared.rt, thread.is_some());
+    thread
 }
 
 // Starts each thread with what it owns, serves the web in this one, and joins them. None where one
@@ -124,22 +144,15 @@ where
         acceptor,
     };
     let coordinator = if has_actors && lane_threads.are_started() {
-        scope.spawn(move || coordinate(shared, coordinator)).ok()
+        start_coordinator(scope, shared, coordinator, input)
     } else {
         None
     };
-    let is_read = coordinator.is_some() && start_input(scope, shared, input);
     if coordinator.is_none() {
         shared.web_stop.end(&shared.rt);
     }
     let is_served = serve_web(shared, &web, &logs);
-    join_all(
-        shared,
-        coordinator,
-        lane_threads,
-        room,
-        is_read && is_served,
-    )
+    join_all(shared, coordinator, lane_threads, room, is_served)
 }
 
 /// Runs all threads, and joins them. None where one of them could not be started, or memory is

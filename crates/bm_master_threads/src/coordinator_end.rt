@@ -1,0 +1,69 @@
+//! What the coordinator hears of logins once all builds are over.
+
+use crate::coordinator::Coordinator;
+use crate::events::{EventReceiver, MasterEvent};
+use crate::host::MasterHost;
+use bm_lane::Yard;
+use bm_lane_actor::{LaneRequest, declines, remark_of};
+use crossbeam_channel::bounded;
+use std::io::Write;
+use std::time::Duration;
+
+/// How many milliseconds the lanes have to tell logins that wait that the master ends.
+const PUT_OFF_MS: u64 = 1_000;
+
+/// How many events that lie ready are heard then. More are those of strangers that go on coming.
+const MOST_LAST_EVENTS: usize = 10_000;
+
+impl<'s, Y, R, O> Coordinator<'s, Y, R, O>
+where
+    Y: Yard + Send + Sync + 's,
+    R: MasterHost + 's,
+    O: Write + Drop,
+{
+    /// Has each login that still waits told `busy`, and tells the operator of those that were
+    /// refused.
+    pub fn put_off_logins(&mut self, events: &EventReceiver<Y>) {
+        self.ask_lanes();
+        for _ in 0..MOST_LAST_EVENTS {
+            match events.look(&self.shared.rt) {
+                Some(event) => self.hear_last(event),
+                None => return,
+            }
+        }
+    }
+
+    // Has the lanes put their logins off, and waits for each that could be asked.
+    fn ask_lanes(&self) {
+        let shared = self.shared;
+        let rt = &shared.rt;
+        let Ok((done, answers)) = bounded(shared.alloc, shared.lanes.len()) else {
+            return;
+        };
+        let mut asked = 0usize;
+        for lane in shared.lanes.iter() {
+            if let Ok(done) = done.clone() {
+                if lane.tell(rt, LaneRequest::PutOff(done)) {
+                    asked = asked.saturating_add(1);
+                }
+            }
+        }
+        let most = Duration::from_millis(PUT_OFF_MS);
+        for _ in 0..asked {
+            if answers.recv_timeout(rt, most).is_err() {
+                return;
+            }
+        }
+    }
+
+    // Hears of a login that was refused. All else is over.
+    fn hear_last(&mut self, event: MasterEvent<Y>) {
+        match event {
+            MasterEvent::Refused(refused) => self.hear_refused(&refused),
+            MasterEvent::Lane(worker, event) if declines(event) => {
+                self.remark(&remark_of(event, self.name(worker)));
+            }
+            _ => {}
+        }
+    }
+}
