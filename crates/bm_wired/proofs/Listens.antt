@@ -17,20 +17,14 @@ use Rattle.bm_session.specs.declared.event.Event.TheVariants.{Up, In, Go, Stop, 
 use Rattle.bm_replay.proofs.SmallNumbers.{not-full, room}
 use Rattle.bm_session.specs.Trace.{Trace, orders, was_order, was_taken, refusal}
 use Rattle.bm_value.specs.Spelling.{Spells}
-use Rattle.bm_value.specs.Tree.{Tree}
-use Rattle.bm_msg.specs.Meaning.{Asked, start_command, interrupt_command, Meaning, meaning, request, response}
-use Rattle.bm_msg.specs.Messages.{IsMessage}
+use Rattle.bm_msg.specs.Meaning.{Asked, start_command, interrupt_command, request}
 use Rattle.bm_msg.specs.Trees.{answer}
-use Rattle.bm_msg.specs.Incoming.{Said, message, bad_args, said, Says}
-use Rattle.bm_msg.specs.declared.incoming.Incoming.{Incoming}
-use Rattle.bm_msg.specs.declared.incoming.Incoming.TheVariants.{Message, BadArgs}
-use Rattle.bm_msg.proofs.Readings.{told_once}
+use Rattle.bm_msg.specs.Incoming.{message, said}
 use Rattle.bm_session.specs.Texts.{exception_text}
 use Rattle.bm_link.specs.Asks.{asks_for}
 use Rattle.bm_link.specs.declared.asks.Ask.{Ask}
 use Rattle.bm_link.specs.declared.asks.Ask.TheVariants as ask
 use Rattle.bm_link.specs.Orders.{args_of}
-use Rattle.bm_link.specs.Received.{AreSaid, hearing_of}
 use Rattle.bm_work.specs.Core.{Core, Hearing, heard, heard_request, first_heard, answer_to, act_of, started_by, runs}
 use Rattle.bm_work.specs.Replies.{reply}
 use Rattle.bm_work.specs.Stream.{Report, text, code, over}
@@ -42,19 +36,7 @@ use Rattle.bm_replay.proofs.Lists.{or-first, or-second}
 use Rattle.bm_wired.specs.Wired.{Wired, Moves, Listen, reply_in}
 use Rattle.bm_wired.proofs.Sim.{scene_of, worker_of, Sim, Step, Upward, asks_up, answers_up, up_bytes, Follow, FitsUp, Ups, Downward, starts_down, stops_down, asks_down, answers_down, down_bytes, Descend, FitsDown, Downs, Past}
 use Rattle.bm_wired.proofs.Parts.{ups-add, order-once}
-use Rattle.bm_wired.proofs.ReadBack.{faultless}
-use Rattle.bm_wired.proofs.Downward.{means, down-read}
-
-said-as : (bytes : List ℕ) (m : Meaning) (a : Incoming) → ((t : Tree) → Spells bytes t → IsMessage t m) → AreSaid bytes a → said a ≡ message m
-said-as bytes m a only x = go (said a) x.3
-  where
-    go : (s : Said) → Says x.0 s → s ≡ message m
-    go (message m2) h = ap message (told_once x.0 m2 m h (only x.0 x.1))
-    go (bad_args n) h = absurd (faultless x.0 m n (only x.0 x.1) h)
-
-hearing-is : (core : Core) (a : Incoming) (m : Meaning) → said a ≡ message m → hearing_of core a ≡ heard core m
-hearing-is core (Message x) m e = let s : meaning x ≡ m = cc in ap (heard core) s
-hearing-is core (BadArgs n) m e = cc
+use Rattle.bm_wired.proofs.Downward.{means, said-as, hearing-is, down-read}
 
 -- the map of answers
 

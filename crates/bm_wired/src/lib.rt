@@ -7,6 +7,9 @@
 //! premises of a move, since no clause says them: that the core accepted what is told, that a
 //! drained item is one that was put, and that texts are UTF-8.
 //!
+//! Beside it stand the laws that messages are read back as they were meant, by either end. They are
+//! of bytes alone, and need no run.
+//!
 //! Not said: that a program makes these moves alone, that anything arrives, and what becomes of a
 //! session that is cut and resumed.
 #![tactic(auto)]

@@ -1,5 +1,7 @@
 mod LaneTraces
+mod LinkAgain
 mod LinkCalls
+mod LinkCuts
 mod LinkFaults
 mod LinkReads
 mod LinkTurns

@@ -1,11 +1,12 @@
 -- What a link's other calls leave: an attaching, an order, and what is asked.
-use Rattle.std.proofs.Common.{◌≡◌, ◌∙◌, refl, sym, ap, subst, inl, inr, ℕ, ◌+◌, ◌^◌, Bool, true, false, not, ◌&&◌, List, [], ◌∷◌, ◌++◌, Option, Some, Result, Ok, Err}
+use Rattle.std.proofs.Common.{◌≡◌, ◌≢◌, ◌∙◌, refl, sym, ap, subst, inl, inr, ℕ, ◌+◌, ◌^◌, Bool, true, false, not, ◌&&◌, List, [], ◌∷◌, ◌++◌, Option, Some, Result, Ok, Err}
 use Rattle.std.specs.Prelude.{codes, nat_lt, is_some, if◌then◌else◌, IfOk}
 use Rattle.tungstenite.specs.Connection.{write_step}
 use Rattle.tungstenite.specs.Content.{binary}
 use Rattle.tungstenite.specs.Socket.{Socket, Writes}
 use Rattle.bm_msg.specs.Trees.{answer_bytes}
 use Rattle.bm_session.specs.Trace.{orders}
+use Rattle.bm_session.specs.declared.refusal.Refusal.{Refusal}
 use Rattle.bm_session.specs.declared.refusal.Refusal.TheVariants as refusal
 use Rattle.bm_work.specs.declared.sent.Sent.{Sent}
 use Rattle.bm_lane.specs.Ends.{Heard}
@@ -15,7 +16,7 @@ use Rattle.bm_link.specs.declared.asks.Ask.{Ask}
 use Rattle.bm_link.specs.declared.attaching.Attached.{Attached}
 use Rattle.bm_link.specs.declared.credentials.Named.{Named}
 use Rattle.bm_link.specs.declared.fault.LinkFault.{LinkFault}
-use Rattle.bm_link.specs.declared.fault.LinkFault.TheVariants.{Lane}
+use Rattle.bm_link.specs.declared.fault.LinkFault.TheVariants.{Full, Lane}
 use Rattle.bm_link.specs.declared.parts.Stage.{Stage}
 use Rattle.bm_link.specs.declared.parts.Stage.TheVariants as stage
 use Rattle.bm_link.specs.Asking.{AsksFor}
@@ -26,8 +27,8 @@ use Rattle.bm_link.specs.Link.{LinkState}
 use Rattle.bm_link.specs.Orders.{Interrupts, Starts}
 use Rattle.bm_link.specs.Sending.{SendsBytes}
 use Rattle.bm_link.specs.Telling.{Tells, TellsAny, fault_of_refusal, text_of_refusal}
-use Rattle.callers.specs.Link.{LeavesException, exception_bytes}
-use Rattle.callers.proofs.LinkFaults.{attached_no_lane, unsent_not_bad}
+use Rattle.callers.specs.Link.{LeavesException, TellsLogin, exception_bytes}
+use Rattle.callers.proofs.LinkFaults.{IsOfSending, attached_of_sending, unsent_not_bad}
 
 -- Orders
 
@@ -88,38 +89,69 @@ same_bytes : (n : ℕ) (text : List ℕ) → answer_bytes n (Some text) ≡ exce
 unfolding answer_bytes exception_bytes
 same_bytes n text = refl
 
+-- a refusal with this fault has this text, and sending has no such fault
+abbrev pub IsToldAs : LinkFault → List ℕ → Type 0
+IsToldAs f text = ((why : HearRefusal) → fault_of_refusal why ≡ f → text_of_refusal why ≡ Some text) × ((g : LinkFault) → IsOfSending g → g ≢ f)
+
+no_lane : (why : HearRefusal) (g : LinkFault) → IsOfSending g → g ≢ Lane why
+no_lane why g (inl is) lane = cc
+no_lane why g (inr (inl is)) lane = cc
+no_lane why g (inr (inr is)) lane = cc
+
+not_full : (g : LinkFault) → IsOfSending g → g ≢ Full
+not_full g (inl is) full = cc
+not_full g (inr (inl is)) full = cc
+not_full g (inr (inr is)) full = cc
+
+up_text : (r : Refusal) (why : HearRefusal) → fault_of_refusal why ≡ Lane (Session r) → text_of_refusal why ≡ Some (codes "already up")
+up_text r Busy is = absurd (cc)
+up_text r (Session refusal.Mem) is = absurd (cc)
+up_text r (Session refusal.Full) is = absurd (cc)
+up_text r (Session _) is = refl
+
+busy_text : (why : HearRefusal) → fault_of_refusal why ≡ Lane Busy → text_of_refusal why ≡ Some (codes "busy")
+busy_text Busy is = refl
+busy_text (Session refusal.Mem) is = absurd (cc)
+busy_text (Session refusal.Full) is = absurd (cc)
+busy_text (Session _) is = absurd (cc)
+
+full_text : (why : HearRefusal) → fault_of_refusal why ≡ Full → text_of_refusal why ≡ Some (codes "full")
+full_text Busy is = absurd (cc)
+full_text (Session refusal.Mem) is = absurd (cc)
+full_text (Session refusal.Full) is = refl
+full_text (Session _) is = absurd (cc)
+
+pub up_is_told : (r : Refusal) → IsToldAs (Lane (Session r)) (codes "already up")
+up_is_told r = (up_text r, no_lane (Session r))
+
+pub busy_is_told : IsToldAs (Lane Busy) (codes "busy")
+busy_is_told = (busy_text, no_lane Busy)
+
+pub full_is_told : IsToldAs Full (codes "full")
+full_is_told = (full_text, not_full)
+
 module _ {S : Type 0} (contents : S → Option (List ℕ)) where
   told : (n : ℕ) (text : List ℕ) (old new : Socket S) → Tells contents n text old new → LeavesException contents n text old new
   told n text old new (inl sends) = inr (subst (λ (bs : List ℕ). Writes contents old new (write_step old.conn (binary bs))) (same_bytes n text) sends.0)
   told n text old new (inr (f, inl (same, why))) = inl same
   told n text old new (inr (f, inr (stream, leaves))) = inr (subst (λ (bs : List ℕ). Writes contents old new (write_step old.conn (binary bs))) (same_bytes n text) leaves)
 
-  -- of these refusals only that of a lane that is up already has its fault
-  told_up : (why : HearRefusal) (n : ℕ) (old new : Socket S) → fault_of_refusal why ≡ Lane (Session refusal.AlreadyUp)
-      → TellsAny contents n (text_of_refusal why) old new → LeavesException contents n (codes "already up") old new
-  told_up Busy n old new is h = absurd (cc)
-  told_up (Session refusal.AlreadyUp) n old new is h = told n (codes "already up") old new h
-  told_up (Session refusal.Mem) n old new is h = absurd (cc)
-  told_up (Session refusal.Full) n old new is h = absurd (cc)
-  told_up (Session _) n old new is h = absurd (cc)
+  attached_told : (f : LinkFault) (text : List ℕ) → IsToldAs f text → (resumed : Bool) (login : Named) (old : Socket S) (lane : Heard) (carry : Carried) (s : Stage) (new : Socket S) (lane2 : Heard) (carry2 : Carried)
+      → AttachesAs contents resumed login old lane carry (Err (s, f)) new lane2 carry2 → LeavesException contents login.seq text old new
+  attached_told f text says resumed login old lane carry s new lane2 carry2 (inl (failed, (why, declined, fault, tells), kept)) =
+      told login.seq text old new (subst (λ (t : Option (List ℕ)). TellsAny contents login.seq t old new) (says.0 why (sym fault)) tells)
+  attached_told f text says resumed login old lane carry s new lane2 carry2 (inr (ends, kept, unsent)) =
+      absurd (says.1 f (attached_of_sending contents login.seq (attached_as resumed login.session) carry2.orders old new f unsent) refl)
 
-  attached_told : (resumed : Bool) (login : Named) (old : Socket S) (lane : Heard) (carry : Carried) (s : Stage) (f : LinkFault) (new : Socket S) (lane2 : Heard) (carry2 : Carried)
-      → f ≡ Lane (Session refusal.AlreadyUp) → AttachesAs contents resumed login old lane carry (Err (s, f)) new lane2 carry2
-      → LeavesException contents login.seq (codes "already up") old new
-  attached_told resumed login old lane carry s f new lane2 carry2 is (inl (failed, (why, declined, told, tells), kept)) =
-      told_up why login.seq old new (sym told ∙ is) tells
-  attached_told resumed login old lane carry s f new lane2 carry2 is (inr (ends, kept, unsent)) =
-      absurd (attached_no_lane contents login.seq (attached_as resumed login.session) carry2.orders old new f (Session refusal.AlreadyUp) unsent is)
+  takes_up_told : (f : LinkFault) (text : List ℕ) → IsToldAs f text → (login : Named) (old : LinkState S) (lane : Heard) (carry : Carried) (r : Result Attached LinkFault) (new : LinkState S) (lane2 : Heard) (carry2 : Carried)
+      → r ≡ Err f → TakesUpFor contents (Some login) old lane carry r new lane2 carry2 → LeavesException contents login.seq text old.socket new.socket
+  takes_up_told f text says login old lane carry (Ok a) new lane2 carry2 is h = absurd (cc)
+  takes_up_told f text says login old lane carry (Err g) new lane2 carry2 is (h, none) =
+      let same : g ≡ f = cc in
+      attached_told f text says (resumes lane.trace carry login.session) login old.socket lane carry new.stage new.socket lane2 carry2
+      (subst (λ (x : LinkFault). AttachesAs contents (resumes lane.trace carry login.session) login old.socket lane carry (Err (new.stage, x)) new.socket lane2 carry2) same h)
 
-  takes_up_told : (login : Named) (old : LinkState S) (lane : Heard) (carry : Carried) (r : Result Attached LinkFault) (new : LinkState S) (lane2 : Heard) (carry2 : Carried)
-      → r ≡ Err (Lane (Session refusal.AlreadyUp)) → TakesUpFor contents (Some login) old lane carry r new lane2 carry2
-      → LeavesException contents login.seq (codes "already up") old.socket new.socket
-  takes_up_told login old lane carry (Ok a) new lane2 carry2 is h = absurd (cc)
-  takes_up_told login old lane carry (Err f) new lane2 carry2 is (h, none) =
-      attached_told (resumes lane.trace carry login.session) login old.socket lane carry new.stage f new.socket lane2 carry2 (cc) h
-
-  pub tells_already_up : (waits : Option Named) (login : Named) (old : LinkState S) (lane : Heard) (carry : Carried) (r : Result Attached LinkFault) (new : LinkState S) (lane2 : Heard) (carry2 : Carried)
-      → waits ≡ Some login → r ≡ Err (Lane (Session refusal.AlreadyUp)) → TakesUpFor contents waits old lane carry r new lane2 carry2
-      → LeavesException contents login.seq (codes "already up") old.socket new.socket
-  tells_already_up waits login old lane carry r new lane2 carry2 waiting is h =
-      takes_up_told login old lane carry r new lane2 carry2 is (subst (λ (w : Option Named). TakesUpFor contents w old lane carry r new lane2 carry2) waiting h)
+  pub tells_login : (f : LinkFault) (text : List ℕ) → IsToldAs f text → (waits : Option Named) (old : LinkState S) (lane : Heard) (carry : Carried) (r : Result Attached LinkFault) (new : LinkState S) (lane2 : Heard) (carry2 : Carried)
+      → r ≡ Err f → TakesUpFor contents waits old lane carry r new lane2 carry2 → TellsLogin contents waits text old.socket new.socket
+  tells_login f text says waits old lane carry r new lane2 carry2 is h login waiting =
+      takes_up_told f text says login old lane carry r new lane2 carry2 is (subst (λ (w : Option Named). TakesUpFor contents w old lane carry r new lane2 carry2) waiting h)

@@ -1,5 +1,5 @@
 -- Which faults a link's parts never tell.
-use Rattle.std.proofs.Common.{◌≡◌, ◌≢◌, ◌∙◌, sym, inl, inr, ℕ, List, [], ◌∷◌, false, Option}
+use Rattle.std.proofs.Common.{◌≡◌, ◌≢◌, ◌∙◌, ◌⊎◌, sym, inl, inr, ℕ, List, [], ◌∷◌, false, Option}
 use Rattle.tungstenite.specs.Failure.{IsIo}
 use Rattle.tungstenite.specs.Socket.{Socket}
 use Rattle.tungstenite.specs.declared.error.Error.{Error}
@@ -11,7 +11,7 @@ use Rattle.bm_work.specs.declared.sent.Sent.{Sent}
 use Rattle.bm_lane.specs.declared.refusals.HearRefusal.{HearRefusal}
 use Rattle.bm_lane.specs.declared.refusals.HearRefusal.TheVariants.{Busy}
 use Rattle.bm_link.specs.declared.fault.LinkFault.{LinkFault}
-use Rattle.bm_link.specs.declared.fault.LinkFault.TheVariants.{Lane, Stream}
+use Rattle.bm_link.specs.declared.fault.LinkFault.TheVariants.{Closed, Lane, Mem, Stream}
 use Rattle.bm_link.specs.declared.attaching.Attached.{Attached}
 use Rattle.bm_link.specs.Attaching.{FailsToSendAll, FailsToSendAttached}
 use Rattle.bm_link.specs.Carries.{is_bad}
@@ -39,6 +39,10 @@ module _ {S : Type 0} (remaining contents : S → Option (List ℕ)) where
   read_no_lane old new f why (inr (inr (bs, m, reads, has, inr (inl is)))) e = cc
   read_no_lane old new f why (inr (inr (bs, m, reads, has, inr (inr is)))) e = cc
 
+-- a fault of sending: want of memory, an end, or a stream that failed
+abbrev pub IsOfSending : LinkFault → Type 0
+IsOfSending f = (f ≡ Mem) ⊎ ((f ≡ Closed) ⊎ (f ≡ Stream))
+
 module _ {S : Type 0} (contents : S → Option (List ℕ)) where
   pub unsent_no_lane : (bytes : List ℕ) (old new : Socket S) (f : LinkFault) (why : HearRefusal) → IsUnsent contents bytes old f new → f ≢ Lane why
   unsent_no_lane bytes old new f why (inl (same, inl is)) e = cc
@@ -50,12 +54,17 @@ module _ {S : Type 0} (contents : S → Option (List ℕ)) where
   unsent_not_bad bytes old new f (inl (same, inr shut)) = rw shut.0
   unsent_not_bad bytes old new f (inr (is, leaves)) = rw is
 
-  orders_no_lane : (os : List Sent) (old new : Socket S) (f : LinkFault) (why : HearRefusal) → FailsToSendAll contents old os f new → f ≢ Lane why
-  orders_no_lane [] old new f why h e = h
-  orders_no_lane (o ∷ os) old new f why (inl unsent) e = unsent_no_lane o.bytes old new f why unsent e
-  orders_no_lane (o ∷ os) old new f why (inr (mid, sends, fails)) e = orders_no_lane os mid new f why fails e
+  unsent_of_sending : (bytes : List ℕ) (old new : Socket S) (f : LinkFault) → IsUnsent contents bytes old f new → IsOfSending f
+  unsent_of_sending bytes old new f (inl (same, inl is)) = inl is
+  unsent_of_sending bytes old new f (inl (same, inr shut)) = inr (inl shut.0)
+  unsent_of_sending bytes old new f (inr (is, leaves)) = inr (inr is)
 
-  pub attached_no_lane : (n : ℕ) (a : Attached) (os : List Sent) (old new : Socket S) (f : LinkFault) (why : HearRefusal)
-      → FailsToSendAttached contents old n a os f new → f ≢ Lane why
-  attached_no_lane n a os old new f why (inl unsent) e = unsent_no_lane _ old new f why unsent e
-  attached_no_lane n a os old new f why (inr (mid, sends, fails)) e = orders_no_lane os mid new f why fails e
+  orders_of_sending : (os : List Sent) (old new : Socket S) (f : LinkFault) → FailsToSendAll contents old os f new → IsOfSending f
+  orders_of_sending [] old new f h = absurd h
+  orders_of_sending (o ∷ os) old new f (inl unsent) = unsent_of_sending o.bytes old new f unsent
+  orders_of_sending (o ∷ os) old new f (inr (mid, sends, fails)) = orders_of_sending os mid new f fails
+
+  pub attached_of_sending : (n : ℕ) (a : Attached) (os : List Sent) (old new : Socket S) (f : LinkFault)
+      → FailsToSendAttached contents old n a os f new → IsOfSending f
+  attached_of_sending n a os old new f (inl unsent) = unsent_of_sending _ old new f unsent
+  attached_of_sending n a os old new f (inr (mid, sends, fails)) = orders_of_sending os mid new f fails

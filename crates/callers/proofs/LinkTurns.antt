@@ -2,7 +2,8 @@
 use Rattle.std.proofs.Common.{◌≡◌, ◌≢◌, ◌∙◌, refl, sym, ap, subst, inl, inr, ℕ, Bool, true, List, [], ◌∷◌, ◌++◌, append-nil, rules, ◌⊎◌, Option, Some, None, Result, Ok, Err}
 use Rattle.std.specs.Prelude.{IfOk}
 use Rattle.tungstenite.specs.Content.{binary}
-use Rattle.tungstenite.specs.Socket.{Socket, content_of}
+use Rattle.tungstenite.specs.Socket.{Flushed, Reads, Socket, content_of}
+use Rattle.tungstenite.specs.declared.error.Error.{Error}
 use Rattle.tungstenite.specs.declared.message.Message.{Message}
 use Rattle.tungstenite.specs.declared.message.Message.TheVariants as message
 use Rattle.bm_session.specs.declared.event.Event.{Event}
@@ -19,11 +20,11 @@ use Rattle.bm_link.specs.declared.parts.Stage.TheVariants as stage
 use Rattle.bm_link.specs.declared.parts.Turn.{Turn}
 use Rattle.bm_link.specs.declared.parts.Turn.TheVariants as turn
 use Rattle.bm_link.specs.Carries.{Carried}
-use Rattle.bm_link.specs.Causes.{IsPassedOver}
+use Rattle.bm_link.specs.Causes.{FailsToRead, IsPassedOver}
 use Rattle.bm_link.specs.Endings.{Ends, EndsAt, Falls, stage_after}
 use Rattle.bm_link.specs.Link.{LinkState, Turned}
 use Rattle.bm_link.specs.Parts.{Comes}
-use Rattle.callers.specs.Link.{BeginsWithBinary}
+use Rattle.callers.specs.Link.{BeginsWithBinary, IsAsRead, TookNone}
 use mathlib.Core.List.{IsPrefix}
 use Rattle.websocket.proofs.StreamLemmas.{read_step-append}
 use Rattle.callers.proofs.LinkFaults.{read_no_lane, session_not_busy, stream_is_io, unsent_no_lane}
@@ -37,7 +38,7 @@ passes_no_binary (message.Pong s) bytes over h = cc
 passes_no_binary (message.Close frame) bytes over h = over
 
 -- a trace with an event more
-grows : (lane lane2 : Heard) (e : Event) → lane2 ≡ with_event lane e → lane2.trace ≡ lane.trace ++ e ∷ []
+pub grows : (lane lane2 : Heard) (e : Event) → lane2 ≡ with_event lane e → lane2.trace ≡ lane.trace ++ e ∷ []
 grows lane lane2 e h = ap (λ (l : Heard). l.trace) h
 
 begun_same : (front t : List Event) → t ≡ front → IsPrefix front t
@@ -59,7 +60,7 @@ cut_not_refused : (lane : Heard) (why : HearRefusal) → refusal lane.trace Cut 
 cut_not_refused lane (Session r) none h = cc
 cut_not_refused lane Busy none h = h
 
-cuts_up : (lane lane2 : Heard) (e : _) → refusal lane.trace Cut ≡ None → Ends true lane lane2 e → lane2 ≡ with_event lane Cut
+pub cuts_up : (lane lane2 : Heard) (e : _) → refusal lane.trace Cut ≡ None → Ends true lane lane2 e → lane2 ≡ with_event lane Cut
 cuts_up lane lane2 e none (inl (may, cut, is)) = is
 cuts_up lane lane2 e none (inr (inl never, falls)) = absurd (cc)
 cuts_up lane lane2 e none (inr (inr (why, refuses), falls)) = absurd (cut_not_refused lane why none refuses)
@@ -87,14 +88,17 @@ module _ {S : Type 0} (remaining contents : S → Option (List ℕ)) where
   never_busy stage.Failed old lane carry (Err f) new lane2 carry2 h e = let is = h.0 in cc
 
   noted : (s : Stage) (old : LinkState S) (lane : Heard) (carry : Carried) (new : LinkState S) (lane2 : Heard) (carry2 : Carried)
-      → Turned remaining contents s old lane carry (Ok turn.Noted) new lane2 carry2 → (e : Event) × (lane2.trace ≡ lane.trace ++ e ∷ [])
-  noted stage.Up old lane carry new lane2 carry2 (e, mid, comes, took, up, kept) = (e, grows lane lane2 e took.0.0)
+      → Turned remaining contents s old lane carry (Ok turn.Noted) new lane2 carry2
+      → (e : Event) × Comes remaining old.kept old.socket e new.socket × (lane2.trace ≡ lane.trace ++ e ∷ [])
+  noted stage.Up old lane carry new lane2 carry2 (e, mid, comes, ((grown, carried), silent, same), up, kept) =
+      (e, subst (λ (s : Socket S). Comes remaining old.kept old.socket e s) (sym same) comes, grows lane lane2 e grown)
   noted (stage.Falling cuts) old lane carry new lane2 carry2 h = absurd h
   noted stage.Open old lane carry new lane2 carry2 h = let is = h.0 in absurd (cc)
   noted stage.Failed old lane carry new lane2 carry2 h = let is = h.0 in absurd (cc)
 
   pub noted_was_taken : (s : Stage) (old : LinkState S) (lane : Heard) (carry : Carried) (r : Result Turn LinkFault) (new : LinkState S) (lane2 : Heard) (carry2 : Carried)
-      → Turned remaining contents s old lane carry r new lane2 carry2 → r ≡ Ok turn.Noted → (e : Event) × (lane2.trace ≡ lane.trace ++ e ∷ [])
+      → Turned remaining contents s old lane carry r new lane2 carry2 → r ≡ Ok turn.Noted
+      → (e : Event) × Comes remaining old.kept old.socket e new.socket × (lane2.trace ≡ lane.trace ++ e ∷ [])
   noted_was_taken s old lane carry r new lane2 carry2 h is =
       noted s old lane carry new lane2 carry2 (subst (λ (x : Result Turn LinkFault). Turned remaining contents s old lane carry x new lane2 carry2) is h)
 
@@ -112,36 +116,53 @@ module _ {S : Type 0} (remaining contents : S → Option (List ℕ)) where
   not_passed_over s old lane carry r new lane2 carry2 begins h is =
       dropped s old lane carry new lane2 carry2 begins (subst (λ (x : Result Turn LinkFault). Turned remaining contents s old lane carry x new lane2 carry2) is h)
 
-  -- the next event is the kept one
-  next_is_kept : (kept : Option Event) (s mid : Socket S) (e next : Event) → kept ≡ Some e → Comes remaining kept s next mid → (next ≡ e) × (mid ≡ s)
-  next_is_kept kept s mid e next is comes = subst (λ (k : Option Event). Comes remaining k s next mid) is comes
+  as_before : (kept : Option Event) (old new : Socket S) → new ≡ old → IsAsRead remaining contents kept old new
+  as_before None old new same = inl same
+  as_before (Some k) old new same = same
 
-  took_begun : (lane lane2 : Heard) (e next : Event) → next ≡ e → lane2 ≡ with_event lane next → lane2.trace ≡ lane.trace ++ e ∷ []
-  took_begun lane lane2 e next same took = grows lane lane2 next took ∙ ap (λ (x : Event). lane.trace ++ x ∷ []) same
+  as_read : (kept : Option Event) (old mid new : Socket S) (r : Result Message Error) → kept ≡ None → Reads remaining old mid r
+      → (new ≡ mid) ⊎ Flushed contents mid new → IsAsRead remaining contents kept old new
+  as_read None old mid new r none reads left = inr (mid, r, reads, left)
+  as_read (Some k) old mid new r none reads left = absurd (cc)
+
+  as_come : (kept : Option Event) (old mid : Socket S) (e : Event) → Comes remaining kept old e mid → IsAsRead remaining contents kept old mid
+  as_come None old mid e (bs, m, reads, has, gives) = inr (mid, Ok m, reads, inl refl)
+  as_come (Some k) old mid e (is, same) = same
+
+  as_failed : (kept : Option Event) (old new : Socket S) (f : LinkFault) → kept ≡ None → FailsToRead remaining contents old f new
+      → IsAsRead remaining contents kept old new
+  as_failed kept old new f none (inl (x, reads, is, loud)) = as_read kept old new new (Err x) none reads (inl refl)
+  as_failed kept old new f none (inr (inl (m, mid, reads, closes, flushed, is))) = as_read kept old mid new (Ok m) none reads (inr flushed)
+  as_failed kept old new f none (inr (inr (bs, m, reads, has, gives))) = as_read kept old new new (Ok m) none reads (inl refl)
 
   pub unless_taken : (s : Stage) (old : LinkState S) (lane : Heard) (carry : Carried) (r : Result Turn LinkFault) (new : LinkState S) (lane2 : Heard) (carry2 : Carried)
-      → Turned remaining contents s old lane carry r new lane2 carry2 → (e : Event) → old.kept ≡ Some e → ¬ IsPrefix (lane.trace ++ e ∷ []) lane2.trace → new.socket ≡ old.socket
-  unless_taken stage.Up old lane carry (Ok turn.Heard) new lane2 carry2 (next, mid, comes, took, up, kept) e waits not =
-      let is = next_is_kept old.kept old.socket mid e next waits comes in
-      absurd (not (begun_same (lane.trace ++ e ∷ []) lane2.trace (took_begun lane lane2 e next is.0 took.0.0)))
-  unless_taken stage.Up old lane carry (Ok turn.Noted) new lane2 carry2 (next, mid, comes, took, up, kept) e waits not =
-      let is = next_is_kept old.kept old.socket mid e next waits comes in
-      absurd (not (begun_same (lane.trace ++ e ∷ []) lane2.trace (took_begun lane lane2 e next is.0 took.0.0)))
-  unless_taken stage.Up old lane carry (Ok turn.Dropped) new lane2 carry2 (idle, reads) e waits not = let none = idle.0 in absurd (cc)
-  unless_taken stage.Up old lane carry (Ok turn.Quiet) new lane2 carry2 (idle, reads) e waits not = let none = idle.0 in absurd (cc)
-  unless_taken stage.Up old lane carry (Ok turn.Busy) new lane2 carry2 (next, comes, refuses, kept, up, stays) e waits not =
-      (next_is_kept old.kept old.socket new.socket e next waits comes).1
-  unless_taken stage.Up old lane carry (Err f) new lane2 carry2 (mid, inl (stays, none, fails), ends, kept) e waits not = absurd (cc)
-  unless_taken stage.Up old lane carry (Err f) new lane2 carry2 (mid, inr (next, s, comes, inl (stays, same, declines)), ends, kept) e waits not =
-      same ∙ (next_is_kept old.kept old.socket s e next waits comes).1
-  unless_taken stage.Up old lane carry (Err f) new lane2 carry2 (mid, inr (next, s, comes, inr (took, unanswered)), ends, kept) e waits not =
-      let is = next_is_kept old.kept old.socket s e next waits comes in
-      absurd (not (ends_begun (lane.trace ++ e ∷ []) _ mid lane2 new.stage (took_begun lane mid e next is.0 took.0) ends))
-  unless_taken (stage.Falling cuts) old lane carry (Ok turn.Busy) new lane2 carry2 (ends, at, kept, carried, same) e waits not = same
-  unless_taken (stage.Falling cuts) old lane carry (Ok _) new lane2 carry2 h e waits not = absurd h
-  unless_taken (stage.Falling cuts) old lane carry (Err f) new lane2 carry2 (is, ends, at, kept, carried, same) e waits not = same
-  unless_taken stage.Open old lane carry r new lane2 carry2 (is, same, stays) e waits not = ap (λ (l : LinkState S). l.socket) same
-  unless_taken stage.Failed old lane carry r new lane2 carry2 (is, same, stays) e waits not = ap (λ (l : LinkState S). l.socket) same
+      → Turned remaining contents s old lane carry r new lane2 carry2 → TookNone remaining old.kept old.socket lane.trace lane2.trace
+      → IsAsRead remaining contents old.kept old.socket new.socket
+  unless_taken stage.Up old lane carry (Ok turn.Heard) new lane2 carry2 (e, mid, comes, took, up, kept) untaken =
+      absurd (untaken e mid comes (begun_same (lane.trace ++ e ∷ []) lane2.trace (grows lane lane2 e took.0.0)))
+  unless_taken stage.Up old lane carry (Ok turn.Noted) new lane2 carry2 (e, mid, comes, took, up, kept) untaken =
+      absurd (untaken e mid comes (begun_same (lane.trace ++ e ∷ []) lane2.trace (grows lane lane2 e took.0.0)))
+  unless_taken stage.Up old lane carry (Ok turn.Dropped) new lane2 carry2 (idle, (m, reads, over)) untaken =
+      as_read old.kept old.socket new.socket new.socket (Ok m) idle.0 reads (inl refl)
+  unless_taken stage.Up old lane carry (Ok turn.Quiet) new lane2 carry2 (idle, (x, quiet, reads)) untaken =
+      as_read old.kept old.socket new.socket new.socket (Err x) idle.0 reads (inl refl)
+  unless_taken stage.Up old lane carry (Ok turn.Busy) new lane2 carry2 (e, comes, refuses, kept, up, stays) untaken =
+      as_come old.kept old.socket new.socket e comes
+  unless_taken stage.Up old lane carry (Err f) new lane2 carry2 (mid, inl (stays, none, fails), ends, kept) untaken =
+      as_failed old.kept old.socket new.socket f none fails
+  unless_taken stage.Up old lane carry (Err f) new lane2 carry2 (mid, inr (e, s, comes, inl (stays, same, declines)), ends, kept) untaken =
+      subst (λ (x : Socket S). IsAsRead remaining contents old.kept old.socket x) (sym same) (as_come old.kept old.socket s e comes)
+  unless_taken stage.Up old lane carry (Err f) new lane2 carry2 (mid, inr (e, s, comes, inr (took, unanswered)), ends, kept) untaken =
+      absurd (untaken e s comes (ends_begun (lane.trace ++ e ∷ []) _ mid lane2 new.stage (grows lane mid e took.0) ends))
+  unless_taken (stage.Falling cuts) old lane carry (Ok turn.Busy) new lane2 carry2 (ends, at, kept, carried, same) untaken =
+      as_before old.kept old.socket new.socket same
+  unless_taken (stage.Falling cuts) old lane carry (Ok _) new lane2 carry2 h untaken = absurd h
+  unless_taken (stage.Falling cuts) old lane carry (Err f) new lane2 carry2 (is, ends, at, kept, carried, same) untaken =
+      as_before old.kept old.socket new.socket same
+  unless_taken stage.Open old lane carry r new lane2 carry2 (is, same, stays) untaken =
+      as_before old.kept old.socket new.socket (ap (λ (l : LinkState S). l.socket) same)
+  unless_taken stage.Failed old lane carry r new lane2 carry2 (is, same, stays) untaken =
+      as_before old.kept old.socket new.socket (ap (λ (l : LinkState S). l.socket) same)
 
   stream_quiet : (s : Stage) (old : LinkState S) (lane : Heard) (carry : Carried) (f : LinkFault) (new : LinkState S) (lane2 : Heard) (carry2 : Carried)
       → IsIdle remaining old.socket → old.kept ≡ None → f ≡ Stream → Turned remaining contents s old lane carry (Err f) new lane2 carry2 → new.socket.output ≡ []

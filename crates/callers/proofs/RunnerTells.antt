@@ -1,12 +1,14 @@
 -- What a run of a build's steps tells and reports.
 use Rattle.std.proofs.Common.{◌≡◌, ◌≢◌, ℕ, ◌<◌, Bool, true, false, cond, List, [], ◌∷◌, ◌++◌, length, Option, Some, Result, Ok, Err, IfOk, OnOk, refl, sym, ap, ◌∙◌, arith}
+use Rattle.std.specs.Prelude.{if◌then◌else◌}
 use Rattle.std.specs.List.{slice_get}
 use Rattle.std.specs.Option.{option_map_or}
 use Rattle.std.specs.declared.alloc.AllocError.{AllocError}
 use Rattle.std.proofs.lemmas.List.{append_cancel_left, length-append}
 use Rattle.bm_session.specs.declared.results.Results.{Results}
-use Rattle.bm_session.specs.declared.results.Results.TheVariants.{Failure, Skipped, Exception, Retry}
+use Rattle.bm_session.specs.declared.results.Results.TheVariants.{Success, Failure, Skipped, Exception, Retry}
 use Rattle.bm_board.specs.declared.plan.StepPlan.{StepPlan}
+use Rattle.bm_board.specs.Steps.{result_of, worse}
 use Rattle.bm_runner.specs.declared.port.Told.{Told}
 use Rattle.bm_runner.specs.declared.run.Report.{Report}
 use Rattle.bm_runner.specs.Run.{IsRun, counted, ran, runs_at, told_outcomes}
@@ -51,8 +53,21 @@ fails steps turns before after refused report one run entry told failed =
     (run.outcomes ∙ ap (λ entries. told_outcomes entries refused) (append_cancel_left before run.entries (entry ∷ []) (sym run.told ∙ told))
     ∙ ap (λ (ended : Option Results). option_map_or counted ended Exception ∷ cond refused (Retry ∷ []) []) failed)
 
-pub run_fails : (result : Result Report AllocError) (steps : List StepPlan) (turns : ℕ) (before after : List Told) (refused : Bool) → length steps ≡ 1
+-- and it is the build's result, where it is to fail that
+failed_build : (steps : List StepPlan) (step : StepPlan) (outcomes : List Results) → steps ≡ step ∷ [] → step.flunk_on_failure ≡ true → outcomes ≡ Failure ∷ []
+    → result_of steps outcomes ≡ Failure
+failed_build steps step outcomes one flunks failed =
+    ap (λ (ss : List StepPlan). result_of ss outcomes) one ∙ ap (λ (os : List Results). result_of (step ∷ []) os) failed
+    ∙ ap (λ (b : Bool). worse Success (if b then Failure else Success)) flunks
+
+-- of a build's only step, which is to fail it
+abbrev FailsBuild : List StepPlan → Type 0
+FailsBuild steps = (step : StepPlan) × (steps ≡ step ∷ []) × (step.flunk_on_failure ≡ true)
+
+pub run_fails : (result : Result Report AllocError) (steps : List StepPlan) (turns : ℕ) (before after : List Told) (refused : Bool) → FailsBuild steps
     → IfOk result (IsRun steps turns before after refused)
-    → IfOk result (λ r. (entry : Told) → after ≡ before ++ entry ∷ [] → entry.ended ≡ Some Failure → r.outcomes ≡ Failure ∷ [])
-run_fails (Ok report) steps turns before after refused one run = fails steps turns before after refused report one run
-run_fails (Err e) steps turns before after refused one run = tt
+    → IfOk result (λ r. (entry : Told) → after ≡ before ++ entry ∷ [] → entry.ended ≡ Some Failure → (r.outcomes ≡ Failure ∷ []) × (r.result ≡ Failure))
+run_fails (Ok report) steps turns before after refused (step, one, flunks) run = λ entry told ended.
+    let failed = fails steps turns before after refused report (ap length one) run entry told ended in
+    (failed, run.result ∙ failed_build steps step report.outcomes one flunks failed)
+run_fails (Err e) steps turns before after refused only run = tt

@@ -15,8 +15,8 @@ use bm_store::{Chunk, ViewRefusal};
 use std::alloc::{AllocError, Global};
 use std::sync::Wait;
 
-/// An end isn't busy while fewer items were put into its queue than that takes at once.
-pub fn end_with_room_is_not_busy<Y: Yard, R: Wait>(
+/// The first items of a lane, as many as its queue takes at once, find room.
+pub fn first_items_find_room<Y: Yard, R: Wait>(
     reader: &mut ReaderEnd<Y>,
     rt: &R,
     event: Event,

@@ -1,20 +1,21 @@
 //! Callers of a master's link.
 
-ghost use Rattle.std.specs.Prelude.{◌≡◌, ◌≢◌, ◌∷◌, ◌++◌, [], true, is_some, codes, IfSome, IfOk, IfErr};
-ghost use mathlib.Core.List.{IsPrefix};
+ghost use Rattle.std.specs.Prelude.{◌≡◌, ◌≢◌, ◌<◌, ◌∷◌, ◌++◌, [], true, length, is_some, codes, IfSome, IfOk, IfErr};
 ghost use Rattle.bm_link.specs.declared.credentials.Named.{Named};
+ghost use Rattle.bm_link.specs.declared.attaching.Attached.TheVariants as attached;
 ghost use Rattle.bm_link.specs.declared.fault.LinkFault.TheVariants as fault;
 ghost use Rattle.bm_link.specs.declared.parts.Stage.TheVariants as stage;
 ghost use Rattle.bm_link.specs.declared.parts.Turn.TheVariants as turned;
 ghost use Rattle.bm_lane.specs.declared.refusals.HearRefusal.TheVariants as hearing;
 ghost use Rattle.bm_session.specs.declared.event.Event.{Event as LaneEvent};
 ghost use Rattle.bm_session.specs.declared.event.Event.TheVariants.{Cut};
-ghost use Rattle.bm_session.specs.declared.refusal.Refusal.TheVariants.{AlreadyUp};
-ghost use Rattle.bm_session.specs.Trace.{refusal, orders};
+ghost use Rattle.bm_session.specs.declared.refusal.Refusal.{Refusal};
+ghost use Rattle.bm_session.specs.Trace.{is_up, refusal, orders};
 ghost use Rattle.bm_work.specs.declared.sent.Sent.{Sent as SentOrder};
+ghost use Rattle.bm_link.specs.Parts.{Comes};
 ghost use Rattle.bm_link.specs.Sending.{SendsBytes};
 ghost use Rattle.bm_link.specs.Texts.{AreShort};
-ghost use Rattle.callers.specs.Link.{BeginsWithBinary, LeavesException};
+ghost use Rattle.callers.specs.Link.{BeginsWithBinary, EndsCut, IsAsRead, SendsAgain, TellsLogin, TookNone};
 
 use bm_lane::{ReaderEnd, Yard};
 use bm_lines::Text;
@@ -38,7 +39,8 @@ pub fn busy_lane_keeps_its_link<S: Read + Write + Drop, Y: Yard, R: Wait>(
     link.turn(rt, alloc, arena, reader, resume_state)
 }
 
-/// An event that a turn calls noted was taken by the lane.
+/// An event that a turn calls noted was taken by the lane: the one that waited, or else that of the
+/// message which was read.
 pub fn noted_event_was_taken<S: Read + Write + Drop, Y: Yard, R: Wait>(
     link: &mut MasterLink<S>,
     rt: &R,
@@ -48,7 +50,8 @@ pub fn noted_event_was_taken<S: Read + Write + Drop, Y: Yard, R: Wait>(
     resume_state: &mut ResumeState,
 ) -> Result<Turn, LinkFault>
     ensures { result ≡ Ok turned.Noted
-        → (e : LaneEvent) × (reader.new.trace ≡ reader.old.trace ++ e ∷ []) }
+        → (e : LaneEvent) × Comes S.remaining link.old.kept link.old.socket e link.new.socket
+        × (reader.new.trace ≡ reader.old.trace ++ e ∷ []) }
 {
     link.turn(rt, alloc, arena, reader, resume_state)
 }
@@ -68,7 +71,8 @@ pub fn message_in_hand_is_not_passed_over<S: Read + Write + Drop, Y: Yard, R: Wa
     link.turn(rt, alloc, arena, reader, resume_state)
 }
 
-/// While an event waits, a turn sends nothing unless the lane took it.
+/// A turn sends nothing but what a read replies to, unless the lane took the event that came. That
+/// is the one that waits, or that of the message which is read.
 pub fn untaken_request_is_not_answered<S: Read + Write + Drop, Y: Yard, R: Wait>(
     link: &mut MasterLink<S>,
     rt: &R,
@@ -77,9 +81,8 @@ pub fn untaken_request_is_not_answered<S: Read + Write + Drop, Y: Yard, R: Wait>
     reader: &mut ReaderEnd<Y>,
     resume_state: &mut ResumeState,
 ) -> Result<Turn, LinkFault>
-    ensures { (e : LaneEvent) → link.old.kept ≡ Some e
-        → ¬ IsPrefix (reader.old.trace ++ e ∷ []) reader.new.trace
-        → link.new.socket ≡ link.old.socket }
+    ensures { TookNone S.remaining link.old.kept link.old.socket reader.old.trace reader.new.trace
+        → IsAsRead S.remaining S.contents link.old.kept link.old.socket link.new.socket }
 {
     link.turn(rt, alloc, arena, reader, resume_state)
 }
@@ -117,8 +120,27 @@ pub fn failed_link_hears_nothing<S: Read + Write + Drop, Y: Yard, R: Wait>(
     }
 }
 
-/// A link that fails as it asks has its lane cut, where the session's text is kept.
+/// A turn that fails cuts the lane, behind the event that it took at most, where the session's text
+/// is kept and no message was bad.
 pub fn session_is_cut_after_a_fault<S: Read + Write + Drop, Y: Yard, R: Wait>(
+    link: &mut MasterLink<S>,
+    rt: &R,
+    alloc: Global,
+    arena: &mut Bump,
+    reader: &mut ReaderEnd<Y>,
+    resume_state: &mut ResumeState,
+) -> Result<Turn, LinkFault>
+    requires up { link.old.stage ≡ stage.Up }
+    requires named { is_some resume_state.old.text ≡ true }
+    requires lane { (is_up reader.old.trace ≡ true) × (length reader.old.trace < 999998) }
+    ensures { IfErr result
+        (λ f. f ≢ fault.BadMessage → EndsCut reader.old.trace reader.new.trace) }
+{
+    link.turn(rt, alloc, arena, reader, resume_state)
+}
+
+/// A link that fails as it asks has its lane cut, where the session's text is kept.
+pub fn session_is_cut_after_a_failed_ask<S: Read + Write + Drop, Y: Yard, R: Wait>(
     link: &mut MasterLink<S>,
     rt: &R,
     alloc: Global,
@@ -140,7 +162,7 @@ pub fn session_is_cut_after_a_fault<S: Read + Write + Drop, Y: Yard, R: Wait>(
     }
 }
 
-/// A worker whose lane is up already is told so by an exception, or is told nothing.
+/// A worker whose lane is up already, busy or full is told so by an exception, or is told nothing.
 pub fn refused_login_is_told_why<S: Read + Write + Drop, Y: Yard, R: Wait>(
     link: &mut MasterLink<S>,
     rt: &R,
@@ -148,10 +170,13 @@ pub fn refused_login_is_told_why<S: Read + Write + Drop, Y: Yard, R: Wait>(
     reader: &mut ReaderEnd<Y>,
     resume_state: &mut ResumeState,
 ) -> Result<Attached, LinkFault>
-    ensures { (login : Named) → link.old.login ≡ Some login
-        → result ≡ Err (fault.Lane (hearing.Session AlreadyUp))
-        → LeavesException S.contents login.seq (codes "already up") link.old.socket
+    ensures up { (why : Refusal) → result ≡ Err (fault.Lane (hearing.Session why))
+        → TellsLogin S.contents link.old.login (codes "already up") link.old.socket
         link.new.socket }
+    ensures busy { result ≡ Err (fault.Lane hearing.Busy)
+        → TellsLogin S.contents link.old.login (codes "busy") link.old.socket link.new.socket }
+    ensures full { result ≡ Err fault.Full
+        → TellsLogin S.contents link.old.login (codes "full") link.old.socket link.new.socket }
 {
     link.attach(rt, alloc, reader, resume_state)
 }
@@ -186,4 +211,27 @@ pub fn order_is_kept_as_it_was_sent<S: Read + Write + Drop, Y: Yard, R: Wait>(
         × SendsBytes S.contents o.bytes link.old.socket link.new.socket) }
 {
     link.interrupt(rt, alloc, reader, resume_state, command)
+}
+
+/// An order that a link gave is sent again by the next one, under its number and by its bytes. It is
+/// behind all orders before it. That is so where the login resumes the session.
+pub fn order_is_sent_again<S: Read + Write + Drop, Y: Yard, R: Wait>(
+    link: &mut MasterLink<S>,
+    next: &mut MasterLink<S>,
+    rt: &R,
+    alloc: Global,
+    reader: &mut ReaderEnd<Y>,
+    resume_state: &mut ResumeState,
+    argv: &[Text],
+) -> Option<Result<Attached, LinkFault>>
+    requires { AreShort argv.now }
+    ensures { IfSome result (λ r. r ≡ Ok attached.Resumed
+        → (login : Named) → next.old.login ≡ Some login
+        → SendsAgain S.contents reader.old.trace resume_state.old.orders argv.now login.seq
+        next.old.socket next.new.socket) }
+{
+    match link.start(rt, alloc, reader, resume_state, argv) {
+        Ok(_) => Some(next.attach(rt, alloc, reader, resume_state)),
+        Err(_) => None,
+    }
 }

@@ -1,16 +1,16 @@
 //! Callers of a worker's side of a session.
 
-ghost use Rattle.std.specs.Prelude.{◌≡◌, ◌<◌, ◌≤◌, ◌∷◌, [], length, All, IfOk, IfSome};
-ghost use Rattle.bm_work.specs.Core.{next_number};
-ghost use Rattle.bm_work.specs.declared.sent.Sent.{Sent as SentRequest};
+ghost use Rattle.std.specs.Prelude.{◌≡◌, ◌≤◌, ◌∷◌, [], length, IfOk, IfSome};
+ghost use Rattle.bm_work.specs.Core.{numbers, unanswered_requests};
 
 use bm_lines::Letter;
 use bm_work::{Sent, Worker};
 use std::alloc::AllocError;
 
-/// What a worker sends again has numbers that it gave before.
+/// What a worker sends again has the numbers of its requests without an answer, in their order. So
+/// none is numbered anew, and none is left out.
 pub fn nothing_new_is_numbered(worker: &Worker) -> Result<Vec<Sent>, AllocError>
-    ensures { IfOk result (λ v. All (λ (s : SentRequest). s.seq < next_number worker.now) v.items) }
+    ensures { IfOk result (λ v. numbers v.items ≡ numbers (unanswered_requests worker.now)) }
 {
     worker.resend()
 }
