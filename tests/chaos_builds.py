@@ -3,16 +3,15 @@
 import asyncio
 import collections
 import json
-import os
 import re
 import signal
 import time
 
-from chaos_parts import CHANCE, FIGURES, HERE, IS_LONG, LINES, fault, program
+from chaos_parts import CHANCE, FIGURES, IS_LONG, LINES, fault, program
+from chaos_steps import Silent, Step, limited, printing
 from chaos_way import Way
 from processes import environment
 
-PRINTER = os.path.join(HERE, "numbered_lines.py")
 # What the link of the narrow worker carries, and what is printed on it beside short commands.
 BYTES_A_SECOND = 250_000
 NOISY_LINES = min(max(LINES, 30_000), 60_000 if not IS_LONG else 200_000)
@@ -32,6 +31,11 @@ class Worker:
         self.ends, self.taken_over = 0, 0
         # When its process was stopped, and when it went on: never yet where it is stopped now.
         self.stops = []
+
+    @property
+    def is_lasting(self):
+        """Whether its session has time to resume, and goes on as long as its process does."""
+        return self.resume_ticks > 2_000 and not self.is_latent
 
     def words(self):
         return [program("buildworker"), f"127.0.0.1:{self.way.port}", self.name, self.password]
@@ -73,42 +77,12 @@ WORKERS = [
     Worker(4, 2, 5),
     # Its link is narrow, and is never cut.
     Worker(5, 4, 3_000, BYTES_A_SECOND, faithful=True),
+    # It is paused for seconds, over steps with limits. Its link is cut in such pauses alone.
+    Worker(6, 4, 3_000, 10**9, faithful=True),
     # Under its name strangers log in. It has no process and no builds.
-    Worker(6, 1, 0, 10**9),
+    Worker(7, 1, 0, 10**9),
 ]
-LINKED, NARROW, STRANGER = WORKERS[:5], WORKERS[5], WORKERS[6]
-
-
-class Step:
-    """A step of a build: the command that prints so many lines, or is silent where these are 0,
-    and what becomes of it."""
-
-    def __init__(self, worker, kind, lines, seconds):
-        self.build, self.worker, self.kind = None, worker, kind
-        self.seed, self.lines, self.seconds = CHANCE.randrange(2**31), lines, round(seconds, 2)
-        self.name = f"{kind} {self.seed}"
-        self.log, self.result = None, None
-        self.began, self.over, self.between = None, None, None
-
-    def words(self):
-        if self.kind == "silent":
-            # It leaves its parent and its group: whoever ends the command has to find it too.
-            return ["/bin/sh", "-c", f"(setsid sleep 4321.{self.seed} &); sleep 4321.{self.seed}"]
-        return ["/usr/bin/python3", "-SE", PRINTER, str(self.seed), str(self.lines), str(self.seconds)]
-
-    def table(self):
-        return f'[[build.step]]\nname = "{self.name}"\ncommand = {json.dumps(self.words())}\n'
-
-
-def printing(workers, lines, average):
-    """Builds of one or two steps, until they print so many lines."""
-    builds = []
-    while lines > 0:
-        worker = CHANCE.choice(workers)
-        count = CHANCE.choice([1, 1, 2])
-        builds.append([Step(worker, "prints", CHANCE.randrange(average // 2, average * 3 // 2), CHANCE.uniform(0.5, 4)) for _ in range(count)])
-        lines -= sum(step.lines for step in builds[-1])
-    return builds
+LINKED, NARROW, PAUSED, STRANGER = WORKERS[:5], *WORKERS[5:]
 
 
 class Builds:
@@ -117,10 +91,11 @@ class Builds:
     def __init__(self):
         average = min(5_000, max(200, LINES // 40))
         builds = printing(WORKERS[:2], LINES * 11 // 10, average) + printing(WORKERS[2:5], LINES // 3, average // 2)
-        builds += [[Step(CHANCE.choice(WORKERS[:2]), "silent", 0, 0)] for _ in range(SILENT)]
+        builds += [[Silent(CHANCE.choice(WORKERS[:2]))] for _ in range(SILENT)]
         CHANCE.shuffle(builds)
+        builds += limited(PAUSED)
         narrow = [[Step(NARROW, "noisy", NOISY_LINES, 0)]] + [[Step(NARROW, "short", 30, 1)] for _ in range(SHORT)]
-        self.builds, self.results, self.cancelled = narrow + builds, {}, set()
+        self.builds, self.results, self.cancelled, self.begun = narrow + builds, {}, set(), set()
         self.steps = {}
         for number, steps in enumerate(self.builds):
             for step in steps:
@@ -128,8 +103,11 @@ class Builds:
         # Builds that are cancelled between their steps.
         self.halved = {number for number, steps in enumerate(self.builds) if len(steps) > 1 and CHANCE.random() < 0.3}
         self.remarks, self.say = [], None
-        # When each cancel was told, and what had come between till then.
+        # When each cancel was told, and what had come between till then. The count of blocks is odd
+        # while nobody reads the remarks, and even where they are read as they come.
         self.cancels, self.blocks = {}, 0
+        # When the master's process was stopped and when it went on, and when its door was full.
+        self.stops, self.doors, self.refusals = [], [], []
         # Whoever has this may rely on what was told: nobody keeps the master's remarks back.
         self.heard = asyncio.Lock()
 
@@ -145,6 +123,9 @@ class Builds:
 
     def of_kind(self, kind):
         return [step for step in self.steps.values() if step.kind == kind]
+
+    def of_worker(self, worker):
+        return [step for step in self.steps.values() if step.worker is worker]
 
     def cancel(self, build):
         if build not in self.results and build not in self.cancelled:
@@ -178,12 +159,22 @@ class Builds:
         if step.build != int(build) or step.log is not None:
             fault(f"{name} started twice, or in build {build}")
         step.log, step.began = int(log), time.monotonic()
+        step.blocks.append(self.blocks)
+
+    def stopped(self, build, limit, log, name):
+        step = self.steps[name]
+        if (step.build, step.log) != (int(build), int(log)) or step.result is not None or step.stopped is not None:
+            fault(f"{name} stopped twice, behind its end, or as log {log} of build {build}")
+        step.stopped = limit, time.monotonic()
+        step.blocks.append(self.blocks)
+        FIGURES[f"steps that reached their {limit}"] += 1
 
     def ended(self, build, result, log, name):
         step = self.steps[name]
         if (step.build, step.log) != (int(build), int(log)) or step.result is not None:
             fault(f"{name} ended twice, or as log {log} of build {build}")
         step.result, step.over, step.between = result, time.monotonic(), self.between(step.build)
+        step.blocks.append(self.blocks)
         if step.build in self.halved and result == "SUCCESS" and step is self.builds[step.build][0]:
             FIGURES["cancels between steps"] += 1
             self.cancel(step.build)
@@ -194,6 +185,17 @@ class Builds:
     def result(self, build, result):
         self.results[int(build)] = result
 
+    def began(self, build, what):
+        self.begun.add(int(build))
+        FIGURES[what] += 1
+
+    def refused(self, what):
+        self.refusals.append((what, time.monotonic()))
+        FIGURES[what] += 1
+
+    def refused_more(self, count, what):
+        FIGURES[what] += int(count)
+
     def count(self, what):
         FIGURES[what] += 1
 
@@ -203,12 +205,12 @@ FORMS = [
     (re.compile(r"build (\d+) step started, log (\d+): (.*)"), Builds.started),
     (re.compile(r"build (\d+) step ended ([A-Z]+), log (\d+): (.*)"), Builds.ended),
     (re.compile(r"build (\d+) ended ([A-Z]+)"), Builds.result),
-    (re.compile(r"((?:login|connection) refused, [a-z ]+)(?:, from [\d.:]+)?(?:: .*)?"), Builds.count),
-    (re.compile(r"\d+ (more connections refused)"), Builds.count),
+    (re.compile(r"((?:login|connection) refused, [a-z ]+)(?:, from [\d.:]+)?(?:: .*)?"), Builds.refused),
+    (re.compile(r"(\d+) (more connections refused)"), Builds.refused_more),
     (re.compile(r"(accepting paused)"), Builds.count),
     (re.compile(r"(program of w3 (?:started|not started|ended))(?:, .*)?"), Builds.count),
-    (re.compile(r"build \d+ (started on w\d)"), Builds.count),
+    (re.compile(r"build (\d+) (started on w\d)"), Builds.began),
     (re.compile(r"build \d+ (step not started), [a-z ]+: .*"), Builds.count),
-    (re.compile(r"build \d+ (step stopped), .*"), Builds.count),
+    (re.compile(r"build (\d+) step stopped, (\w+), log (\d+): (.*)"), Builds.stopped),
     (re.compile(r"build (\d+) to be cancelled"), Builds.cancelling),
 ]

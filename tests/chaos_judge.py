@@ -1,16 +1,21 @@
 """Compares what `tests/chaos` found with what has to be: each line of each log, results, sessions,
 and least numbers."""
 
+import asyncio
 import collections
+import time
 
 import numbered_lines
-from chaos_builds import WORKERS
+from chaos_builds import PAUSED, WORKERS
+from chaos_limits import compare_limits, compare_refused
 from chaos_parts import FIGURES, IS_LONG, LINES, fault
 
 LETTERS = {numbered_lines.OUTPUT: "o", numbered_lines.ERRORS: "e"}
 # A bound for a hang, of a short command beside a noisy one and of a step whose build was cancelled.
 # How long the slowest of each took is a figure. A silent command would take more than an hour.
 HANG_SECONDS = 120
+# So long troubles that are due are waited for once all builds are over.
+SECONDS_FOR_THE_OWED = 60
 # How often each thing has to happen at least, in a run of 30,000 lines and in one of 500,000.
 LEAST = {
     "cuts": (8, 80),
@@ -20,6 +25,23 @@ LEAST = {
     "resumptions": (6, 60),
     "looks": (1_000, 20_000),
     "connection refused, too many connections": (1, 1),
+    "crowds that were refused": (1, 1),
+    "times that connects were closed": (1, 2),
+    "times that connects were reset": (1, 2),
+    "times that connects were left without an answer": (1, 2),
+    "workers back from connects that were turned away": (2, 6),
+    "connections that were dark twice in a row": (1, 3),
+    "pauses over steps with limits": (1, 4),
+    "steps that reached their timeout_ticks": (1, 6),
+    "steps that reached their silent_ticks": (1, 6),
+    "steps over by a limit while their worker was paused": (0, 4),
+    "slots that paused commands kept": (0, 3),
+    "builds that waited for a paused command": (0, 3),
+    "paused workers that came by another connection": (0, 2),
+    "workers back from a pause in which its connection is cut": (0, 1),
+    "workers back from a pause in which its connection goes dark": (0, 1),
+    "full doors": (1, 2),
+    "workers back from a full door": (1, 2),
     "outages": (1, 6),
     "outages in mid-line": (0, 3),
     "kills": (1, 8),
@@ -36,6 +58,9 @@ LEAST = {
     "readers that were cut": (0, 8),
     "short commands beside a noisy one": (4, 20),
 }
+
+# What comes as well once all builds are over.
+OWED = [name for name in LEAST if "connects" in name or "door" in name or "crowds" in name or "dark" in name]
 
 
 def judged(found, printed, is_whole):
@@ -56,6 +81,8 @@ def judged(found, printed, is_whole):
     }
 
 
+# How steps and builds may end, and how those of the worker that is paused may.
+ALLOWED = {False: ("SUCCESS", "RETRY", "CANCELLED"), True: ("SUCCESS", "EXCEPTION")}
 # The last line of a command that was interrupted.
 STOPPED = "hinterrupted"
 
@@ -64,7 +91,7 @@ def compare(step, lines):
     """Compares a log with what its command printed."""
     last = "hprogram finished with exit code 0"
     said = {letter: [] for letter in LETTERS.values()}
-    for pipe, line in numbered_lines.printed(step.seed, step.lines):
+    for pipe, line in step.printed():
         said[LETTERS[pipe]].extend(numbered_lines.shown(line))
     headers = [place for place, line in enumerate(lines) if line[:1] == "h"]
     has_ended, is_stopped = lines[-1:] == [last], lines[-1:] == [STOPPED]
@@ -88,13 +115,13 @@ def compare(step, lines):
     FIGURES[f"logs that ended {step.result}"] += 1
 
 
-def compare_all(builds, shelf):
+def compare_all(builds, shelf, watched):
     for step in builds.steps.values():
         if step.log is None:
             if step.result is not None:
                 fault(f"{step.name} ended before it started")
             continue
-        if step.result not in ("SUCCESS", "RETRY", "CANCELLED") or step.kind == "silent" and step.result == "SUCCESS":
+        if step.result not in ALLOWED[step.worker is PAUSED] or step.is_endless and step.result == "SUCCESS":
             fault(f"log {step.log} ended {step.result}")
         compare(step, shelf.lines.get(step.log, []))
     for number, steps in enumerate(builds.builds):
@@ -103,6 +130,8 @@ def compare_all(builds, shelf):
         compare_sessions(worker, builds)
     compare_cancels(builds)
     compare_shorts(builds)
+    compare_limits(builds, watched)
+    compare_refused(builds)
     if FIGURES["times that the descriptors were filled"] and not FIGURES["accepting paused"]:
         fault("accepting never paused")
 
@@ -112,8 +141,10 @@ def compare_build(builds, number, steps):
     result, is_cancelled = builds.results[number], number in builds.cancelled
     if result == "SUCCESS" and (results != ["SUCCESS"] * len(steps)):
         fault(f"build {number} ended SUCCESS after {results}")
-    if result == "CANCELLED" and not is_cancelled or result not in ("SUCCESS", "CANCELLED", "RETRY"):
+    if result == "CANCELLED" and not is_cancelled or result not in ALLOWED[steps[0].worker is PAUSED]:
         fault(f"build {number} ended {result}")
+    if result == "EXCEPTION" and results[-1:] != ["EXCEPTION"]:
+        fault(f"build {number} ended EXCEPTION after {results}")
     if number not in builds.halved or not is_cancelled or results[:1] != ["SUCCESS"]:
         return
     # It was cancelled as its first step ended: the next one wasn't started, or was interrupted.
@@ -166,6 +197,8 @@ def compare_sessions(worker, builds):
         fault(f"{worker.name}: {retries} commands ended RETRY, and only {lost} sessions of {worker.slots} slots were given up")
     if worker.is_faithful and lost > worker.ends + worker.taken_over:
         fault(f"{worker.name}: {lost} sessions given up, and its process ended {worker.ends} times")
+    if worker.is_faithful and worker.ends > worker.taken_over:
+        fault(f"{worker.name} gave up connecting, and nobody took its place")
     if worker.is_faithful and lost == 0 and not 0 <= worker.told["cut"] - worker.told["resumed"] <= 1:
         fault(f"{worker.name}: {worker.told['cut']} cuts and {worker.told['resumed']} resumptions")
     given_up = [number for number, steps in enumerate(builds.builds) if steps[0].worker is worker and builds.results[number] == "RETRY"]
@@ -173,11 +206,21 @@ def compare_sessions(worker, builds):
         fault(f"{worker.name}: builds {given_up} ended RETRY, and no session was given up")
 
 
+def missing(names):
+    """Which of these have happened less often than they have to."""
+    if LINES < 30_000:
+        return []
+    return [name for name in names if FIGURES[name] < LEAST[name][IS_LONG]]
+
+
+async def await_owed():
+    """Waits for the troubles that are due, and need no build; not for ever."""
+    end = time.monotonic() + SECONDS_FOR_THE_OWED
+    while missing(OWED) and time.monotonic() < end:
+        await asyncio.sleep(0.1)
+
+
 def demand_least():
     """A run in which little happened shows little."""
-    if LINES < 30_000:
-        return
-    for name, (least, least_of_long) in LEAST.items():
-        due = least_of_long if IS_LONG else least
-        if FIGURES[name] < due:
-            fault(f"{FIGURES[name]} {name}, {due} are due")
+    for name in missing(LEAST):
+        fault(f"{FIGURES[name]} {name}, {LEAST[name][IS_LONG]} are due")

@@ -8,11 +8,10 @@ import struct
 import time
 
 import wire
-from chaos_builds import LINKED, STRANGER, WORKERS
+from chaos_builds import LINKED, STRANGER
 from chaos_parts import CHANCE, FIGURES, fault
 from wire import reset
 
-MOST_GUESTS = 256
 # A connection that doesn't log in is closed after so many seconds, as is promised;
 # a busy machine has some more.
 SECONDS_TO_LOG_IN = 10
@@ -36,6 +35,14 @@ def costly_login():
     return b"\xdd" + struct.pack(">I", count) + pairs * count
 
 
+async def end_tasks(tasks):
+    """Ends all. A wait with a limit that just met its end passes over a cancel, so it is tried again."""
+    while going := [task for task in tasks if not task.done()]:
+        for task in going:
+            task.cancel()
+        await asyncio.wait(going, timeout=1)
+
+
 class Strangers:
     """What strangers do at both ports of a master."""
 
@@ -43,8 +50,12 @@ class Strangers:
         self.master, self.workers_address, self.web, self.builds = master, workers, web, builds
         self.tasks, self.descriptors = [], asyncio.Lock()
 
+        # Whether strangers hold all places before a login.
+        self.is_full = False
+
     def later(self, act):
         self.tasks.append(asyncio.ensure_future(act))
+        return self.tasks[-1]
 
     @staticmethod
     def chosen(workers):
@@ -54,7 +65,13 @@ class Strangers:
 
     async def connected(self):
         """A WebSocket to the master. A connect that meets a full queue would be tried again for minutes."""
+        FIGURES["connects of strangers"] += 1
         return await asyncio.wait_for(wire.connected("%s:%d" % self.workers_address), SECONDS_TO_CONNECT)
+
+    async def opened_one(self, address):
+        """A connection to the workers' port, or the web's, of which nothing is said yet."""
+        FIGURES["connects of strangers"] += address == self.workers_address
+        return await asyncio.wait_for(asyncio.open_connection(*address), SECONDS_TO_CONNECT)
 
     async def joined(self, name, password):
         """A connection that said a login. The answer isn't read."""
@@ -118,11 +135,14 @@ class Strangers:
                 return
             FIGURES["workers that trickle"] += 1
             link.writer.write(FRAME_OF_A_MILLION)
-            trickling = asyncio.ensure_future(self.bytes_without_end(link.writer))
+            gaps = []
+            trickling = asyncio.ensure_future(self.bytes_without_end(link.writer, gaps))
             await asyncio.sleep(CHANCE.uniform(0.5, 2))
             async with self.builds.heard:
                 answer, seconds = await self.log_in(STRANGER.name, STRANGER.password)
-            if trickling.done() or answer not in ("", "already up") or seconds > SECONDS_TO_ANSWER:
+            is_well = not trickling.done() and answer in ("", "already up") and seconds <= SECONDS_TO_ANSWER
+            # On a machine that stood still it was silent, and taken for dead.
+            if not is_well and max(gaps, default=0) < LEAST_SECONDS_OF_SILENCE:
                 fault(f"beside a worker that trickles a login was answered {answer} after {seconds:.1f} s")
             await asyncio.sleep(CHANCE.uniform(0, 2))
             trickling.cancel()
@@ -132,10 +152,13 @@ class Strangers:
             reset(link.writer)
 
     @staticmethod
-    async def bytes_without_end(writer):
+    async def bytes_without_end(writer, gaps):
+        """Sends them, and notes how many seconds lay between two."""
         while not writer.is_closing():
             writer.write(b"\0")
+            begun = time.monotonic()
             await asyncio.sleep(0.004)
+            gaps.append(time.monotonic() - begun)
 
     async def long_login(self):
         """A login of a million bytes: one whose tree is large is refused, and one of a long name is a wrong one."""
@@ -156,12 +179,12 @@ class Strangers:
 
     async def silent(self):
         """A connection that says nothing is closed by the master in time."""
-        reader, writer = await asyncio.open_connection(*self.workers_address)
+        reader, writer = await self.opened_one(self.workers_address)
         self.later(self.is_closed(reader, writer, "silent", b""))
 
     async def slow(self):
         """So is one that says its handshake slowly."""
-        reader, writer = await asyncio.open_connection(*self.workers_address)
+        reader, writer = await self.opened_one(self.workers_address)
         self.later(self.is_closed(reader, writer, "slow", REQUEST))
 
     async def is_closed(self, reader, writer, kind, data):
@@ -182,41 +205,12 @@ class Strangers:
             reset(writer)
 
     async def nonsense(self):
-        _, writer = await asyncio.open_connection(*CHANCE.choice([self.workers_address, self.web]))
+        _, writer = await self.opened_one(CHANCE.choice([self.workers_address, self.web]))
         FIGURES["connections with nonsense"] += 1
         start = CHANCE.choice([b"", REQUEST, REQUEST + b"\x82\x84" + bytes(4), b"GET / HTTP/1.1\r\n"])
         writer.write(start + CHANCE.randbytes(CHANCE.randrange(3_000)))
         await asyncio.sleep(CHANCE.random())
         reset(writer)
-
-    async def crowd(self):
-        """More connections than may be without a login: those above are refused, and the workers go on. A busy machine may
-        take them so slowly that the first are closed in time; then it is tried again."""
-        await asyncio.sleep(CHANCE.uniform(5, 10))
-        while not FIGURES[TOO_MANY]:
-            async with contextlib.AsyncExitStack() as calm:
-                for worker in WORKERS:
-                    await calm.enter_async_context(worker.way.calm)
-                await calm.enter_async_context(self.descriptors)
-                await asyncio.sleep(0.5)
-                await self.be_crowded()
-            await asyncio.sleep(SECONDS_TO_LOG_IN)
-
-    async def be_crowded(self):
-        FIGURES["crowds"] += 1
-        coming = [asyncio.ensure_future(asyncio.open_connection(*self.workers_address)) for _ in range(MOST_GUESTS * 5 // 4)]
-        try:
-            for _ in range(80):
-                await asyncio.sleep(0.1)
-                if FIGURES[TOO_MANY]:
-                    return
-        finally:
-            for each in coming:
-                each.cancel()
-            came = await asyncio.gather(*coming, return_exceptions=True)
-            for each in came:
-                if isinstance(each, tuple):
-                    reset(each[1])
 
     @contextlib.asynccontextmanager
     async def opened(self, addresses):
@@ -224,7 +218,7 @@ class Strangers:
         writers = []
         try:
             for address in addresses:
-                _, writer = await asyncio.wait_for(asyncio.open_connection(*address), 5)
+                _, writer = await self.opened_one(address)
                 writers.append(writer)
             yield
         finally:

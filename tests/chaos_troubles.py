@@ -13,14 +13,10 @@ import time
 import wire
 from chaos_builds import LINKED
 from chaos_parts import CHANCE, FIGURES, IS_LONG, fault
+from chaos_pauses import Pauses
 from chaos_readers import BadReaders
-from chaos_strangers import SECONDS_TO_ANSWER, TOO_MANY, Strangers
-from processes import children_of
+from chaos_strangers import end_tasks
 
-MOST_SECONDS_AWAY = 5
-# After a minute of silence a worker and a master take each other for dead, as is promised;
-# a busy machine has some more.
-SECONDS_TO_NOTICE = 60 + 30
 SET_PIPE_SIZE, PIPE_SIZE = 1031, 4_096
 
 
@@ -46,7 +42,7 @@ class Errors:
         return waits > PIPE_SIZE - 512
 
 
-class Trouble(Strangers):
+class Trouble(Pauses):
     """Troubles again and again, each of which waits for so many seconds before the next."""
 
     def __init__(self, master, workers, web, builds, shelf, errors):
@@ -68,6 +64,9 @@ class Trouble(Strangers):
             (self.nonsense, 0.3, 1.5),
             (self.outage, 2, 8),
             (self.dark, 1, 3),
+            (self.turn_away, 0.5, 4 if IS_LONG else 2),
+            (self.full_door, *((8, 20) if IS_LONG else (1, 4))),
+            (self.pause, 0.05, 0.2),
             (self.fill, 4, 12),
             (self.block_errors, 3, 8),
             (self.cancel, 2, 8),
@@ -83,114 +82,16 @@ class Trouble(Strangers):
             try:
                 await act()
             except (OSError, asyncio.TimeoutError, wire.Closed, ValueError) as error:
-                FIGURES["troubles that failed"] += 1
+                FIGURES["troubles that met a full door" if self.is_full else "troubles that failed"] += 1
                 if FIGURES["troubles that failed"] > 200:
                     fault(f"{act.__name__}: {error!r}")
 
     async def end(self):
-        """Ends all. A wait with a limit that just met its end passes over a cancel, so it is tried again."""
-        while going := [task for task in self.tasks if not task.done()]:
-            for task in going:
-                task.cancel()
-            await asyncio.wait(going, timeout=1)
+        await end_tasks(self.tasks)
         for task in self.tasks:
             if not task.cancelled() and task.exception() is not None:
                 fault(f"a trouble ended: {task.exception()!r}")
         self.tasks.clear()
-
-    @staticmethod
-    def signal(pid, number):
-        try:
-            os.kill(pid, number)
-        except ProcessLookupError:
-            pass
-
-    def pid(self, worker):
-        """A worker's process, where it has one."""
-        if worker.is_latent:
-            return next(iter(children_of(self.master.pid)), None)
-        if worker.process is not None and worker.process.returncode is None:
-            return worker.process.pid
-        return None
-
-    async def outage(self):
-        """A worker's way to its master is away for some seconds."""
-        printing = {step.worker for step in self.builds.of_kind("prints") if step.log is not None and step.result is None}
-        way = self.chosen([worker for worker in LINKED if worker in printing] or LINKED).way
-        async with way.calm:
-            FIGURES["outages"] += 1
-            await way.be_away(CHANCE.uniform(0, MOST_SECONDS_AWAY))
-
-    async def dark(self):
-        """A connection goes dark without an end. Its worker comes by another one, and goes on with its session; or a
-        stranger logs in under its name, and takes its place."""
-        worker = self.chosen(LINKED)
-        async with worker.way.calm, self.builds.heard:
-            await asyncio.sleep(0.3)
-            ride = worker.way.ride()
-            if ride is None or not worker.is_up:
-                return
-            ride.is_dark = True
-            FIGURES["dark connections"] += 1
-            try:
-                await asyncio.sleep(CHANCE.uniform(0, 3))
-                if worker.is_faithful or worker.is_latent or FIGURES["dark connections"] % 2:
-                    await self.come_back(worker, ride)
-                else:
-                    await self.take_over(worker)
-            finally:
-                ride.over.set()
-                ride.reset()
-
-    @staticmethod
-    async def come_back(worker, ride):
-        """The worker's end of a dark connection ends. The master's is still open when the worker logs in anew."""
-        logins = worker.told["resumed"] + worker.told["logged in"]
-        ride.near.transport.abort()
-        end = time.monotonic() + SECONDS_TO_ANSWER + MOST_SECONDS_AWAY
-        while worker.told["resumed"] + worker.told["logged in"] == logins:
-            if time.monotonic() > end:
-                return fault(f"{worker.name} isn't back from a dark connection")
-            await asyncio.sleep(0.05)
-        FIGURES["workers back from a dark connection"] += 1
-        try:
-            await asyncio.wait_for(ride.is_left_by_master.wait(), SECONDS_TO_ANSWER)
-        except asyncio.TimeoutError:
-            fault(f"the master keeps the dark connection of {worker.name}")
-
-    async def take_over(self, worker):
-        answer, seconds = await self.log_in(worker.name, worker.password)
-        worker.taken_over += 2
-        if answer == "new" and seconds < SECONDS_TO_ANSWER:
-            FIGURES["dark connections that were taken over"] += 1
-        elif answer != "":
-            fault(f"beside a dark connection of {worker.name} a login was answered {answer} after {seconds:.1f} s")
-
-    async def dark_for_good(self):
-        """A connection goes dark, and nobody ends it: master and worker notice by themselves, and the session goes on."""
-        if not FIGURES[TOO_MANY]:
-            return  # a crowd needs all ways
-        worker = self.chosen([worker for worker in LINKED if worker.is_faithful])
-        async with worker.way.calm:
-            await asyncio.sleep(0.3)
-            ride, resumed = worker.way.ride(), worker.told["resumed"]
-            if ride is None or not worker.is_up:
-                return
-            ride.is_dark = True
-            FIGURES["dark connections"] += 1
-            try:
-                await asyncio.wait_for(self.resumes(worker, resumed), SECONDS_TO_NOTICE)
-                FIGURES["dark connections that were noticed"] += 1
-            except asyncio.TimeoutError:
-                fault(f"a dark connection of {worker.name} wasn't noticed within {SECONDS_TO_NOTICE} s")
-            finally:
-                ride.over.set()
-                ride.reset()
-
-    @staticmethod
-    async def resumes(worker, resumed):
-        while worker.told["resumed"] == resumed:
-            await asyncio.sleep(0.1)
 
     async def kill(self):
         """A worker that is logged in is killed, mostly in mid-line."""
@@ -209,7 +110,7 @@ class Trouble(Strangers):
         if pid is None:
             return
         FIGURES["stops"] += 1
-        begun, stops = time.monotonic(), [] if worker is None else worker.stops
+        begun, stops = time.monotonic(), self.builds.stops if worker is None else worker.stops
         stops.append((begun, math.inf))
         is_dear = worker is None or worker.is_faithful
         try:

@@ -1,5 +1,5 @@
 """What lies between a worker and the master of `tests/chaos`: it cuts connections,
-lets them go dark, and goes away."""
+lets them go dark, goes away, and turns connects away."""
 
 import asyncio
 import contextlib
@@ -7,6 +7,9 @@ import math
 
 from chaos_parts import CHANCE, FIGURES, MOST_SECONDS
 from wire import reset
+
+# What a way does to a connect that it turns away.
+CLOSED, RESET, UNANSWERED = "closed", "reset", "left without an answer"
 
 
 class Ride:
@@ -46,6 +49,8 @@ class Way:
         self.bytes_a_second = bytes_a_second
         self.calm = asyncio.Lock()
         self.rides = []
+        # How it turns connects away just now, and those that it turned away.
+        self.turns_away, self.turned = None, []
 
     async def open(self):
         self.server = await asyncio.start_server(self.carry, "127.0.0.1", self.port)
@@ -67,12 +72,40 @@ class Way:
         finally:
             await self.open()
 
+    async def turn_away(self, seconds, how):
+        """All connections are gone, and for so long from the next connect on each is taken, and then closed at once, reset,
+        or left without an answer. How many connects found it so."""
+        self.turns_away, self.turned = how, []
+        try:
+            for ride in list(self.rides):
+                ride.is_cut = True
+                ride.reset()
+            for _ in range(500):
+                if self.turned:
+                    break
+                await asyncio.sleep(0.02)
+            await asyncio.sleep(seconds)
+        finally:
+            self.turns_away = None
+            for writer in self.turned:
+                reset(writer)
+        return len(self.turned)
+
+    def turn(self, writer):
+        self.turned.append(writer)
+        if self.turns_away == CLOSED:
+            writer.close()
+        elif self.turns_away == RESET:
+            reset(writer)
+
     def ride(self):
         """The connection that was made last, if it still carries."""
         alive = [ride for ride in self.rides if not ride.is_cut and not ride.is_dark and not ride.is_left_by_master.is_set()]
         return alive[-1] if alive else None
 
     async def carry(self, reader, writer):
+        if self.turns_away:
+            return self.turn(writer)
         try:
             far_reader, far_writer = await asyncio.open_connection(*self.master)
         except OSError:
