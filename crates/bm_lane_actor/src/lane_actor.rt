@@ -209,7 +209,8 @@ where
         match request {
             LaneRequest::Attach(link) => self.attach(link),
             LaneRequest::Start(order, answer) => {
-                self.answer_start(order, &answer);
+                let outcome = self.start(order);
+                let _ = answer.send(self.rt, outcome);
             }
             LaneRequest::Interrupt(command, answer) => {
                 let is_kept = self.keep_stop(command);
@@ -229,9 +230,7 @@ where
 
     /// Wakes the gate, and tells how the lane went on from where it stood. Then its builds are
     /// called.
-    pub(crate) fn note(&mut self, before: ConnectionState, cause: LossCause)
-        ensures { self.new.state ≡ self.old.state }
-    {
+    pub(crate) fn note(&mut self, before: ConnectionState, cause: LossCause) {
         if let Some(event) = event_after(before, self.state.connection(), cause) {
             self.events.tell(event);
             self.gate.call_builds(self.place);
