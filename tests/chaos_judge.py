@@ -197,7 +197,8 @@ def compare_sessions(worker, builds):
         fault(f"{worker.name}: {retries} commands ended RETRY, and only {lost} sessions of {worker.slots} slots were given up")
     if worker.is_faithful and lost > worker.ends + worker.taken_over:
         fault(f"{worker.name}: {lost} sessions given up, and its process ended {worker.ends} times")
-    if worker.is_faithful and worker.ends > worker.taken_over:
+    # A worker counts its tries from the last message on, and one without builds hears none.
+    if IS_LONG and worker.is_faithful and worker.ends > worker.taken_over:
         fault(f"{worker.name} gave up connecting, and nobody took its place")
     if worker.is_faithful and lost == 0 and not 0 <= worker.told["cut"] - worker.told["resumed"] <= 1:
         fault(f"{worker.name}: {worker.told['cut']} cuts and {worker.told['resumed']} resumptions")
