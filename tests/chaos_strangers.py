@@ -2,6 +2,7 @@
 
 import asyncio
 import contextlib
+import math
 import os
 import resource
 import struct
@@ -225,10 +226,18 @@ class Strangers:
             for writer in writers:
                 reset(writer)
 
+    async def used_descriptors(self):
+        """How many the master has, once connections of before are closed there."""
+        used, before = len(os.listdir(f"/proc/{self.master.pid}/fd")), math.inf
+        while used < before:
+            await asyncio.sleep(0.3)
+            used, before = len(os.listdir(f"/proc/{self.master.pid}/fd")), used
+        return used
+
     async def fill(self):
         """The master's descriptors run out, by silent connections on both ports."""
         async with self.descriptors:
-            used = len(os.listdir(f"/proc/{self.master.pid}/fd"))
+            used = await self.used_descriptors()
             _, most = resource.prlimit(self.master.pid, resource.RLIMIT_NOFILE)
             resource.prlimit(self.master.pid, resource.RLIMIT_NOFILE, (used + 10, most))
             try:
