@@ -50,8 +50,8 @@ LeadTo bytes hearing =
 -- has this answer, this act, and the commands that it starts. A repeat gets the earlier answer, and
 -- leads to nothing else.
 abbrev pub once : Core → ℕ → WorkerAnswer → WorkAct → List ℕ → Option WorkerAnswer → Hearing
-once core n a todo started (Some first) = repeated core n first
-once core n a todo started None = first_heard core n a todo started
+once core n a work started (Some first) = repeated core n first
+once core n a work started None = first_heard core n a work started
 
 -- how a start of command k is answered
 abbrev pub answer_to_start : Core → ℕ → WorkerAnswer
