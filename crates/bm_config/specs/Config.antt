@@ -14,7 +14,13 @@ use Rattle.bm_config.specs.declared.keys.Key.{Key}
 use Rattle.bm_config.specs.declared.keys.Key.TheVariants as keys
 use Rattle.bm_config.specs.declared.fault.ConfigFault.{ConfigFault}
 use Rattle.bm_config.specs.declared.fault.ConfigFault.TheVariants as faults
+use Rattle.bm_config.specs.declared.fault.ConfigMistake.{ConfigMistake}
+use Rattle.bm_config.specs.declared.fault.ConfigMistake.TheVariants as mistakes
+use Rattle.bm_config.specs.declared.config.RemarkForm.{RemarkForm}
+use Rattle.bm_config.specs.declared.config.RemarkForm.TheVariants as forms
+use Rattle.bm_config.specs.declared.place.Spot.{Spot}
 use Rattle.bm_config.specs.Keys.{name_of}
+use Rattle.bm_config.specs.Places.{alone}
 use Rattle.bm_config.specs.declared.config.Config.{Config}
 use Rattle.bm_config.specs.declared.config.WorkerConfig.{WorkerConfig}
 use Rattle.bm_config.specs.declared.config.LockConfig.{LockConfig}
@@ -69,15 +75,15 @@ abbrev pub command_at : Members → Result (List (List ℕ)) Key
 command_at m = or_fault keys.Command (option_and_then command (find keys.Command m))
 
 -- a worker after those before it
-abbrev pub worker_row : List WorkerConfig → Data → Result WorkerConfig Key
+abbrev pub worker_row : List WorkerConfig → Data → Result WorkerConfig Spot
 worker_row before d =
-    and_then (table_of keys.Worker d) (λ m.
-    and_then (named keys.Name (new_worker before) m) (λ name.
-    and_then (text_at keys.Password m) (λ password.
-    and_then (number_at 1 4 1 keys.Slots m) (λ slots.
-    and_then (program_at m) (λ latent.
-    and_then (number_at 1 most 100 keys.IdleTicks m) (λ idle.
-    and_then (number_at 0 most 0 keys.ResumeTicks m) (λ resume.
+    and_then (alone (table_of keys.Worker d)) (λ m.
+    and_then (alone (named keys.Name (new_worker before) m)) (λ name.
+    and_then (alone (text_at keys.Password m)) (λ password.
+    and_then (alone (number_at 1 4 1 keys.Slots m)) (λ slots.
+    and_then (alone (program_at m)) (λ latent.
+    and_then (alone (number_at 1 most 100 keys.IdleTicks m)) (λ idle.
+    and_then (alone (number_at 0 most 0 keys.ResumeTicks m)) (λ resume.
     Ok (record {
       name = name;
       password = password;
@@ -88,11 +94,11 @@ worker_row before d =
     }))))))))
 
 -- a lock after those before it
-abbrev pub lock_row : List LockConfig → Data → Result LockConfig Key
+abbrev pub lock_row : List LockConfig → Data → Result LockConfig Spot
 lock_row before d =
-    and_then (table_of keys.Lock d) (λ m.
-    and_then (named keys.Name (new_lock before) m) (λ name.
-    and_then (number_at 1 most 1 keys.Max m) (λ max.
+    and_then (alone (table_of keys.Lock d)) (λ m.
+    and_then (alone (named keys.Name (new_lock before) m)) (λ name.
+    and_then (alone (number_at 1 most 1 keys.Max m)) (λ max.
     Ok (record { name = name; max = max }))))
 
 -- the place of the lock that has the name and that no use before names
@@ -112,25 +118,25 @@ abbrev pub worker_named : List WorkerConfig → List ℕ → Option ℕ
 worker_named workers name = position (λ w. bytes_eq w.name name) workers
 
 -- a lock that a build holds, after those before it
-abbrev pub use_row : List LockConfig → List LockUse → Data → Result LockUse Key
+abbrev pub use_row : List LockConfig → List LockUse → Data → Result LockUse Spot
 use_row locks before d =
-    and_then (table_of keys.Locks d) (λ m.
-    and_then (named keys.Name (free_lock locks before) m) (λ lock.
-    and_then (named keys.Mode mode_of m) (λ mode.
+    and_then (alone (table_of keys.Locks d)) (λ m.
+    and_then (alone (named keys.Name (free_lock locks before) m)) (λ lock.
+    and_then (alone (named keys.Mode mode_of m)) (λ mode.
     Ok (record { lock = lock; mode = mode }))))
 
 -- a step of a build
-abbrev pub step_row : List StepPlan → Data → Result StepPlan Key
+abbrev pub step_row : List StepPlan → Data → Result StepPlan Spot
 step_row before d =
-    and_then (table_of keys.Step d) (λ m.
-    and_then (text_at keys.Name m) (λ name.
-    and_then (command_at m) (λ argv.
-    and_then (flag_at false keys.HaltOnFailure m) (λ halt.
-    and_then (flag_at true keys.FlunkOnFailure m) (λ flunk.
-    and_then (flag_at false keys.AlwaysRun m) (λ always.
-    and_then (number_at 0 0xffff_ffff 0x4000_0000 keys.MaxBytes m) (λ bytes.
-    and_then (number_at 0 most 0 keys.TimeoutTicks m) (λ ticks.
-    and_then (number_at 0 most 0 keys.SilentTicks m) (λ silent.
+    and_then (alone (table_of keys.Step d)) (λ m.
+    and_then (alone (text_at keys.Name m)) (λ name.
+    and_then (alone (command_at m)) (λ argv.
+    and_then (alone (flag_at false keys.HaltOnFailure m)) (λ halt.
+    and_then (alone (flag_at true keys.FlunkOnFailure m)) (λ flunk.
+    and_then (alone (flag_at false keys.AlwaysRun m)) (λ always.
+    and_then (alone (number_at 0 0xffff_ffff 0x4000_0000 keys.MaxBytes m)) (λ bytes.
+    and_then (alone (number_at 0 most 0 keys.TimeoutTicks m)) (λ ticks.
+    and_then (alone (number_at 0 most 0 keys.SilentTicks m)) (λ silent.
     Ok (record {
       name = name;
       argv = argv;
@@ -143,31 +149,31 @@ step_row before d =
     }))))))))))
 
 -- the locks that a build holds, and its steps
-abbrev pub uses_of : List LockConfig → Members → Result (List LockUse) Key
-uses_of locks m = and_then (tables_or_none keys.Locks m) (rows (use_row locks))
+abbrev pub uses_of : List LockConfig → Members → Result (List LockUse) Spot
+uses_of locks m = and_then (alone (tables_or_none keys.Locks m)) (rows keys.Locks (use_row locks))
 
-abbrev pub steps_of : Members → Result (List StepPlan) Key
-steps_of m = and_then (tables_or_none keys.Step m) (rows step_row)
+abbrev pub steps_of : Members → Result (List StepPlan) Spot
+steps_of m = and_then (alone (tables_or_none keys.Step m)) (rows keys.Step step_row)
 
 -- a build over the workers and the locks
-abbrev pub build_row : List WorkerConfig → List LockConfig → List Build → Data → Result Build Key
+abbrev pub build_row : List WorkerConfig → List LockConfig → List Build → Data → Result Build Spot
 build_row workers locks before d =
-    and_then (table_of keys.Build d) (λ m.
-    and_then (named keys.Worker (worker_named workers) m) (λ worker.
+    and_then (alone (table_of keys.Build d)) (λ m.
+    and_then (alone (named keys.Worker (worker_named workers) m)) (λ worker.
     and_then (uses_of locks m) (λ uses.
     and_then (steps_of m) (λ steps.
     Ok (record { worker = worker; locks = uses; steps = steps })))))
 
 -- the workers, the locks and the builds of a table
-abbrev pub workers_of : Members → Result (List WorkerConfig) Key
-workers_of m = and_then (tables_at 1 64 keys.Worker m) (rows worker_row)
+abbrev pub workers_of : Members → Result (List WorkerConfig) Spot
+workers_of m = and_then (alone (tables_at 1 64 keys.Worker m)) (rows keys.Worker worker_row)
 
-abbrev pub locks_of : Members → Result (List LockConfig) Key
-locks_of m = and_then (tables_or_none keys.Lock m) (rows lock_row)
+abbrev pub locks_of : Members → Result (List LockConfig) Spot
+locks_of m = and_then (alone (tables_or_none keys.Lock m)) (rows keys.Lock lock_row)
 
-abbrev pub builds_of : List WorkerConfig → List LockConfig → Members → Result (List Build) Key
+abbrev pub builds_of : List WorkerConfig → List LockConfig → Members → Result (List Build) Spot
 builds_of workers locks m =
-    and_then (few_tables 10000 keys.Build m) (rows (build_row workers locks))
+    and_then (alone (few_tables 10000 keys.Build m)) (rows keys.Build (build_row workers locks))
 
 -- a text that isn't empty
 abbrev pub some_text : Data → Option (Option (List ℕ))
@@ -178,14 +184,26 @@ some_text d =
 abbrev pub told_address : Members → Result (Option (List ℕ)) Key
 told_address m = meant_or keys.Address None some_text (find keys.Address m)
 
+-- a form of remarks by its name
+abbrev pub form_of : List ℕ → Option RemarkForm
+form_of text =
+    if bytes_eq text (codes "text") then Some forms.Text
+    else (if bytes_eq text (codes "json") then Some forms.Json else None)
+
+-- the form of remarks, `text` where it is missing
+abbrev pub form_at : Members → Result RemarkForm Key
+form_at m =
+    meant_or keys.Remarks forms.Text (λ d. option_and_then form_of (as_str d)) (find keys.Remarks m)
+
 -- the configuration of a table, with the addresses that its texts write
-abbrev pub config_of : Option SocketAddr → Option SocketAddr → Members → Result Config Key
+abbrev pub config_of : Option SocketAddr → Option SocketAddr → Members → Result Config Spot
 config_of listen web m =
-    and_then (or_fault keys.Listen listen) (λ listen.
-    and_then (or_fault keys.Web web) (λ web.
-    and_then (told_address m) (λ address.
-    and_then (number_at 1 65536 64 keys.Capacity m) (λ capacity.
-    and_then (number_at 1 64 2 keys.Writers m) (λ writers.
+    and_then (alone (or_fault keys.Listen listen)) (λ listen.
+    and_then (alone (or_fault keys.Web web)) (λ web.
+    and_then (alone (told_address m)) (λ address.
+    and_then (alone (number_at 1 65536 64 keys.Capacity m)) (λ capacity.
+    and_then (alone (number_at 1 64 2 keys.Writers m)) (λ writers.
+    and_then (alone (form_at m)) (λ form.
     and_then (workers_of m) (λ workers.
     and_then (locks_of m) (λ locks.
     and_then (builds_of workers locks m) (λ builds.
@@ -195,13 +213,14 @@ config_of listen web m =
       address = address;
       capacity = capacity;
       writers = writers;
+      remarks = form;
       workers = workers;
       locks = locks;
       builds = builds;
-    })))))))))
+    }))))))))))
 
 -- a text says this: it is TOML, and its table makes the configuration or has the key at fault
-pub record Says (text : List ℕ) (said : Result Config Key) : Type 0 where
+pub record Says (text : List ℕ) (said : Result Config Spot) : Type 0 where
   pub table : Members
   pub listen : Option SocketAddr
   pub web : Option SocketAddr
@@ -214,5 +233,11 @@ pub record Says (text : List ℕ) (said : Result Config Key) : Type 0 where
 abbrev pub IsFaultOf : List ℕ → ConfigFault → Type 0
 IsFaultOf text faults.Syntax = parse_document text ≡ None
 IsFaultOf text (faults.Key told) =
-    (key : Key) × ((string_bytes told ≡ name_of key) × Says text (Err key))
+    (spot : Spot) × ((string_bytes told ≡ name_of spot.key) × Says text (Err spot))
 IsFaultOf text faults.Mem = Unit {0}
+
+-- the same with the place
+abbrev pub IsMistakeOf : List ℕ → ConfigMistake → Type 0
+IsMistakeOf text (mistakes.Syntax said) = parse_document text ≡ None
+IsMistakeOf text (mistakes.At spot) = Says text (Err spot)
+IsMistakeOf text mistakes.Mem = Unit {0}

@@ -1,7 +1,7 @@
 -- The names of the keys of a configuration.
 use Rattle.std.specs.Prelude.{ℕ, List, codes}
 use Rattle.bm_config.specs.declared.keys.Key.{Key}
-use Rattle.bm_config.specs.declared.keys.Key.TheVariants.{Listen, Web, Address, Capacity, Writers, Worker, Name, Password, Slots, Latent, IdleTicks, ResumeTicks, Lock, Max, Build, Locks, Mode, Step, Command, HaltOnFailure, FlunkOnFailure, AlwaysRun, MaxBytes, TimeoutTicks, SilentTicks}
+use Rattle.bm_config.specs.declared.keys.Key.TheVariants.{Listen, Web, Address, Capacity, Writers, Remarks, Worker, Name, Password, Slots, Latent, IdleTicks, ResumeTicks, Lock, Max, Build, Locks, Mode, Step, Command, HaltOnFailure, FlunkOnFailure, AlwaysRun, MaxBytes, TimeoutTicks, SilentTicks}
 
 -- a key's name
 abbrev pub name_of : Key → List ℕ
@@ -10,6 +10,7 @@ name_of Web = codes "web"
 name_of Address = codes "address"
 name_of Capacity = codes "capacity"
 name_of Writers = codes "writers"
+name_of Remarks = codes "remarks"
 name_of Worker = codes "worker"
 name_of Name = codes "name"
 name_of Password = codes "password"

@@ -6,18 +6,26 @@ use Rattle.toml.specs.Data.{Data, Members, as_array, as_table}
 use Rattle.bm_config.specs.declared.keys.Key.{Key}
 use Rattle.bm_config.specs.declared.fault.Fault.{Fault}
 use Rattle.bm_config.specs.declared.fault.Fault.TheVariants.{At, Mem}
+use Rattle.bm_config.specs.declared.place.Spot.{Spot}
 use Rattle.bm_config.specs.Fields.{find, or_fault, meant_or, list_of}
+use Rattle.bm_config.specs.Places.{placed, under}
 
 -- what follows where nothing was at fault so far
-abbrev pub and_then : {A B : Type 0} → Result A Key → (A → Result B Key) → Result B Key
+abbrev pub and_then : {A B E : Type 0} → Result A E → (A → Result B E) → Result B E
 and_then (Ok a) next = next a
-and_then (Err key) next = Err key
+and_then (Err fault) next = Err fault
 
 -- the answer is what was said, or memory was refused
-abbrev pub Gives : {A : Type 0} → Result A Key → Result A Fault → Type 0
+abbrev pub Gives : {A : Type 0} → Result A Spot → Result A Fault → Type 0
 Gives said (Ok a) = said ≡ Ok a
-Gives said (Err (At key)) = said ≡ Err key
+Gives said (Err (At spot)) = said ≡ Err spot
 Gives said (Err Mem) = Unit {0}
+
+-- a fault, seen from outside of a row that it is in
+abbrev pub fault_under : Key → ℕ → Fault → Fault
+fault_under section number (At spot) =
+    At (record { key = spot.key; place = under section number spot.place })
+fault_under section number Mem = Mem
 
 -- the elements of an array
 abbrev pub elements : Data → Option (List Data)
@@ -54,11 +62,14 @@ few_tables high key members =
     meant_or key [] (λ d. option_and_then (counted 0 high) (tables d)) (find key members)
 
 -- the rows that elements make, each read after those before it
-abbrev pub rows_after : {A : Type 0} → (List A → Data → Result A Key) → List A → List Data
-    → Result (List A) Key
-rows_after read before [] = Ok before
-rows_after read before (d ∷ ds) =
-    and_then (read before d) (λ row. rows_after read (before ++ row ∷ []) ds)
+abbrev pub rows_after : {A : Type 0} → Key → (List A → Data → Result A Spot) → List A → List Data
+    → Result (List A) Spot
+rows_after section read before [] = Ok before
+rows_after section read before (d ∷ ds) =
+    and_then (placed section (length before) (read before d))
+    (λ row. rows_after section read (before ++ row ∷ []) ds)
 
-abbrev pub rows : {A : Type 0} → (List A → Data → Result A Key) → List Data → Result (List A) Key
-rows read ds = rows_after read [] ds
+-- the rows of the array at this key
+abbrev pub rows : {A : Type 0} → Key → (List A → Data → Result A Spot) → List Data
+    → Result (List A) Spot
+rows section read ds = rows_after section read [] ds

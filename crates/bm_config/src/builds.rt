@@ -125,7 +125,7 @@ pub(crate) fn builds(
     ensures { Gives (builds_of places.now.workers places.now.locks (table_view table.now)) result }
 {
     let values = few_tables(table, Key::Build, MOST_BUILDS)?;
-    read_rows(alloc, places, values)
+    read_rows(alloc, Key::Build, places, values)
 }
 
 // The locks that a build holds.
@@ -133,7 +133,7 @@ fn uses(alloc: Global, locks: &Listed<LockConfig>, table: &Table) -> Result<Lock
     ensures { Gives (uses_of locks.now (table_view table.now)) result }
 {
     let values = all_tables(table, Key::Locks)?;
-    read_rows(alloc, locks, values)
+    read_rows(alloc, Key::Locks, locks, values)
 }
 
 // The steps of a build.
@@ -141,7 +141,7 @@ fn steps(alloc: Global, table: &Table) -> Result<StepPlans, Fault>
     ensures { Gives (steps_of (table_view table.now)) result }
 {
     let values = all_tables(table, Key::Step)?;
-    read_rows(alloc, &(), values)
+    read_rows(alloc, Key::Step, &(), values)
 }
 
 // The place of the worker that a build names.

@@ -17,12 +17,23 @@ pub struct Config {
     pub capacity: u32,
     /// How many threads bring items to the logs.
     pub writers: u32,
+    /// In which form remarks are told.
+    pub remarks: RemarkForm,
     /// The workers, by their places.
     pub workers: Listed<WorkerConfig>,
     /// The locks, by their places.
     pub locks: Listed<LockConfig>,
     /// The builds, by their numbers. Each names its worker and its locks by their places.
     pub builds: Listed<Build>,
+}
+
+/// The form of remarks on standard error.
+#[derive(Clone, Copy, Debug, PartialEq, Eq)]
+pub enum RemarkForm {
+    /// A line for people.
+    Text,
+    /// An object of JSON for programs.
+    Json,
 }
 
 /// A worker of a configuration.

@@ -17,26 +17,30 @@ use toml::{Table, Value};
 pub(crate) trait ConfigRow<C>: Sized + Drop {
     ghost use Rattle.std.specs.Prelude.{List, Result};
     ghost use Rattle.toml.specs.Data.{Data};
-    ghost use Rattle.bm_config.specs.declared.keys.Key.{Key};
+    ghost use Rattle.bm_config.specs.declared.place.Spot.{Spot};
 
-    ghost row_of: { C → List Self → Data → Result Self Key };
+    ghost row_of: { C → List Self → Data → Result Self Spot };
 
     /// The row of an element, or the first key at fault in it.
     fn read(alloc: Global, known: &C, before: &[Self], value: &Value) -> Result<Self, Fault>
         ensures { Gives (row_of known.now before.now (view value.now)) result };
 }
 
-/// The rows of an array, or the first key at fault in it.
+/// The rows of the array at this key, or the first key at fault in it.
 pub(crate) fn read_rows<C, T: ConfigRow<C>>(
     alloc: Global,
+    section: Key,
     known: &C,
     values: &[Value],
 ) -> Result<Listed<T>, Fault>
-    ensures { Gives (rows (T.row_of known.now) (map view values.now)) result }
+    ensures { Gives (rows section (T.row_of known.now) (map view values.now)) result }
 {
     let mut made: Vec<T> = Vec::new(alloc);
     for value in values {
-        let row = T::read(alloc, known, &made, value)?;
+        let row = match T::read(alloc, known, &made, value) {
+            Ok(row) => row,
+            Err(fault) => return Err(fault.under(section, made.len())),
+        };
         made.push(row)?;
     }
     Ok(Listed::from_vec(made))

@@ -3,6 +3,7 @@
 ghost use Rattle.std.specs.Prelude.{◌≡◌, nat_le, map, sum_by, length, option_map, IfOk};
 ghost use Rattle.std.specs.List.{list_all};
 ghost use Rattle.toml.specs.View.{view, table_view};
+ghost use Rattle.bm_config.specs.Places.{alone};
 ghost use Rattle.bm_config.specs.Rows.{Gives};
 ghost use Rattle.bm_config.specs.Config.{is_text, text_array, texts_of, program_at, command_at};
 
@@ -23,31 +24,31 @@ const MOST_BYTES: usize = 900_000;
 
 /// The program that starts a worker on demand, where there is one.
 pub(crate) fn program(alloc: Global, table: &Table) -> Result<Option<Words>, Fault>
-    ensures { Gives (program_at (table_view table.now)) result }
+    ensures { Gives (alone (program_at (table_view table.now))) result }
 {
     let Some(value) = find(table, Key::Latent) else {
         return Ok(None);
     };
     let Some(values) = text_array(value) else {
-        return Err(Fault::At(Key::Latent));
+        return Err(Fault::from(Key::Latent));
     };
     Ok(Some(texts(alloc, values)?))
 }
 
 /// The words of a step.
 pub(crate) fn command(alloc: Global, table: &Table) -> Result<Words, Fault>
-    ensures { Gives (command_at (table_view table.now)) result }
+    ensures { Gives (alone (command_at (table_view table.now))) result }
 {
     let Some(value) = find(table, Key::Command) else {
-        return Err(Fault::At(Key::Command));
+        return Err(Fault::from(Key::Command));
     };
     let Some(values) = text_array(value) else {
-        return Err(Fault::At(Key::Command));
+        return Err(Fault::from(Key::Command));
     };
     if values.len() <= MOST_WORDS && fit(values, MOST_BYTES) {
         Ok(texts(alloc, values)?)
     } else {
-        Err(Fault::At(Key::Command))
+        Err(Fault::from(Key::Command))
     }
 }
 

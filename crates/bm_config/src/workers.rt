@@ -164,7 +164,7 @@ pub(crate) fn workers(alloc: Global, table: &Table) -> Result<Listed<WorkerConfi
     ensures { Gives (workers_of (table_view table.now)) result }
 {
     let values = some_tables(table, Key::Worker, MOST_WORKERS)?;
-    read_rows(alloc, &(), values)
+    read_rows(alloc, Key::Worker, &(), values)
 }
 
 /// The locks of a table.
@@ -172,5 +172,5 @@ pub(crate) fn locks(alloc: Global, table: &Table) -> Result<Listed<LockConfig>, 
     ensures { Gives (locks_of (table_view table.now)) result }
 {
     let values = all_tables(table, Key::Lock)?;
-    read_rows(alloc, &(), values)
+    read_rows(alloc, Key::Lock, &(), values)
 }

@@ -24,7 +24,7 @@ use Rattle.bm_lane_actor.specs.declared.connection_state.ConnectionState.TheVari
 use Rattle.bm_lane_actor.specs.LaneEvents.{is_awaited, connection_of}
 use Rattle.bm_link.specs.Laws.{CarriesPending}
 use Rattle.bm_lane_actor.proofs.Carrying.{attached as carries_attached}
-use Rattle.bm_lane_actor.specs.LaneStates.{LaneView, kept, counting, timer_in, renewed, start_outcome, interrupt_outcome, TakesUp, Attaches, Turns, Starts, Interrupts, ShutsDown, Pings, Closes}
+use Rattle.bm_lane_actor.specs.LaneStates.{LaneView, kept, counting, timer_in, renewed, start_outcome, interrupt_outcome, TakesUp, Declines, Attaches, Turns, Starts, Interrupts, ShutsDown, Pings, Closes}
 
 -- after a login ticks are counted just where the lane is cut
 counted : (u k x : Bool) (term : TimerView)
@@ -81,6 +81,19 @@ module _ {S : Type 0} where
   attached contents link lane resume_state None term r lane2 resume_state2 second place term2 none h same =
       subst (λ (x : Option (LinkState S)). TakesUp contents link lane resume_state term r x lane2 resume_state2 term2) (sym same) h
   attached contents link lane resume_state (Some first) term r lane2 resume_state2 second place term2 none h same = cc
+
+  -- a lane with a link stays as it was, and the other link has its fault
+  pub declined : (contents : S → Option (List ℕ)) (link : LinkState S) (lane : Heard) (resume_state : Carried) (first : Option (LinkState S)) (term : TimerView)
+      (f : LinkFault) (lane2 : Heard) (resume_state2 : Carried)
+      → is_some first ≡ true → lane2 ≡ lane → resume_state2 ≡ resume_state → Declines contents link lane resume_state f
+      → Attaches contents link first (record { lane = lane; resume_state = resume_state; link = first; timer = term }) (Err f)
+      (record { lane = lane2; resume_state = resume_state2; link = first; timer = term })
+  declined contents link lane resume_state None term f lane2 resume_state2 has l c h = cc
+  declined contents link lane resume_state (Some first) term f lane2 resume_state2 has l c h =
+      subst (λ (x : Heard). Attaches contents link (Some first) (record { lane = lane; resume_state = resume_state; link = Some first; timer = term }) (Err f)
+      (record { lane = x; resume_state = resume_state2; link = Some first; timer = term })) (sym l)
+      (subst (λ (x : Carried). Attaches contents link (Some first) (record { lane = lane; resume_state = resume_state; link = Some first; timer = term }) (Err f)
+      (record { lane = lane; resume_state = x; link = Some first; timer = term })) (sym c) (refl, (f, refl, h)))
 
   kept-while : (b : Bool) (l : LinkState S) → is_some (if b then Some l else None) ≡ b
   kept-while true l = refl

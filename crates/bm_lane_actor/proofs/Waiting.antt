@@ -9,11 +9,11 @@ waits_nothing p = (refl, prefix_self p.viewer.seen, refl, refl, refl)
 
 pub waits_more : (old mid new : PortView) (k : ℕ) (said : Polled) → Waits old mid → Looks mid k said new → Waits old new
 waits_more old mid new k said w l = (
-  l.2.lane ∙ w.0,
-  prefix_trans old.viewer.seen mid.viewer.seen new.viewer.seen w.1 l.2.seen,
-  l.4 ∙ w.2,
-  l.5 ∙ w.3,
-  l.6 ∙ w.4,
+  l.1.lane ∙ w.0,
+  prefix_trans old.viewer.seen mid.viewer.seen new.viewer.seen w.1 l.1.seen,
+  l.3 ∙ w.2,
+  l.4 ∙ w.3,
+  l.5 ∙ w.4,
 )
 
 pub waits_same : (old mid new : PortView) → new ≡ mid → Waits old mid → Waits old new

@@ -1,5 +1,5 @@
 -- What happens to a lane, and what follows from it.
-use Rattle.std.specs.Prelude.{ℕ, Bool, true, false, if◌then◌else◌, List, ◌++◌, codes, Option, Some, None}
+use Rattle.std.specs.Prelude.{ℕ, Bool, true, false, if◌then◌else◌, List, Option, Some, None}
 use Rattle.bm_session.specs.Trace.{Trace, is_up, is_cut}
 use Rattle.bm_session.specs.declared.refusal.Refusal.TheVariants.{Mem, Full}
 use Rattle.bm_lane.specs.declared.refusals.HearRefusal.TheVariants.{Session}
@@ -7,8 +7,8 @@ use Rattle.bm_latent.specs.declared.worker_event.WorkerEvent.{WorkerEvent}
 use Rattle.bm_latent.specs.declared.worker_event.WorkerEvent.TheVariants as worker
 use Rattle.bm_link.specs.declared.fault.LinkFault.{LinkFault}
 use Rattle.bm_link.specs.declared.fault.LinkFault.TheVariants as fault
-use Rattle.bm_operator.specs.OneLine.{one_line}
-use Rattle.bm_operator.specs.Remark.{login_line, lost_line}
+use Rattle.bm_operator.specs.Remark.{filled, logged_in, login_refused, resumed, shut_down, worker_cut, worker_lost}
+use Rattle.bm_operator.specs.Told.{Told}
 use Rattle.bm_operator.specs.declared.reasons.LossCause.{LossCause}
 use Rattle.bm_operator.specs.declared.reasons.LossCause.TheVariants as loss
 use Rattle.bm_lane_actor.specs.declared.connection_state.ConnectionState.{ConnectionState}
@@ -70,11 +70,16 @@ fills (event.Declined fault.Full from) = true
 fills event.Filled = true
 fills e = false
 
--- the line that tells an operator of it, by the name of the lane's worker
-abbrev pub event_line : List ℕ → LaneEvent → List ℕ
-event_line name event.Attached = codes "worker " ++ (one_line name ++ codes " logged in\n")
-event_line name event.Resumed = codes "worker " ++ (one_line name ++ codes " resumed\n")
-event_line name (event.Cut c) = lost_line name (codes " cut, ") c
-event_line name (event.Lost c) = lost_line name (codes " lost, ") c
-event_line name (event.Declined f from) = login_line name from (refusal_of f)
-event_line name event.Filled = codes "worker " ++ (one_line name ++ codes " full\n")
+-- What an operator is told of it, by whether the worker was told to shut down, and its name. Of
+-- such a worker it isn't told that its connection is closed, but that it is gone.
+abbrev pub event_told : Bool → List ℕ → LaneEvent → Option Told
+event_told dismissed name event.Attached = Some (logged_in name)
+event_told dismissed name event.Resumed = Some (resumed name)
+event_told true name (event.Cut loss.Closed) = None
+event_told dismissed name (event.Cut c) = Some (worker_cut name c)
+event_told true name (event.Lost loss.Closed) = Some (shut_down name)
+event_told true name (event.Lost loss.Dismissed) = Some (shut_down name)
+event_told true name (event.Lost loss.Ended) = Some (shut_down name)
+event_told dismissed name (event.Lost c) = Some (worker_lost name c)
+event_told dismissed name (event.Declined f from) = Some (login_refused name from (refusal_of f))
+event_told dismissed name event.Filled = Some (filled name)

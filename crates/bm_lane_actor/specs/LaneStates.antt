@@ -1,6 +1,6 @@
 -- What the state of a lane's actor is, and what each of its calls does to the lane. That goes by
 -- what the lane's link and the lane themselves do.
-use Rattle.std.specs.Prelude.{◌≡◌, ℕ, ◌==◌, Bool, true, false, not, ◌||◌, if◌then◌else◌, List, length}
+use Rattle.std.specs.Prelude.{◌≡◌, ◌⊎◌, ℕ, ◌==◌, Bool, true, false, not, ◌||◌, if◌then◌else◌, List, length}
 use Rattle.std.specs.Prelude.{Option, Some, None, Result, Ok, Err}
 use Rattle.bm_session.specs.declared.refusal.Refusal.TheVariants.{Mem, Full, TooManyOpen}
 use Rattle.bm_session.specs.Trace.{is_up, is_cut, commands, orders}
@@ -84,6 +84,13 @@ interrupt_outcome taken (Err f) = if taken then outcome.Interrupted else outcome
 abbrev pub unlinked_outcome : Heard → OrderOutcome
 unlinked_outcome lane = if is_cut lane.trace then outcome.Later else outcome.Refused
 
+-- it may come of an order that the lane was not given
+abbrev pub is_untried : OrderOutcome → Bool
+is_untried outcome.TooLong = true
+is_untried outcome.Cancelled = true
+is_untried outcome.Later = true
+is_untried came = false
+
 abbrev pub is_busy_refusal : HearRefusal → Bool
 is_busy_refusal Busy = true
 is_busy_refusal (Session why) = false
@@ -115,10 +122,17 @@ module _ {S : Type 0} where
       × (second ≡ kept lane2 (Some link2))
       × (term2 ≡ counting lane2 (renewed (length lane.trace) lane2 term))
 
-  -- a link comes to the lane; where another one has it, that goes on unharmed
+  -- a link comes to a lane that is up, which stays as it was; it is told so, and has this fault
+  abbrev pub Declines : (S → Option (List ℕ)) → LinkState S → Heard → Carried → LinkFault → Type 0
+  Declines contents link lane resume_state f =
+      (link2 : LinkState S) × TakesUpFor contents link.login link lane resume_state (Err f) link2 lane resume_state
+
+  -- A link comes to the lane. Where another one has it, that goes on unharmed, and the link has the
+  -- fault by which it was declined.
   abbrev pub Attaches : (S → Option (List ℕ)) → LinkState S → Option (LinkState S) → LaneView S
       → Result Attached LinkFault → LaneView S → Type 0
-  Attaches contents link (Some first) old r new = (new ≡ old) × ((f : LinkFault) × (r ≡ Err f))
+  Attaches contents link (Some first) old r new =
+      (new ≡ old) × ((f : LinkFault) × (r ≡ Err f) × Declines contents link old.lane old.resume_state f)
   Attaches contents link None old r new =
       TakesUp contents link old.lane old.resume_state old.timer r new.link new.lane new.resume_state new.timer
 
@@ -140,6 +154,12 @@ module _ {S : Type 0} where
       × LinkStarts contents argv link.stage link old.lane old.resume_state r link2 new.lane new.resume_state
       × Leaves old old.timer link2 new
       × (t ≡ start_outcome (not (commands old.lane.trace == commands new.lane.trace)) r)
+
+  -- An order to start a command. It isn't tried where its words are too long, its build is
+  -- cancelled, or memory is wanting: the lane stays as it was. Or this is what came of it.
+  abbrev pub StartsOrder : (S → Option (List ℕ)) → List (List ℕ) → LaneView S → OrderOutcome → LaneView S → Type 0
+  StartsOrder contents argv old t new =
+      ((is_untried t ≡ true) × (new ≡ old)) ⊎ Starts contents argv old.link old t new
 
   -- an interruption of command k: without a link nothing is sent
   abbrev pub Interrupts : (S → Option (List ℕ)) → ℕ → Option (LinkState S) → LaneView S → OrderOutcome → LaneView S

@@ -13,9 +13,10 @@ pub mod LaneEvents
 pub mod Login
 pub mod LoginFates
 pub mod LoginRefusals
--- Ports: what a build's port to a lane is, and answers. ByteCount: how many bytes an update
--- carries.
+-- Ports: what a build's port to a lane is, and answers. StartProgress: how far a build has come
+-- with a command that it wants to have started. ByteCount: how many bytes an update carries.
 pub mod Ports
+pub mod StartProgress
 pub mod ByteCount
 -- StopOrders: which order to interrupt a command is sent, and which is kept. ReadWatch: when a link
 -- is read no more until something comes.

@@ -1,6 +1,5 @@
 -- Why a connection was not taken up, and what an operator is told of it.
-use Rattle.std.specs.Prelude.{ℕ, Bool, true, false, List, [], ◌∷◌, ◌++◌, codes, Option, Some, None}
-use Rattle.std.specs.Net.Text.{socket_text}
+use Rattle.std.specs.Prelude.{ℕ, Bool, true, false, List, Option, Some, None}
 use Rattle.std.specs.declared.net.socket_addr.SocketAddr.{SocketAddr}
 use Rattle.bm_session.specs.declared.refusal.Refusal.TheVariants as session
 use Rattle.bm_lane.specs.declared.refusals.HearRefusal.TheVariants as lane
@@ -8,8 +7,8 @@ use Rattle.bm_link.specs.declared.fault.LinkFault.{LinkFault}
 use Rattle.bm_link.specs.declared.fault.LinkFault.TheVariants as link
 use Rattle.bm_operator.specs.declared.reasons.LoginRefusal.{LoginRefusal}
 use Rattle.bm_operator.specs.declared.reasons.LoginRefusal.TheVariants as why
-use Rattle.bm_operator.specs.Reasons.{refusal_text}
-use Rattle.bm_operator.specs.Remark.{login_line}
+use Rattle.bm_operator.specs.Remark.{connection_refused, login_refused}
+use Rattle.bm_operator.specs.Told.{Told}
 
 -- why a connection whose link met this fault was not taken up
 abbrev pub refusal_of : LinkFault → LoginRefusal
@@ -31,10 +30,7 @@ refusal_in false true is_late link.Stream = why.Crowded
 refusal_in false false true link.Stream = why.Late
 refusal_in is_over is_put_out is_late f = refusal_of f
 
--- the line that tells of a connection that was not taken up, by the name of its login, if that is
--- told
-abbrev pub refusal_line : Option (List ℕ) → SocketAddr → LoginRefusal → List ℕ
-refusal_line (Some name) from why = login_line name from why
-refusal_line None from why =
-    codes "connection refused, "
-    ++ (refusal_text why ++ (codes ", from " ++ (socket_text from ++ 10 ∷ [])))
+-- what is told of a connection that was not taken up, by the name of its login, if that is told
+abbrev pub refusal_told : Option (List ℕ) → SocketAddr → LoginRefusal → Told
+refusal_told (Some name) from why = login_refused name from why
+refusal_told None from why = connection_refused from why

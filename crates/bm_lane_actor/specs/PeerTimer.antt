@@ -1,5 +1,5 @@
 -- When a silent worker is asked for a sign of life, and when it is taken for dead.
-use Rattle.std.specs.Prelude.{ℕ, ◌-◌, ◌==◌, Bool, true, false, ◌&&◌, ◌||◌, not, nat_le, if◌then◌else◌, Option, Some, None}
+use Rattle.std.specs.Prelude.{ℕ, ◌-◌, ◌==◌, Bool, true, false, ◌&&◌, ◌||◌, not, nat_le, min, if◌then◌else◌, Option, Some, None}
 use Rattle.std.specs.Option.{option_map_or}
 use Rattle.bm_lane_actor.specs.declared.peer_timer.PeerAction.{PeerAction}
 use Rattle.bm_lane_actor.specs.declared.peer_timer.PeerAction.TheVariants as action
@@ -44,3 +44,17 @@ after_action _ s = s
 
 abbrev pub wanted_at : ℕ → PeerView → PeerView
 wanted_at now s = record s { asked = true; wanted = Some now }
+
+-- how much of so many milliseconds is left that have begun then
+abbrev pub remaining : ℕ → ℕ → ℕ → ℕ
+remaining most since now = most - (now - since)
+
+-- how long it may be silent until something is to be done
+abbrev pub silent_for : PeerView → ℕ
+silent_for s = if s.asked then dead_after else ask_after
+
+-- how long nothing is to be done, if nothing comes from the worker
+abbrev pub rest_at : ℕ → PeerView → ℕ
+rest_at now s =
+    option_map_or (λ since. min (remaining (silent_for s) s.since now) (remaining answer_within since now))
+    s.wanted (remaining (silent_for s) s.since now)

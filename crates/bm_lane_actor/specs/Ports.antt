@@ -5,8 +5,8 @@ use Rattle.bm_session.specs.declared.results.Results.{Results}
 use Rattle.bm_session.specs.declared.results.Results.TheVariants.{Retry, Exception, Cancelled}
 use Rattle.bm_operator.specs.declared.reasons.StartRefusal.{StartRefusal}
 use Rattle.bm_operator.specs.declared.reasons.StartRefusal.TheVariants as why
-use Rattle.bm_lane_actor.specs.declared.order_outcome.OrderOutcome.{OrderOutcome}
-use Rattle.bm_lane_actor.specs.declared.order_outcome.OrderOutcome.TheVariants as outcome
+use Rattle.bm_lane_actor.specs.declared.start_progress.StartStage.{StartStage}
+use Rattle.bm_lane_actor.specs.declared.start_progress.StartStage.TheVariants as stage
 use Rattle.bm_store.specs.declared.chunk.LogState.{LogState}
 use Rattle.bm_store.specs.declared.chunk.ViewRefusal.{ViewRefusal}
 use Rattle.bm_runner.specs.declared.port.Polled.{Polled}
@@ -16,12 +16,16 @@ use Rattle.bm_runner.specs.Port.{first_entry}
 use Rattle.bm_lines.specs.Names.{stdio}
 use Rattle.bm_lane.specs.Ends.{Watched}
 use Rattle.bm_lane.specs.Looks.{GivesState}
+use Rattle.bm_lane_actor.specs.StartProgress.{refused_in, settled}
 use Rattle.bm_lane_actor.specs.StepMeter.{MeterView, fresh, given_up_result, is_given_up, meter_after, outcome_of}
 
--- What its viewer has seen of the lane, and the limits of the last step that was started. Then an
--- entry for each command that it started, and whether a start was refused.
+-- What its viewer has seen of the lane, whether its build's flag was set when it was read last, and
+-- the limits of the last step that was started. How far the start of the last step has come. Then
+-- an entry for each command that it started, and whether a start was refused.
 pub record PortView : Type 0 where
   pub viewer : Watched
+  pub cancelled : Bool
+  pub stage : StartStage
   pub meter : MeterView
   pub told : List Told
   pub refused : Bool
@@ -48,26 +52,42 @@ is_lost result = false
 abbrev pub is_left_out : Bool → Bool → Bool
 is_left_out cancelled always_run = cancelled && not always_run
 
--- why a step isn't started whose order came to this, and isn't tried again
-abbrev pub start_refusal : OrderOutcome → StartRefusal
-start_refusal outcome.Cancelled = why.Cancelled
-start_refusal outcome.Full = why.Full
-start_refusal outcome.TooLong = why.TooLong
-start_refusal _ = why.Lost
+-- the number of no command
+abbrev pub no_command : ℕ
+no_command = 2 ^ 64 - 1
 
--- a command of a step with these limits was started and has its entry; or none was
+-- A command of a step with these limits was started and has its entry; or none was. The first
+-- answer that wasn't to try it later has settled it.
 abbrev pub Begins : PortView → MeterView → Result ℕ StartRefusal → PortView → Type 0
 Begins old limits (Ok k) new =
     (new.told ≡ old.told ++ first_entry k ∷ []) × (new.refused ≡ old.refused)
-    × (new.viewer ≡ old.viewer) × (new.meter ≡ limits)
-Begins old limits (Err e) new = new ≡ old
+    × (new.viewer ≡ old.viewer) × (new.meter ≡ limits) × (new.cancelled ≡ old.cancelled)
+    × (new.stage ≡ settled (Ok k))
+Begins old limits (Err e) new =
+    (new.told ≡ old.told) × (new.refused ≡ old.refused)
+    × (new.viewer ≡ old.viewer) × (new.meter ≡ old.meter) × (new.cancelled ≡ old.cancelled)
+    × (refused_in new.stage ≡ Some e)
 
--- the viewer looks for the state of the log of command k
+-- A step isn't started for this cause. Where its build was cancelled it is told as no command,
+-- which has ended so; else, or without memory for that, its start is refused.
+abbrev pub Unstarts : PortView → StartRefusal → Bool → PortView → Type 0
+Unstarts old e true new =
+    (e ≡ why.Cancelled) × (new.told ≡ old.told ++ first_entry no_command ∷ [])
+    × (new.refused ≡ old.refused) × (new.stage ≡ old.stage)
+Unstarts old e false new =
+    (new.told ≡ old.told) × (new.refused ≡ true) × (new.stage ≡ old.stage)
+
+-- What a build is told of a start, by what it came to: the lane's own number. No command is told
+-- only where its build was cancelled.
+abbrev pub StartsAs : StartStage → ℕ → Type 0
+StartsAs s k = (s ≡ stage.Started k) ⊎ ((k ≡ no_command) × (refused_in s ≡ Some why.Cancelled))
+
+-- the viewer looks for the state of the log of command k, and the flag is read
 abbrev pub Looks : PortView → ℕ → Polled → PortView → Type 0
 Looks old k said new =
-    (state : Result LogState ViewRefusal) × (cancelled : Bool)
+    (state : Result LogState ViewRefusal)
     × GivesState old.viewer new.viewer k stdio state
-    × (said ≡ polled cancelled state) × (new.meter ≡ old.meter) × (new.told ≡ old.told)
+    × (said ≡ polled new.cancelled state) × (new.meter ≡ old.meter) × (new.told ≡ old.told)
     × (new.refused ≡ old.refused)
 
 -- a command is seen so whose build was cancelled
@@ -94,7 +114,14 @@ ticked m bytes seen = meter_after m bytes (is_cancel seen)
 
 abbrev pub with_meter : PortView → MeterView → PortView
 with_meter p m =
-    record { viewer = p.viewer; meter = m; told = p.told; refused = p.refused }
+    record {
+      viewer = p.viewer;
+      cancelled = p.cancelled;
+      stage = p.stage;
+      meter = m;
+      told = p.told;
+      refused = p.refused;
+    }
 
 -- how a command does, by the state of its own log and by its step's limits
 abbrev pub Sees : PortView → ℕ → Polled → PortView → Type 0
@@ -103,19 +130,16 @@ Sees old k said new =
     × Looks old k seen between × (said ≡ at_limits old.meter bytes seen)
     × (new ≡ with_meter between (ticked old.meter bytes seen))
 
--- the number of no command
-abbrev pub no_command : ℕ
-no_command = 2 ^ 64 - 1
-
 -- the viewer has looked, and may have seen more; nothing else has changed
 abbrev pub Waits : PortView → PortView → Type 0
 Waits old new =
     (new.viewer.lane ≡ old.viewer.lane) × IsPrefix old.viewer.seen new.viewer.seen
     × (new.meter ≡ old.meter) × (new.told ≡ old.told) × (new.refused ≡ old.refused)
 
--- What a build is told of its command, once it has waited for a tick or for that command's end; of
--- none, that it was cancelled.
-abbrev pub Polls : PortView → ℕ → Polled → Type 0
-Polls old k said =
+-- What a build is told of its command, once it has waited for a tick or for that command's end, by
+-- the flag as it was read last; of none, that it was cancelled.
+abbrev pub Polls : PortView → ℕ → Polled → PortView → Type 0
+Polls old k said new =
     ((k ≡ no_command) × (said ≡ Ended Cancelled))
-    ⊎ ((waited : PortView) × (new : PortView) × Waits old waited × Sees waited k said new)
+    ⊎ ((waited : PortView) × (seen : PortView) × Waits old waited × Sees waited k said seen
+    × (new.cancelled ≡ seen.cancelled))

@@ -22,14 +22,16 @@ struct CountedCommand {
     bytes: ByteCount,
 }
 
-/// The commands of a lane whose builds ask how many bytes their updates carried.
+/// The commands of a lane whose builds ask how many bytes their updates carried. They are counted
+/// where they are heard: the book that viewers see may lag a whole queue behind.
 #[derive(Drop)]
 pub(crate) struct ByteCounts {
     commands: Vec<CountedCommand>,
 }
 
 /// How many bytes the name of a log counts beside its text. The log of a new name takes more
-/// memory, and at most twice as much.
+/// memory, and at most twice as much. Each update that says it counts: a table that knows new names
+/// would take the memory that is to be bounded.
 const NAME_BYTES: u64 = 512;
 
 /// How many bytes the name of a log counts, each time that an update says it. That of `stdio`,
@@ -105,6 +107,8 @@ impl ByteCounts {
     }
 
     /// The worker said this. The answer is whether it said lines alone, by which no command ends.
+    /// It adds to an atomic, of which no clause can speak; what one update carries is exact
+    /// (`carried`).
     pub fn note(&self, event: &Event) -> bool {
         let Event::In(_, Body::Update { command, batch, .. }) = event else {
             return false;

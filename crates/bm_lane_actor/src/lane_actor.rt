@@ -23,14 +23,15 @@ use std::alloc::Global;
 use std::sync::Wait;
 use std::time::{Clock, Duration, Instant};
 
-/// How long an actor waits at its mailbox before it looks how long its worker has been silent, in
-/// milliseconds.
-const GLANCE_MS: u64 = 5_000;
+/// How long an actor waits at its mailbox at the most, in milliseconds.
+const GLANCE_MS: u64 = 60_000;
 
-/// How long, where another link waits for a sign of life.
+/// How long, where another link waits for a sign of life: its peer may leave.
 const WANTED_GLANCE_MS: u64 = 100;
 
-/// The most bytes that the arena of a lane's messages takes, and what it keeps after a message.
+/// The most bytes that the arena of a lane's messages takes, and what it keeps after a message. A
+/// reader without a tree would spare them, and be a second decoder. No clause has this limit, since
+/// `bumpalo`'s contract doesn't say that it holds.
 const MOST_ARENA_BYTES: usize = 32 * 1_048_576;
 
 const MOST_KEPT_BYTES: usize = 1_048_576;
@@ -78,7 +79,8 @@ fn arena_of(alloc: Global) -> Bump {
 /// request, and hears the worker once the signal `Readable` says that a read may give something. It
 /// asks a silent one for a sign of life, and counts ticks while the lane is cut. After each event
 /// it wakes the gate. What happens to the lane it tells before it takes or answers a request after
-/// that.
+/// that. With timed reads between, each order would wait for a read, and each idle lane would wake
+/// often.
 ///
 /// Then the mailbox is shut, and a login that waits is told `busy`. The worker is told by a close
 /// frame, the session is given up, and the lane's end comes back.
@@ -147,12 +149,16 @@ where
         self.takes(next)
     }
 
-    /// How long it waits for a request at most.
+    /// How long it waits for a request at most: until something is to be done about a silent worker.
     fn glance(&self) -> Duration {
-        Duration::from_millis(if self.waiting.is_some() {
+        let most = if self.waiting.is_some() {
             WANTED_GLANCE_MS
         } else {
             GLANCE_MS
+        };
+        Duration::from_millis(match self.state.connection() {
+            ConnectionState::Up => self.rest().min(most).max(1),
+            ConnectionState::Cut | ConnectionState::Down => most,
         })
     }
 
@@ -191,6 +197,7 @@ where
             self.state.dismiss();
             self.reads.told();
             self.expire();
+            self.ask_for_life();
         }
     }
 
@@ -209,8 +216,7 @@ where
         match request {
             LaneRequest::Attach(link) => self.attach(link),
             LaneRequest::Start(order, answer) => {
-                let outcome = self.start(order);
-                let _ = answer.send(self.rt, outcome);
+                self.answer_start(order, &answer);
             }
             LaneRequest::Interrupt(command, answer) => {
                 let is_kept = self.keep_stop(command);
@@ -230,7 +236,9 @@ where
 
     /// Wakes the gate, and tells how the lane went on from where it stood. Then its builds are
     /// called.
-    pub(crate) fn note(&mut self, before: ConnectionState, cause: LossCause) {
+    pub(crate) fn note(&mut self, before: ConnectionState, cause: LossCause)
+        ensures { self.new.state ≡ self.old.state }
+    {
         if let Some(event) = event_after(before, self.state.connection(), cause) {
             self.events.tell(event);
             self.gate.call_builds(self.place);

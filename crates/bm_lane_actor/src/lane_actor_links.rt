@@ -36,6 +36,11 @@ where
         self.age().unwrap_or(0)
     }
 
+    /// For how many milliseconds nothing is to be done about the worker, if nothing comes from it.
+    pub(crate) fn rest(&self) -> u64 {
+        self.peer.rest(self.now())
+    }
+
     /// What is to be done about the worker now.
     fn peer_action(&mut self) -> PeerAction {
         let (came, now) = (self.came(), self.now());
@@ -88,6 +93,16 @@ where
         self.reads.told();
     }
 
+    /// It is to be known soon whether the worker of the lane's link lives: it is asked for a sign of
+    /// life, and has little time for that.
+    pub(crate) fn ask_for_life(&mut self) {
+        if self.state.connection() == ConnectionState::Up {
+            self.ask();
+            let now = self.now();
+            self.peer.want(now);
+        }
+    }
+
     /// A link comes. Where the lane is up it is looked first whether that still holds. Then its
     /// worker is asked for a sign of life, and the link waits for that. A second link of the lane's
     /// own worker, which has left those before, waits in the place of the first.
@@ -100,9 +115,7 @@ where
         match login_fate(is_up, self.waiting.is_some(), self.state.names_kept(&link)) {
             LoginFate::Admit => self.admit(link),
             LoginFate::Wait => {
-                self.ask();
-                let now = self.now();
-                self.peer.want(now);
+                self.ask_for_life();
                 self.waiting = Some(link);
             }
             LoginFate::TakePlace => self.take_place(link),

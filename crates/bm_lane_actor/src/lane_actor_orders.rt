@@ -1,13 +1,20 @@
 //! The orders of builds to a lane's actor.
 
+ghost use Rattle.std.specs.Prelude.{◌≡◌};
+ghost use Rattle.bm_lane_actor.specs.LaneStates.{StartsOrder};
+
 use crate::connection_state::ConnectionState;
 use crate::lane_actor::LaneActor;
 use crate::lane_event::{EventSink, LaneEvent};
 use crate::lane_request::{CancelFlag, StartOrder};
 use crate::order_outcome::OrderOutcome;
+use crate::stream::WorkerStream;
 use bm_lane::Yard;
 use bm_link::are_short;
 use bm_operator::LossCause;
+use crossbeam_channel::Sender;
+use std::alloc::Global;
+use std::io::Write;
 use std::sync::Wait;
 use std::sync::atomic::Ordering;
 use std::time::Clock;
@@ -20,16 +27,45 @@ fn is_set(flag: &Option<CancelFlag>) -> bool {
     }
 }
 
+/// Sends what came of an order to who waits for it. What was sent comes back, since no contract
+/// sees what a channel holds.
+fn reply<R: Wait>(
+    rt: &R,
+    answer: &Sender<OrderOutcome, Global>,
+    outcome: OrderOutcome,
+) -> OrderOutcome
+    ensures { result ≡ outcome }
+{
+    let _ = answer.send(rt, outcome);
+    outcome
+}
+
 impl<'a, Y, T, R> LaneActor<'a, Y, T, R>
 where
     Y: Yard,
     T: EventSink + Drop,
     R: Wait + Clock + Drop,
 {
+    /// Starts a command, and answers what came of it.
+    pub(crate) fn answer_start(
+        &mut self,
+        order: StartOrder,
+        answer: &Sender<OrderOutcome, Global>,
+    ) -> OrderOutcome
+        ensures { StartsOrder ⟦<WorkerStream<R> as Write>⟧.contents order.words self.old.state
+            result self.new.state }
+    {
+        let outcome = self.start(order);
+        reply(self.rt, answer, outcome)
+    }
+
     /// Starts a command. The words of a configuration are short enough. A plan by which others
     /// come is refused here, before its order is kept to be sent again. The flag is looked at last:
     /// who set it before the lane took the order knows that no command follows.
-    pub(crate) fn start(&mut self, order: StartOrder) -> OrderOutcome {
+    fn start(&mut self, order: StartOrder) -> OrderOutcome
+        ensures { StartsOrder ⟦<WorkerStream<R> as Write>⟧.contents order.words self.old.state
+            result self.new.state }
+    {
         let StartOrder {
             words,
             bytes,

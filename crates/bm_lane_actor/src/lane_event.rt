@@ -1,8 +1,9 @@
-//! What happens to a lane, and what follows from it for its worker and its operator.
+//! What happens to a lane, and what follows from it for its worker and its operator. What follows
+//! stands here, and not with the opening of lanes, which knows no event.
 
-ghost use Rattle.std.specs.Prelude.{◌≡◌};
-ghost use Rattle.bm_operator.specs.Remark.{remark_line};
-ghost use Rattle.bm_lane_actor.specs.LaneEvents.{connection_of, declines, event_after, event_line, event_of, fills, loss_of};
+ghost use Rattle.std.specs.Prelude.{◌≡◌, option_map};
+ghost use Rattle.bm_operator.specs.Remark.{told};
+ghost use Rattle.bm_lane_actor.specs.LaneEvents.{connection_of, declines, event_after, event_of, event_told, fills, loss_of};
 
 use crate::connection_state::ConnectionState;
 use crate::login_refusal::refusal_of;
@@ -25,7 +26,8 @@ pub enum LaneEvent {
     /// The session was given up for this cause: each of its open commands has ended.
     Lost(LossCause),
     /// A login of the worker, from this address, was declined for this cause, or the answer to it
-    /// could not be sent. A declined worker was told `already up`, `busy` or `full`.
+    /// could not be sent. A declined worker was told `already up`, `busy` or `full`. The login's
+    /// stream brought the address, since an actor knows nothing of the acceptor.
     Declined(LinkFault, SocketAddr),
     /// A command was refused, since the lane has had as many events as it may. A loss and a
     /// declined login tell that by their cause.
@@ -120,20 +122,25 @@ pub fn declines(event: LaneEvent) -> bool
     }
 }
 
-/// What an operator is told of it, where the lane's worker has this name.
-pub fn remark_of(event: LaneEvent, worker: &str) -> Remark<'_>
-    ensures { remark_line result ≡ event_line worker.now event }
+/// What an operator is told of it, where the lane's worker has this name. That a worker which was
+/// told to shut down closes its connection is no news: it is told once it is gone. The clause is on
+/// what is told, from which line and object follow: the remark borrows the name.
+pub fn remark_of(event: LaneEvent, is_dismissed: bool, worker: &str) -> Option<Remark<'_>>
+    ensures { option_map told result ≡ event_told is_dismissed worker.now event }
 {
     match event {
-        LaneEvent::Attached => Remark::LoggedIn { worker },
-        LaneEvent::Resumed => Remark::Resumed { worker },
-        LaneEvent::Cut(cause) => Remark::Cut { worker, cause },
-        LaneEvent::Lost(cause) => Remark::Lost { worker, cause },
-        LaneEvent::Declined(fault, from) => Remark::LoginRefused {
+        LaneEvent::Attached => Some(Remark::LoggedIn { worker }),
+        LaneEvent::Resumed => Some(Remark::Resumed { worker }),
+        LaneEvent::Cut(LossCause::Closed) if is_dismissed => None,
+        LaneEvent::Cut(cause) => Some(Remark::Cut { worker, cause }),
+        LaneEvent::Lost(LossCause::Closed | LossCause::Dismissed | LossCause::Ended)
+            if is_dismissed => Some(Remark::ShutDown { worker }),
+        LaneEvent::Lost(cause) => Some(Remark::Lost { worker, cause }),
+        LaneEvent::Declined(fault, from) => Some(Remark::LoginRefused {
             name: worker,
             from,
             why: refusal_of(fault),
-        },
-        LaneEvent::Filled => Remark::Filled { worker },
+        }),
+        LaneEvent::Filled => Some(Remark::Filled { worker }),
     }
 }

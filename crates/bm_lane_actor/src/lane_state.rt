@@ -115,7 +115,8 @@ impl<Y: Yard, S> LaneState<Y, S> {
 
     /// What holds of every state: its resume state has the orders of its lane that have no answer,
     /// in order, by their numbers. So a link which resumes the session sends just those again. It
-    /// does nothing when it runs.
+    /// does nothing when it runs. A link ends with its connection and can't keep this; a law alone
+    /// would be chained by each caller.
     pub fn carries_what_is_pending(&self)
         ensures { CarriesPending self.now.resume_state self.now.lane.trace }
     {

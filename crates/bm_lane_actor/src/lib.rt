@@ -34,6 +34,8 @@ mod port;
 mod port_log;
 mod read_watch;
 mod resume_timer;
+mod seen_flag;
+mod start_progress;
 mod step_meter;
 mod stop_orders;
 mod stream;

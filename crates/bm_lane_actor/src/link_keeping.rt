@@ -3,7 +3,7 @@
 ghost use Rattle.std.specs.Prelude.{◌≡◌, true, None, if◌then◌else◌};
 ghost use Rattle.bm_session.specs.Trace.{is_up, was_taken};
 ghost use Rattle.bm_lane_actor.specs.ConnectionState.{keeps_link};
-ghost use Rattle.bm_lane_actor.specs.LaneStates.{counting, kept, renewed, timer_in, TakesUp};
+ghost use Rattle.bm_lane_actor.specs.LaneStates.{counting, kept, renewed, timer_in, Declines, TakesUp};
 
 use crate::connection_state::ConnectionState;
 use crate::lane_event::connection_of;
@@ -101,6 +101,7 @@ pub(crate) fn decline<Y: Yard, S: Read + Write + Drop, R: Wait>(
     requires { is_up reader.old.trace ≡ true }
     ensures lane { reader.new ≡ reader.old }
     ensures resume_state { resume_state.new ≡ resume_state.old }
+    ensures fault { Declines S.contents link reader.old resume_state.old result }
 {
     let mut link = link;
     let answer = link.attach(rt, alloc, reader, resume_state);

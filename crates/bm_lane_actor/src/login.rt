@@ -8,7 +8,6 @@ use crate::stream::WorkerStream;
 use bm_lines::Text;
 use bm_link::{LinkFault, MasterLink, User};
 use bumpalo::Bump;
-use mio::Registry;
 use std::alloc::Global;
 use std::io::{Read, Write};
 use std::sync::Wait;
@@ -102,10 +101,10 @@ fn hand_over<S: Read + Write + Drop, R: Wait + Clock>(
 }
 
 /// Logs a worker in on a new connection, within some 10 seconds, and hands its link to the actor of
-/// its lane. Its arrivals are told at `sockets` from then on. The result is the number of the lane,
-/// which is the place of the worker's user.
+/// its lane. The result is the number of the lane, which is the place of the worker's user.
 /// `refused` becomes the name of a login that is refused: as one of no user, where that isn't long,
-/// or at its lane's mailbox.
+/// or at its lane's mailbox. The lane's own thread goes on with the link, so that a second login is
+/// answered while the first is up.
 ///
 /// # Errors
 ///
@@ -118,7 +117,6 @@ pub fn log_in<R>(
     stream: WorkerStream<R>,
     users: &[User],
     handles: &[LaneHandle<WorkerStream<R>>],
-    sockets: &Registry,
     refused: &mut Option<Text>,
 ) -> Result<usize, LinkFault>
 where
@@ -135,7 +133,7 @@ where
         return Err(LinkFault::Closed);
     };
     let stream = worker.link.get_ref();
-    if stream.set_logged_in(sockets, worker.place).is_err() {
+    if stream.set_logged_in(worker.place).is_err() {
         return Err(LinkFault::Stream);
     }
     hand_over(rt, alloc, handle, users, worker, refused)

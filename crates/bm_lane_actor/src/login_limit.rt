@@ -11,7 +11,7 @@ use std::sync::atomic::AtomicU64;
 use std::sync::{Arc, Mutex, Wait};
 
 /// The most connections at once that have a place and have not logged in. So many more may be on
-/// their way out.
+/// their way out. Without that bound strangers that come again could start threads without an end.
 pub const MOST_PENDING_LOGINS: u64 = 256;
 
 /// How one more connection comes in.

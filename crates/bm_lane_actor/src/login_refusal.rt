@@ -1,8 +1,8 @@
 //! Why a connection was not taken up, and what an operator is told of it.
 
 ghost use Rattle.std.specs.Prelude.{◌≡◌};
-ghost use Rattle.bm_operator.specs.Remark.{remark_line};
-ghost use Rattle.bm_lane_actor.specs.LoginRefusals.{refusal_in, refusal_line, refusal_of};
+ghost use Rattle.bm_operator.specs.Remark.{told};
+ghost use Rattle.bm_lane_actor.specs.LoginRefusals.{refusal_in, refusal_of, refusal_told};
 
 use bm_lane::HearRefusal;
 use bm_lines::Text;
@@ -44,7 +44,7 @@ pub fn refusal_in(fault: LinkFault, is_over: bool, is_put_out: bool, is_late: bo
 /// What an operator is told of a connection from this address that was not taken up. Its login had
 /// this name, where it had one that is told.
 pub fn refusal_remark(name: &Option<Text>, from: SocketAddr, why: LoginRefusal) -> Remark<'_>
-    ensures { remark_line result ≡ refusal_line name.now from why }
+    ensures { told result ≡ refusal_told name.now from why }
 {
     match name {
         Some(name) => Remark::LoginRefused {

@@ -27,7 +27,8 @@ pub enum OrderOutcome {
     TooLong,
 }
 
-/// What came of a start, by the link's answer and whether the lane took the order.
+/// What came of a start, by the link's answer and whether the lane took the order. One for which
+/// memory is wanting comes later: its session goes on, so the worker isn't lost.
 pub(crate) fn start_outcome(answer: Result<u64, LinkFault>, is_taken: bool) -> OrderOutcome
     ensures { result ≡ start_outcome is_taken answer }
 {

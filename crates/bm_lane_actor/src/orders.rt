@@ -1,19 +1,20 @@
 //! The orders of a build to the actor of its worker's lane.
 
 ghost use Rattle.std.specs.Prelude.{◌≡◌};
-ghost use Rattle.bm_lane_actor.specs.Ports.{is_left_out, start_refusal};
+ghost use Rattle.bm_lane_actor.specs.Ports.{is_left_out};
+ghost use Rattle.bm_lane_actor.specs.StartProgress.{settled};
 
 use crate::byte_count::ByteCount;
 use crate::drain_gate::DrainGate;
-use crate::lane_request::{CancelFlag, LaneRequest, StartOrder};
+use crate::lane_request::{CancelFlag, LaneRequest};
 use crate::mailbox::LaneHandle;
-use crate::order_outcome::OrderOutcome;
+use crate::start_progress::{StartProgress, StartStep};
 use bm_board::StepPlan;
 use bm_latent::TICK_MS;
 use bm_operator::StartRefusal;
 use crossbeam_channel::bounded;
 use std::alloc::Global;
-use std::sync::{Arc, Wait};
+use std::sync::Wait;
 use std::thread;
 use std::time::{Clock, Duration};
 
@@ -22,34 +23,6 @@ pub(crate) fn is_left_out(is_cancelled: bool, always_run: bool) -> bool
     ensures { result ≡ is_left_out is_cancelled always_run }
 {
     is_cancelled && !always_run
-}
-
-/// What the actor answers to a start; `Refused` where it has left. None where memory is wanting.
-fn try_start<S: Drop, R: Wait + Clock>(
-    rt: &R,
-    alloc: Global,
-    handle: &LaneHandle<S>,
-    step: &StepPlan,
-    cancelled: &CancelFlag,
-    bytes: &ByteCount,
-) -> Option<OrderOutcome> {
-    let (answer, answers) = bounded(alloc, 1).ok()?;
-    let order = StartOrder {
-        words: step.argv.copy().ok()?,
-        bytes: Arc::try_clone(bytes).ok()?,
-        cancelled: if step.always_run {
-            None
-        } else {
-            Some(Arc::try_clone(cancelled).ok()?)
-        },
-    };
-    if !handle.tell(rt, LaneRequest::Start(order, answer)) {
-        return Some(OrderOutcome::Refused);
-    }
-    match handle.answer(rt, &answers) {
-        Some(outcome) => Some(outcome),
-        None => Some(OrderOutcome::Refused),
-    }
 }
 
 /// Hands the lane's actor the order to interrupt a command. It keeps the order until its lane can
@@ -89,24 +62,10 @@ pub(crate) fn wait_until_told<S: Drop, R: Wait + Clock>(
     }
 }
 
-/// Why a step isn't started whose order came to this, and isn't tried again.
-fn start_refusal(outcome: OrderOutcome) -> StartRefusal
-    ensures { result ≡ start_refusal outcome }
-{
-    match outcome {
-        OrderOutcome::Cancelled => StartRefusal::Cancelled,
-        OrderOutcome::Full => StartRefusal::Full,
-        OrderOutcome::TooLong => StartRefusal::TooLong,
-        OrderOutcome::Started(_)
-        | OrderOutcome::Interrupted
-        | OrderOutcome::Later
-        | OrderOutcome::Refused => StartRefusal::Lost,
-    }
-}
-
 /// Starts a step's command once the lane is up. An order that is to come later is tried again once
 /// an item was drained, and each tick. Whether the build is cancelled is looked at by the lane's
-/// actor alone, as the last thing before it takes the order.
+/// actor alone, as the last thing before it takes the order. The first answer that isn't to try it
+/// later settles it, and no order follows that one.
 ///
 /// # Errors
 ///
@@ -122,16 +81,19 @@ pub(crate) fn start<S: Drop, R: Wait + Clock + Drop>(
     step: &StepPlan,
     cancelled: &CancelFlag,
     bytes: &ByteCount,
-) -> Result<u64, StartRefusal> {
+    progress: &mut StartProgress,
+) -> Result<u64, StartRefusal>
+    ensures { progress.new.stage ≡ settled result }
+{
     let place = handle.lane() as usize;
     let tick = Duration::from_millis(TICK_MS);
+    *progress = StartProgress::new();
     for _ in rt.forever() {
         let took = gate.took(place);
-        match try_start(rt, alloc, handle, step, cancelled, bytes) {
-            Some(OrderOutcome::Started(command)) => return Ok(command),
-            Some(OrderOutcome::Later) => gate.wait_for_drain(place, took, tick),
-            Some(outcome) => return Err(start_refusal(outcome)),
-            None => return Err(StartRefusal::Memory),
+        match progress.ask(rt, alloc, handle, step, cancelled, bytes) {
+            StartStep::Started(command) => return Ok(command),
+            StartStep::Refused(why) => return Err(why),
+            StartStep::AskAgain => gate.wait_for_drain(place, took, tick),
         }
     }
     unreachable!()

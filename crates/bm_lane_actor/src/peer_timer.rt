@@ -2,7 +2,7 @@
 
 ghost use Rattle.std.specs.Prelude.{◌≡◌};
 ghost use Rattle.std.specs.Option.{is_some};
-ghost use Rattle.bm_lane_actor.specs.PeerTimer.{after_action, action_at, heard_at, started, wanted_at};
+ghost use Rattle.bm_lane_actor.specs.PeerTimer.{after_action, action_at, heard_at, remaining, rest_at, started, wanted_at};
 
 use std::marker::Model;
 
@@ -104,6 +104,23 @@ impl PeerTimer {
         action
     }
 
+    /// For how many milliseconds there is nothing to be done, if nothing comes from the worker. 0
+    /// where something is to be done now.
+    pub fn rest(&self, now: u64) -> u64
+        ensures { result ≡ rest_at now self.now }
+    {
+        let silent_for = if self.is_asked {
+            DEAD_AFTER_MS
+        } else {
+            ASK_AFTER_MS
+        };
+        let rest = remaining(silent_for, self.since, now);
+        match self.wanted {
+            Some(since) => rest.min(remaining(ANSWER_WITHIN_MS, since, now)),
+            None => rest,
+        }
+    }
+
     /// Another connection asks for the worker's lane, for which the worker is asked now.
     pub fn want(&mut self, now: u64)
         ensures { self.new ≡ wanted_at now self.old }
@@ -118,4 +135,11 @@ impl PeerTimer {
     {
         self.wanted.is_some()
     }
+}
+
+/// How much of so many milliseconds is left that have begun then.
+fn remaining(most: u64, since: u64, now: u64) -> u64
+    ensures { result ≡ remaining most since now }
+{
+    most.saturating_sub(now.saturating_sub(since))
 }

@@ -1,10 +1,10 @@
 //! A build's port to its worker's lane: it sends requests by the lane's handle, and looks through a
 //! viewer of its own.
 
-ghost use Rattle.std.specs.Prelude.{◌≡◌, ◌++◌, ◌∷◌, [], List, false};
+ghost use Rattle.std.specs.Prelude.{◌≡◌, ◌++◌, ◌∷◌, [], List, false, true, IfSome, IfNone};
 ghost use Rattle.bm_runner.specs.declared.port.Told.{Told};
-ghost use Rattle.bm_runner.specs.Port.{IsAsking, asked};
-ghost use Rattle.bm_lane_actor.specs.Ports.{Begins, Looks, Polls, Sees, Waits, at_limits, ticked, with_meter};
+ghost use Rattle.bm_runner.specs.Port.{IsAsking, asked, first_entry};
+ghost use Rattle.bm_lane_actor.specs.Ports.{Begins, Looks, Polls, Sees, StartsAs, Unstarts, Waits, at_limits, ticked, with_meter};
 ghost use Rattle.bm_lane_actor.specs.StepMeter.{fresh};
 
 use crate::byte_count::ByteCount;
@@ -13,6 +13,8 @@ use crate::lane_request::{CancelFlag, LaneRequest};
 use crate::mailbox::LaneHandle;
 use crate::orders::{interrupt, is_left_out, start, wait_until_told};
 use crate::port_log::{header_in, is_lost, polled};
+use crate::seen_flag::SeenFlag;
+use crate::start_progress::StartProgress;
 use crate::step_meter::StepMeter;
 use crate::watch::Watch;
 use bm_board::StepPlan;
@@ -29,7 +31,8 @@ use std::sync::{Arc, Wait};
 use std::thread;
 use std::time::{Clock, Duration, Instant};
 
-/// The number of no command: that of a step whose build was cancelled before it was started.
+/// The number of no command: that of a step whose build was cancelled before it was started. As a
+/// third answer of `start` every port would have to know it.
 const NO_COMMAND: u64 = u64::MAX;
 
 /// Whether the lane's actor has the order to interrupt a command.
@@ -44,7 +47,8 @@ enum Interruption {
 /// The port of a build. It asks how its command does once a tick, and at once where it has ended.
 /// It waits with a start until the lane is up or was given up, with an interruption for nothing. It
 /// says that a command ended by a loss once the lane's actor has told of that loss. The viewer is
-/// one of the lane whose handle it has.
+/// one of the lane whose handle it has. The viewer tells an end, and not the actor: so the log of
+/// an ended step is seen whole, by contract.
 #[derive(Drop)]
 pub struct LanePort<'a, Y: Yard, S, R: Wait + Clock + Drop, W> {
     rt: &'a R,
@@ -56,9 +60,11 @@ pub struct LanePort<'a, Y: Yard, S, R: Wait + Clock + Drop, W> {
     /// How often it had called when the last tick that is over began.
     calls: u64,
     /// Set once the build is cancelled.
-    cancelled: &'a CancelFlag,
+    cancelled: SeenFlag<'a>,
+    /// How far the start of the last step has come.
+    progress: StartProgress,
     /// Whether a cancel came before a step that always runs: it waits for the next one that
-    /// doesn't.
+    /// doesn't. The step would else be interrupted.
     is_held: bool,
     /// The limits of the last step that was started.
     meter: StepMeter,
@@ -78,6 +84,8 @@ impl<'a, Y: Yard, S, R: Wait + Clock + Drop, W> Model for LanePort<'a, Y, S, R, 
 
     ghost view = { λ p. record {
       viewer = p.viewer;
+      cancelled = p.cancelled;
+      stage = p.progress.stage;
       meter = p.meter;
       told = p.entries.told;
       refused = p.refused;
@@ -125,7 +133,8 @@ impl<'a, Y: Yard, S: Drop, R: Wait + Clock + Drop, W: Watch + Drop> LanePort<'a,
             viewer,
             gate,
             calls: 0,
-            cancelled,
+            cancelled: SeenFlag::new(cancelled),
+            progress: StartProgress::new(),
             is_held: false,
             meter: StepMeter::new(0, 0, 0),
             bytes: None,
@@ -150,16 +159,21 @@ impl<'a, Y: Yard, S: Drop, R: Wait + Clock + Drop, W: Watch + Drop> Port
 
     ghost refused = { λ p. p.refused };
 
-    fn start(&mut self, step: &StepPlan) -> Option<u64> {
+    fn start(&mut self, step: &StepPlan) -> Option<u64>
+        ensures started { IfSome result (λ k. self.new.told ≡ self.old.told ++ first_entry k ∷ []) }
+        ensures stands { IfSome result (λ k. self.new.refused ≡ self.old.refused) }
+        ensures nothing_told { IfNone result (self.new.told ≡ self.old.told) }
+        ensures refuses { IfNone result (self.new.refused ≡ true) }
+        ensures answer { IfSome result (λ k. StartsAs self.new.stage k) }
+    {
         let why = match self.begin(step) {
             Ok(command) => return Some(command),
             Err(why) => why,
         };
         self.watch.refused(step, why);
-        if why == StartRefusal::Cancelled && self.entries.begin(NO_COMMAND).is_ok() {
+        if self.unstart(why) {
             return Some(NO_COMMAND);
         }
-        self.refused = true;
         None
     }
 
@@ -168,7 +182,7 @@ impl<'a, Y: Yard, S: Drop, R: Wait + Clock + Drop, W: Watch + Drop> Port
         ensures told { (before : List Told) (entry : Told) → self.old.told ≡ before ++ entry ∷ []
             → self.new.told ≡ before ++ asked entry result ∷ [] }
         ensures refused { self.new.refused ≡ self.old.refused }
-        ensures answer { Polls self.old k result }
+        ensures answer { Polls self.old k result self.new }
     {
         if k == NO_COMMAND {
             let said = Polled::Ended(Results::Cancelled);
@@ -203,28 +217,29 @@ impl<'a, Y: Yard, S: Drop, R: Wait + Clock + Drop, W: Watch + Drop> LanePort<'a,
     ///
     /// # Errors
     ///
-    /// Why it isn't started; nothing has changed then.
+    /// Why it isn't started; no entry was made then.
     fn begin(&mut self, step: &StepPlan) -> Result<u64, StartRefusal>
         ensures { Begins self.old (fresh step.now.max_bytes step.now.timeout_ticks step.now.silent_ticks) result self.new }
     {
         if self.entries.reserve().is_err() {
-            return Err(StartRefusal::Memory);
+            return Err(self.progress.refuse(StartRefusal::Memory));
         }
         if is_left_out(self.is_held, step.always_run) {
-            return Err(StartRefusal::Cancelled);
+            return Err(self.progress.refuse(StartRefusal::Cancelled));
         }
         let Ok(bytes) = Arc::new(self.alloc, AtomicU64::new(0)) else {
-            return Err(StartRefusal::Memory);
+            return Err(self.progress.refuse(StartRefusal::Memory));
         };
-        let (rt, alloc, gate) = (self.rt, self.alloc, self.gate);
-        let command = match start(rt, alloc, gate, &self.handle, step, self.cancelled, &bytes) {
+        let (rt, alloc, gate, flag) = (self.rt, self.alloc, self.gate, self.cancelled.flag());
+        let progress = &mut self.progress;
+        let command = match start(rt, alloc, gate, &self.handle, step, flag, &bytes, progress) {
             Ok(command) => command,
             Err(why) => return Err(why),
         };
         self.meter = StepMeter::new(step.max_bytes, step.timeout_ticks, step.silent_ticks);
         self.bytes = Some(bytes);
         self.interruption = Interruption::NotWanted;
-        if step.always_run && self.cancelled.swap(false, Ordering::SeqCst) {
+        if step.always_run && self.cancelled.take() {
             self.is_held = true;
             self.watch.cancelled();
         }
@@ -236,6 +251,18 @@ impl<'a, Y: Yard, S: Drop, R: Wait + Clock + Drop, W: Watch + Drop> LanePort<'a,
         Ok(command)
     }
 
+    /// What is to be told of a step that isn't started for this cause. True: that it is no command,
+    /// which was cancelled. Else its start is refused.
+    fn unstart(&mut self, why: StartRefusal) -> bool
+        ensures { Unstarts self.old why result self.new }
+    {
+        if why == StartRefusal::Cancelled && self.entries.begin(NO_COMMAND).is_ok() {
+            return true;
+        }
+        self.refused = true;
+        false
+    }
+
     /// What the gate had called for when the tick began was looked at until it was over.
     fn has_looked(&mut self, calls: u64)
         ensures { self.new ≡ self.old }
@@ -244,7 +271,7 @@ impl<'a, Y: Yard, S: Drop, R: Wait + Clock + Drop, W: Watch + Drop> LanePort<'a,
     }
 
     /// Has the command interrupted, but once. Where memory is wanting for that, the next tick tries
-    /// again.
+    /// again. The runner may ask again, after its last poll.
     fn stop(&mut self, k: u64)
         ensures { self.new ≡ self.old }
     {
@@ -258,7 +285,8 @@ impl<'a, Y: Yard, S: Drop, R: Wait + Clock + Drop, W: Watch + Drop> LanePort<'a,
         };
     }
 
-    /// Does at once what need not wait for the end of a tick: a cancel is told and obeyed.
+    /// Does at once what need not wait for the end of a tick: a cancel is told and obeyed. The tick
+    /// goes on: so many polls bound a time.
     fn obey(&mut self, k: u64, seen: Polled)
         ensures { self.new ≡ self.old }
     {
@@ -316,7 +344,7 @@ impl<'a, Y: Yard, S: Drop, R: Wait + Clock + Drop, W: Watch + Drop> LanePort<'a,
     fn look(&mut self, k: u64) -> Polled
         ensures { Looks self.old k result self.new }
     {
-        let is_cancelled = self.cancelled.load(Ordering::SeqCst);
+        let is_cancelled = self.cancelled.read();
         polled(self.viewer.state(k, STDIO), is_cancelled)
     }
 
@@ -324,6 +352,7 @@ impl<'a, Y: Yard, S: Drop, R: Wait + Clock + Drop, W: Watch + Drop> LanePort<'a,
     fn said(&mut self, k: u64, outcome: Results) -> Option<Text>
         ensures told { self.new.told ≡ self.old.told }
         ensures refused { self.new.refused ≡ self.old.refused }
+        ensures cancelled { self.new.cancelled ≡ self.old.cancelled }
     {
         if outcome != Results::Exception {
             return None;

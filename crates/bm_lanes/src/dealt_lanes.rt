@@ -44,7 +44,9 @@ fn is_in_order<Y: Yard>(viewers: &[Viewer<Y>]) -> bool
 }
 
 /// Deals the ends of new lanes out. None where memory is wanting. None also where a lane isn't
-/// new, or an end is missing, of another lane or not at its lane's place, which never comes.
+/// new, or an end is missing, of another lane or not at its lane's place, which never comes. The
+/// clause says which viewers are the builds' (`AreDealt`): one that leaves the web's open would be
+/// longer.
 pub fn deal<Y: Yard, W: Wait + Drop, S: Drop>(
     alloc: Global,
     workers: &[WorkerConfig],

@@ -45,8 +45,7 @@ where
     let rt = &shared.rt;
     let (users, lanes) = (shared.users.as_slice(), shared.lanes.as_slice());
     let mut name = None;
-    let sockets = &shared.sockets.connections;
-    if let Err(fault) = log_in(rt, shared.alloc, stream, users, lanes, sockets, &mut name) {
+    if let Err(fault) = log_in(rt, shared.alloc, stream, users, lanes, &mut name) {
         let took = began.and_then(|began| began.elapsed(rt).ok());
         let is_late = took.is_some_and(|took| took >= Duration::from_millis(LOGIN_MS));
         let is_over = shared.is_over.load(Ordering::SeqCst);
@@ -74,14 +73,16 @@ where
     };
     let number = pending.number();
     let own = Arc::try_clone(&pending).ok();
-    let Some((is_over, own)) = Arc::try_clone(&shared.is_over).ok().zip(own) else {
+    let sockets = Arc::try_clone(&shared.sockets.connections).ok();
+    let is_over = Arc::try_clone(&shared.is_over).ok();
+    let (Some(own), Some(sockets), Some(is_over)) = (own, sockets, is_over) else {
         shared.logins.leave(rt, number);
         return refuse(shared, from, LoginRefusal::Memory);
     };
     // Before the time for the login begins, so that one which ran out is told as that, however late
     // its thread starts.
     let began = Instant::now(rt).ok();
-    let stream = WorkerStream::new(*rt, stream, from, is_over, own);
+    let stream = WorkerStream::new(*rt, stream, from, sockets, is_over, own);
     let thread = scope.spawn(move || {
         let stream = stream;
         welcome(shared, stream, from, began, &pending);

@@ -37,6 +37,11 @@ struct StepReporter<'s, Y: Yard, R: Wait + Clock> {
     rt: &'s R,
     events: EventSender<Y>,
     build: u64,
+    /// The build's steps, and how many of them are over or left out.
+    steps: &'s [StepPlan],
+    behind: usize,
+    /// The place of the last that was started or refused, and its name.
+    place: usize,
     name: Option<Text>,
     /// Whether its command has reached a limit.
     is_stopped: bool,
@@ -51,17 +56,34 @@ impl<'s, Y: Yard, R: Wait + Clock> StepReporter<'s, Y, R> {
         rt: &'s R,
         events: EventSender<Y>,
         build: u64,
+        steps: &'s [StepPlan],
         cancelled: &'s CancelFlag,
     ) -> StepReporter<'s, Y, R> {
         StepReporter {
             rt,
             events,
             build,
+            steps,
+            behind: 0,
+            place: 0,
             name: None,
             is_stopped: false,
             is_told: false,
             cancelled,
         }
+    }
+
+    // This step is the next. A step that is left out doesn't always run, and behind it none does that
+    // doesn't: so it is the first of those to come that always run where it does.
+    fn reaches(&mut self, step: &StepPlan) {
+        for (place, one) in self.steps.iter().enumerate() {
+            if place >= self.behind && one.always_run == step.always_run {
+                self.place = place;
+                self.behind = place.saturating_add(1);
+                break;
+            }
+        }
+        self.name = step.name.copy().ok();
     }
 
     // The cancel has ended its step: the next is another one.
@@ -80,6 +102,7 @@ impl<'s, Y: Yard, R: Wait + Clock> StepReporter<'s, Y, R> {
             self.rt,
             MasterEvent::Step(ReportedStep {
                 build: self.build,
+                place: self.place as u64,
                 name,
                 said,
                 event,
@@ -90,7 +113,7 @@ impl<'s, Y: Yard, R: Wait + Clock> StepReporter<'s, Y, R> {
 
 impl<'s, Y: Yard, R: Wait + Clock> Watch for StepReporter<'s, Y, R> {
     fn started(&mut self, step: &StepPlan, command: u64) {
-        self.name = step.name.copy().ok();
+        self.reaches(step);
         self.is_stopped = false;
         self.tell(StepEvent::Started(command), None);
     }
@@ -113,7 +136,7 @@ impl<'s, Y: Yard, R: Wait + Clock> Watch for StepReporter<'s, Y, R> {
             self.cancelled();
             self.obeyed();
         }
-        self.name = step.name.copy().ok();
+        self.reaches(step);
         self.tell(StepEvent::Refused(why), None);
     }
 
@@ -149,7 +172,7 @@ where
         viewer,
         lane,
     } = task;
-    let reporter = StepReporter::new(rt, steps, number, cancelled);
+    let reporter = StepReporter::new(rt, steps, number, build.steps.as_slice(), cancelled);
     let mut port = LanePort::over(rt, alloc, viewer, lane, gate, cancelled, reporter);
     let result = match run_build(alloc, build, &mut port, TURNS) {
         Ok(report) => Some(report.result),

@@ -12,7 +12,7 @@ use crate::worker_entry::WorkerEntry;
 use bm_build_queue::{BuildQueue, ViewerPool};
 use bm_lane::Yard;
 use bm_latent::{TICK_MS, TickCounter, millis};
-use bm_operator::{RateLimit, Remark};
+use bm_operator::{RefusalLimit, Remark};
 use bm_session::Results;
 use std::io::Write;
 use std::sync::Wait;
@@ -64,8 +64,8 @@ pub struct Coordinator<'s, Y: Yard, R: Wait + Clock + Drop, O> {
     pub output: O,
     /// Where remarks are told, where there is a thread that writes them.
     pub remarks: Option<Remarks>,
-    /// How many refused connections are told.
-    pub refusals: RateLimit,
+    /// Which refused connections are told one by one.
+    pub refusals: RefusalLimit,
     /// When it began. None where the clock failed.
     pub began: Option<Instant>,
     /// The ticks since then.
@@ -113,11 +113,12 @@ where
     fn hear(&mut self, event: MasterEvent<Y>) {
         match event {
             MasterEvent::Step(step) => return self.hear_step(&step),
-            MasterEvent::Refused(refused) => return self.hear_refused(&refused),
+            MasterEvent::Refused(refused) => return self.hear_refused(refused),
             MasterEvent::Cancelling(build) => {
                 return self.remark(&Remark::BuildCancelled { build });
             }
             MasterEvent::Paused => return self.remark(&Remark::AcceptingPaused),
+            MasterEvent::Misread => return self.remark(&Remark::InputUnknown),
             MasterEvent::Lane(worker, event) => self.hear_lane(worker, event),
             MasterEvent::Ended(build) => self.hear_build(build),
             MasterEvent::Cancel(number) => self.cancel(number),
@@ -133,7 +134,7 @@ where
             events.look(rt)
         } else if self.is_timed() {
             events.wait_for(rt, Duration::from_millis(TICK_MS))
-        } else if self.refusals.is_left_out() {
+        } else if self.refusals.is_left_out() || self.is_waited_for() {
             events.wait_for(rt, Duration::from_secs(COUNTED_SECONDS))
         } else {
             events.wait(rt)
@@ -148,6 +149,9 @@ where
                 self.is_stale = false;
                 self.start_builds(scope);
                 self.report();
+                self.tell_waits();
+            } else if self.is_waited_for() {
+                self.tell_waits();
             }
             if self.is_closed && self.has_reported {
                 break;
@@ -171,7 +175,8 @@ where
         }
         self.release_all();
         self.put_off_logins(events);
-        self.end_processes();
+        self.end_processes(events);
+        self.tell_all_left_out();
     }
 
     // What is left.
@@ -228,7 +233,7 @@ where
                 workers,
                 output,
                 remarks,
-                refusals: RateLimit::new(MOST_REFUSALS),
+                refusals: RefusalLimit::new(shared.alloc, MOST_REFUSALS),
                 began: Instant::now(&shared.rt).ok(),
                 ticks: TickCounter::new(TICK_MS, 0),
                 is_stale: true,

@@ -68,6 +68,8 @@ where
     }
 
     /// Releases the builds that were held for a command, and of which none is open any more.
+    /// Viewers are asked each tick: an event of the lane's actor would come before the book has
+    /// that end.
     pub fn release_free(&mut self) {
         for _ in 0..self.queue.builds() {
             let Some(build) = self.held.take_free() else {
@@ -114,7 +116,11 @@ where
                     self.shared.drain_gate.call_builds(cancel.set());
                 }
             }
-            Cancelled::Nothing => {}
+            Cancelled::Nothing => {
+                if number >= self.queue.builds() {
+                    self.remark(&Remark::BuildMissing { build: number });
+                }
+            }
         }
     }
 

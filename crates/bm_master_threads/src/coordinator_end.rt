@@ -1,16 +1,21 @@
-//! What the coordinator hears of logins once all builds are over.
+//! What the coordinator hears of logins and workers once all builds are over.
 
 use crate::coordinator::Coordinator;
 use crate::events::{EventReceiver, MasterEvent};
 use crate::host::MasterHost;
 use bm_lane::Yard;
-use bm_lane_actor::{LaneRequest, declines, remark_of};
+use bm_lane_actor::{LaneRequest, declines};
+use bm_latent::TICK_MS;
 use crossbeam_channel::bounded;
 use std::io::Write;
 use std::time::Duration;
 
 /// How many milliseconds the lanes have to tell logins that wait that the master ends.
 const PUT_OFF_MS: u64 = 1_000;
+
+/// For how many ticks workers that were told to shut down may still go, once their programs have
+/// ended.
+const GONE_TICKS: u64 = 20;
 
 /// How many events that lie ready are heard then. More are those of strangers that go on coming.
 const MOST_LAST_EVENTS: usize = 10_000;
@@ -25,10 +30,30 @@ where
     /// refused.
     pub fn put_off_logins(&mut self, events: &EventReceiver<Y>) {
         self.ask_lanes();
+        self.hear_ready(events);
+    }
+
+    /// Hears what lies ready, once all builds are over.
+    pub fn hear_ready(&mut self, events: &EventReceiver<Y>) {
         for _ in 0..MOST_LAST_EVENTS {
             match events.look(&self.shared.rt) {
                 Some(event) => self.hear_last(event),
                 None => return,
+            }
+        }
+    }
+
+    /// Hears for a moment of workers that were told to shut down and haven't gone.
+    pub fn hear_gone(&mut self, events: &EventReceiver<Y>) {
+        self.hear_ready(events);
+        let mut ticks = 0u64;
+        for _ in 0..MOST_LAST_EVENTS {
+            if ticks >= GONE_TICKS || !self.workers.iter().any(|worker| worker.is_dismissed()) {
+                return;
+            }
+            match events.wait_for(&self.shared.rt, Duration::from_millis(TICK_MS)) {
+                Some(event) => self.hear_last(event),
+                None => ticks = ticks.saturating_add(1),
             }
         }
     }
@@ -56,12 +81,16 @@ where
         }
     }
 
-    // Hears of a login that was refused. All else is over.
+    // Hears of a login that was refused, and of a worker that was told to shut down. All else is
+    // over.
     fn hear_last(&mut self, event: MasterEvent<Y>) {
         match event {
-            MasterEvent::Refused(refused) => self.hear_refused(&refused),
-            MasterEvent::Lane(worker, event) if declines(event) => {
-                self.remark(&remark_of(event, self.name(worker)));
+            MasterEvent::Refused(refused) => self.hear_refused(refused),
+            MasterEvent::Lane(worker, event) => {
+                let is_dismissed = self.is_dismissed(worker);
+                if is_dismissed || declines(event) {
+                    self.tell_lane(worker, event);
+                }
             }
             _ => {}
         }

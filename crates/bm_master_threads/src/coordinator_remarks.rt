@@ -4,8 +4,9 @@ use crate::coordinator::Coordinator;
 use crate::events::{RefusedConnection, ReportedStep};
 use crate::host::MasterHost;
 use bm_lane::Yard;
-use bm_lane_actor::refusal_remark;
-use bm_operator::{Remark, StepEvent};
+use bm_lane_actor::{LaneEvent, refusal_remark, remark_of};
+use bm_lines::Text;
+use bm_operator::{Remark, StepAt, StepEvent};
 use std::io::Write;
 
 /// What is told of a command without an exit code whose worker doesn't say why.
@@ -46,9 +47,12 @@ where
         if let StepEvent::Started(command) = reported.event {
             self.held.note(reported.build, command);
         }
-        let step = match &reported.name {
-            Some(name) => name.as_str(),
-            None => "",
+        let step = StepAt {
+            place: reported.place,
+            name: match &reported.name {
+                Some(name) => name.as_str(),
+                None => "",
+            },
         };
         let said = match &reported.said {
             Some(said) => said.as_str(),
@@ -74,19 +78,55 @@ where
     /// Tells how many refused connections were not told one by one in seconds that are over.
     pub fn tell_left_out(&mut self) {
         let second = self.second();
+        self.tell_left_out_before(second);
+    }
+
+    /// Tells how many were not told one by one, once none comes any more.
+    pub fn tell_all_left_out(&mut self) {
+        let second = self.second();
+        self.tell_left_out_before(second.wrapping_add(1));
+    }
+
+    // Tells how many were not told one by one in seconds before this one.
+    fn tell_left_out_before(&mut self, second: u64) {
         let count = self.refusals.take_left_out(second);
         if count > 0 {
             self.remark(&Remark::MoreRefused { count });
         }
     }
 
-    /// A connection was not taken up.
-    pub fn hear_refused(&mut self, refused: &RefusedConnection) {
+    // Whether a refused connection is told, by whose login it had this name.
+    fn tells_refused(&mut self, name: &Option<Text>) -> bool {
         self.tell_left_out();
         let second = self.second();
-        if !self.refusals.allows(second) {
+        self.refusals.tells(second, name)
+    }
+
+    // A refused connection was told. Where its name can't be kept, another one of it is told too.
+    fn note_refused(&mut self, name: Option<Text>) {
+        if let Some(name) = name {
+            let _ = self.refusals.note(name);
+        }
+    }
+
+    /// A connection was not taken up.
+    pub fn hear_refused(&mut self, refused: RefusedConnection) {
+        let RefusedConnection { from, name, why } = refused;
+        if self.tells_refused(&name) {
+            self.remark(&refusal_remark(&name, from, why));
+            self.note_refused(name);
+        }
+    }
+
+    /// A login was declined at the lane of a worker.
+    pub fn tell_declined(&mut self, at: usize, event: LaneEvent) {
+        let name = Text::from_str(self.shared.alloc, self.name(at)).ok();
+        if !self.tells_refused(&name) {
             return;
         }
-        self.remark(&refusal_remark(&refused.name, refused.from, refused.why));
+        if let Some(remark) = remark_of(event, false, self.name(at)) {
+            self.remark(&remark);
+        }
+        self.note_refused(name);
     }
 }

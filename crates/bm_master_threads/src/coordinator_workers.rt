@@ -1,9 +1,10 @@
 //! What the coordinator does about workers: those that are started on demand, and their processes.
 
 use crate::coordinator::Coordinator;
+use crate::events::EventReceiver;
 use crate::host::MasterHost;
 use bm_lane::Yard;
-use bm_lane_actor::{LaneEvent, LaneSignal, event_of, fills, remark_of};
+use bm_lane_actor::{LaneEvent, LaneSignal, declines, event_of, fills, remark_of};
 use bm_latent::{ProcessAction, TICK_MS, WorkerAction, WorkerEvent};
 use bm_operator::Remark;
 use bm_session::Results;
@@ -70,7 +71,7 @@ where
             self.remark(&Remark::Dismissed { worker: name });
         }
         if let Some(worker) = self.workers.get_mut(at) {
-            worker.must_end();
+            worker.dismiss();
         }
     }
 
@@ -134,10 +135,33 @@ where
         }
     }
 
+    /// Whether the worker was told to shut down and hasn't gone since.
+    pub fn is_dismissed(&self, at: usize) -> bool {
+        match self.workers.get(at) {
+            Some(worker) => worker.is_dismissed(),
+            None => false,
+        }
+    }
+
+    /// Tells what happened to a worker's lane.
+    pub fn tell_lane(&mut self, at: usize, event: LaneEvent) {
+        if declines(event) {
+            return self.tell_declined(at, event);
+        }
+        let is_dismissed = self.is_dismissed(at);
+        if let Some(remark) = remark_of(event, is_dismissed, self.name(at)) {
+            self.remark(&remark);
+        }
+        if matches!(event, LaneEvent::Attached | LaneEvent::Lost(_))
+            && let Some(worker) = self.workers.get_mut(at)
+        {
+            worker.goes_or_comes();
+        }
+    }
+
     /// The actor of a worker's lane tells what happened to it.
     pub fn hear_lane(&mut self, at: usize, event: LaneEvent) {
-        let worker = self.name(at);
-        self.remark(&remark_of(event, worker));
+        self.tell_lane(at, event);
         if let Some(event) = event_of(event) {
             self.happens(at, event);
         }
@@ -147,7 +171,7 @@ where
     }
 
     /// Has the processes of workers ended, and ends those that don't in time.
-    pub fn end_processes(&mut self) {
+    pub fn end_processes(&mut self, events: &EventReceiver<Y>) {
         let shared = self.shared;
         for at in 0..self.workers.len() {
             let is_running = match self.workers.get(at) {
@@ -160,7 +184,7 @@ where
         }
         for _ in 0..LAST_TICKS {
             if !self.workers.iter().any(|worker| worker.is_running()) {
-                return;
+                return self.hear_gone(events);
             }
             thread::sleep(&shared.rt, Duration::from_millis(TICK_MS));
             for worker in self.workers.iter_mut() {

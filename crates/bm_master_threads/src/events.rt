@@ -30,7 +30,9 @@ pub struct FinishedBuild<Y: Yard> {
 pub struct ReportedStep {
     /// The build's number.
     pub build: u64,
-    /// The step's name, where there was memory for it.
+    /// The step's place among those of its build, from 0 on.
+    pub place: u64,
+    /// Its name, where there was memory for it.
     pub name: Option<Text>,
     /// What its worker said last, where that is told.
     pub said: Option<Text>,
@@ -64,6 +66,8 @@ pub enum MasterEvent<Y: Yard> {
     Paused,
     /// A line of standard input cancels this build.
     Cancel(u64),
+    /// A line of standard input asks for nothing.
+    Misread,
     /// Standard input has ended.
     InputEnded,
 }

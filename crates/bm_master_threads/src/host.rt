@@ -9,7 +9,8 @@ use std::thread::Threads;
 use std::time::Clock;
 
 /// A system with memory, threads that may wait, a clock, random numbers, sockets and processes. Who
-/// has all of these has it: `HostRuntime` does.
+/// has all of these has it: `HostRuntime` does. It isn't `'static`: a scope's closure would have to
+/// show that the type holds no lifetime, which no clause can say.
 pub trait MasterHost: Wait
     + Threads
     + Clock

@@ -3,17 +3,21 @@
 use crate::events::{EventSender, MasterEvent};
 use crate::shared_state::SharedState;
 use bm_lane::Yard;
-use bm_operator::read_cancel;
+use bm_operator::{RateLimit, read_cancel};
 use crossbeam_channel::{Receiver, Sender, bounded};
 use std::alloc::Global;
 use std::io::{ErrorKind, Read};
 use std::sync::Wait;
 use std::thread::{Scope, Threads};
-use std::time::Clock;
+use std::time::{Clock, Instant};
 
 /// How many bytes of a line are kept. Of a longer one nothing is kept: a line that asks for
 /// something is shorter, but for one with thousands of zeros before its number.
 const MOST_LINE: usize = 4096;
+
+/// How many lines that ask for nothing are told in a second. Events have room without a bound, and
+/// a file that is no list of lines must not fill the memory.
+const MOST_MISREAD: u32 = 10;
 
 /// The line that is being read, without its line end.
 #[derive(Drop)]
@@ -36,6 +40,11 @@ impl InputLine {
         }
     }
 
+    // Whether nothing of it was read.
+    fn is_empty(&self) -> bool {
+        self.is_whole && self.bytes.is_empty()
+    }
+
     // Begins the next line. The answer is the build that this one cancels, if it cancels one.
     fn end(&mut self) -> Option<u64> {
         let cancelled = if self.is_whole {
@@ -49,7 +58,50 @@ impl InputLine {
     }
 }
 
-// Tells of each build that a line of the input cancels, until the input ends or can't be read.
+/// How many lines that ask for nothing are told.
+#[derive(Drop)]
+struct MisreadLimit {
+    limit: RateLimit,
+    /// When the reading began. None where the clock failed.
+    began: Option<Instant>,
+}
+
+impl MisreadLimit {
+    // Another such line was read: whether that is told.
+    fn allows<R: Clock>(&mut self, rt: &R) -> bool {
+        let second = match self.began {
+            Some(began) => match began.elapsed(rt) {
+                Ok(age) => age.as_secs(),
+                Err(_) => 0,
+            },
+            None => 0,
+        };
+        self.limit.allows(second)
+    }
+}
+
+// Tells what a line asks for.
+fn tell_line<Y, R>(
+    rt: &R,
+    events: &EventSender<Y>,
+    misread: &mut MisreadLimit,
+    line: &mut InputLine,
+)
+where
+    Y: Yard,
+    R: Wait + Clock,
+{
+    match line.end() {
+        Some(number) => events.tell(rt, MasterEvent::Cancel(number)),
+        None => {
+            if misread.allows(rt) {
+                events.tell(rt, MasterEvent::Misread);
+            }
+        }
+    }
+}
+
+// Tells what each line of the input asks for, until the input ends or can't be read.
 fn read_input<I, Y, R>(rt: &R, alloc: Global, input: I, events: &EventSender<Y>)
 where
     I: Read + Drop,
@@ -59,6 +111,10 @@ where
     let mut input = input;
     let mut piece = [0u8; 512];
     let mut line = InputLine::new(alloc);
+    let mut misread = MisreadLimit {
+        limit: RateLimit::new(MOST_MISREAD),
+        began: Instant::now(rt).ok(),
+    };
     for _ in rt.forever() {
         let count = match input.read(&mut piece) {
             Ok(0) => break,
@@ -69,13 +125,13 @@ where
         for byte in &piece[..count] {
             if *byte != b'\n' {
                 line.push(*byte);
-            } else if let Some(number) = line.end() {
-                events.tell(rt, MasterEvent::Cancel(number));
+            } else {
+                tell_line(rt, events, &mut misread, &mut line);
             }
         }
     }
-    if let Some(number) = line.end() {
-        events.tell(rt, MasterEvent::Cancel(number));
+    if !line.is_empty() {
+        tell_line(rt, events, &mut misread, &mut line);
     }
 }
 

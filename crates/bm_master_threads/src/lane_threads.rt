@@ -79,7 +79,8 @@ where
 }
 
 /// Drains the lanes until the gate says stop. Where the pool's writers can't be started this thread
-/// drains alone, so that no build waits for ever; the answer is then false.
+/// drains alone, so that no build waits for ever; the answer is then false. Its loop isn't the
+/// pool's: one for both would have both contracts.
 pub fn drain_lanes<Y, R>(shared: &SharedState<Y, R>) -> bool
 where
     Y: Yard + Send + Sync,

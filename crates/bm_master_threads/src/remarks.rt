@@ -1,14 +1,16 @@
 //! The thread that writes remarks, so that nobody waits for who reads them.
 
+use bm_config::RemarkForm;
+use bm_latent::millis;
 use bm_operator::Remark;
 use crossbeam_channel::{Receiver, Sender, bounded};
-use std::alloc::Global;
+use std::alloc::{AllocError, Global};
 use std::io::Write;
 use std::sync::atomic::{AtomicU64, Ordering};
 use std::sync::{Arc, Wait};
 use std::thread;
 use std::thread::Threads;
-use std::time::{Clock, Duration};
+use std::time::{Clock, Duration, Instant};
 
 /// How many remarks wait at the most to be written.
 const MOST_REMARKS: usize = 1_024;
@@ -16,11 +18,41 @@ const MOST_REMARKS: usize = 1_024;
 /// How long the last remarks may take to be written, once the master ends.
 const LAST_SECONDS: u64 = 2;
 
+/// How remarks are written.
+#[derive(Clone, Copy)]
+struct RemarkStyle {
+    alloc: Global,
+    form: RemarkForm,
+    /// When the master began. None where the clock failed: then it is 0 in each remark.
+    began: Option<Instant>,
+}
+
+impl RemarkStyle {
+    // The remark in its form, with its line end.
+    fn text<R: Clock>(&self, rt: &R, remark: &Remark<'_>) -> Result<String, AllocError> {
+        match self.form {
+            RemarkForm::Text => remark.line(self.alloc),
+            RemarkForm::Json => remark.object(self.alloc, self.age_ms(rt)),
+        }
+    }
+
+    // How many milliseconds have passed since the beginning.
+    fn age_ms<R: Clock>(&self, rt: &R) -> u64 {
+        match self.began {
+            Some(began) => match began.elapsed(rt) {
+                Ok(age) => millis(age),
+                Err(_) => 0,
+            },
+            None => 0,
+        }
+    }
+}
+
 /// Where remarks are told. Telling never waits: what finds no room is counted, and the count is
 /// told once all that had room was written.
 #[derive(Drop)]
 pub struct Remarks {
-    alloc: Global,
+    style: RemarkStyle,
     lines: Sender<String, Global>,
     /// Disconnected once the thread has ended.
     end: Receiver<(), Global>,
@@ -31,7 +63,7 @@ pub struct Remarks {
 /// What the thread of remarks owns.
 #[derive(Drop)]
 struct RemarkWriter<F> {
-    alloc: Global,
+    style: RemarkStyle,
     faults: F,
     lines: Receiver<String, Global>,
     untold: Arc<AtomicU64, Global>,
@@ -44,45 +76,52 @@ impl<F: Write> RemarkWriter<F> {
     }
 
     // Tells how many remarks were not told, if some were not.
-    fn write_untold(&mut self) {
+    fn write_untold<R: Clock>(&mut self, rt: &R) {
         let count = self.untold.swap(0, Ordering::SeqCst);
-        if count > 0 {
-            let _ = Remark::NotTold { count }.write(self.alloc, &mut self.faults);
+        if count > 0
+            && let Ok(line) = self.style.text(rt, &Remark::NotTold { count })
+        {
+            self.write(line.as_str());
         }
     }
 
     // Writes each remark, until nobody is left who tells.
-    fn write_all<R: Wait>(&mut self, rt: &R) {
+    fn write_all<R: Wait + Clock>(&mut self, rt: &R) {
         for _ in rt.forever() {
             if let Ok(line) = self.lines.try_recv(rt) {
                 self.write(line.as_str());
             } else {
-                self.write_untold();
+                self.write_untold(rt);
                 match self.lines.recv(rt) {
                     Ok(line) => self.write(line.as_str()),
                     Err(_) => break,
                 }
             }
         }
-        self.write_untold();
+        self.write_untold(rt);
     }
 }
 
 impl Remarks {
-    /// Starts the thread that writes to `faults`. None where it can't be started, or memory is
-    /// wanting.
-    pub fn open<R, F>(rt: &R, alloc: Global, faults: F) -> Option<Remarks>
+    /// Starts the thread that writes to `faults`, each remark in this form. None where it can't be
+    /// started, or memory is wanting.
+    pub fn open<R, F>(rt: &R, alloc: Global, form: RemarkForm, faults: F) -> Option<Remarks>
     where
-        R: Wait + Threads + Copy + Drop + Send + 'static,
+        R: Wait + Clock + Threads + Copy + Drop + Send + 'static,
         F: Write + Drop + Send + 'static,
     {
         let (lines, taken) = bounded(alloc, MOST_REMARKS).ok()?;
         let (ends, end) = bounded::<(), Global>(alloc, 1).ok()?;
         let untold = Arc::new(alloc, AtomicU64::new(0)).ok()?;
         let counted = Arc::try_clone(&untold).ok()?;
+        let style = RemarkStyle {
+            alloc,
+            form,
+            began: Instant::now(rt).ok(),
+        };
         let rt = *rt;
         let writer = RemarkWriter {
-            alloc,
+            style,
             faults,
             lines: taken,
             untold: counted,
@@ -95,7 +134,7 @@ impl Remarks {
         })
         .ok()?;
         Some(Remarks {
-            alloc,
+            style,
             lines,
             end,
             untold,
@@ -103,8 +142,8 @@ impl Remarks {
     }
 
     /// Tells a remark, or counts it where there is no room, or no memory.
-    pub fn tell<R: Wait>(&self, rt: &R, remark: &Remark<'_>) {
-        let is_told = match remark.line(self.alloc) {
+    pub fn tell<R: Wait + Clock>(&self, rt: &R, remark: &Remark<'_>) {
+        let is_told = match self.style.text(rt, remark) {
             Ok(line) => self.lines.try_send(rt, line).is_ok(),
             Err(_) => false,
         };

@@ -2,26 +2,31 @@
 ghost use Rattle.bm_lane.specs.Placed.{ArePlaced};
 
 use crate::ending::{end, failed, write_line};
+use crate::first_remarks::tell_first;
 use crate::host::MasterHost;
 use crate::remarks::Remarks;
 use crate::setup::{MasterStreams, prepare};
 use crate::threads::run_threads;
-use bm_config::{Config, WorkerConfig};
+use bm_config::{Config, UnknownKey, WorkerConfig};
 use bm_lane::{Blank, Yard, ends_of_all};
 use bm_lane_actor::WorkerStream;
 use bm_lanes::{DealtLanes, deal, open_all};
 use bm_operator::{OutputLine, REFUSED};
 use std::alloc::Global;
+use std::io;
 use std::io::{Read, Write};
 use std::marker::Brand;
-use std::net::TcpListener;
+use std::net::{SocketAddr, TcpListener};
 use std::sync::Wait;
 use std::time::Clock;
 
-// Tells of a key at fault.
-fn refuse<F: Write>(faults: &mut F, key: &str) -> u8 {
+// Tells of a key whose address can't be bound, and why.
+fn refuse<F: Write>(faults: &mut F, key: &str, at: SocketAddr, why: &io::Error) -> u8 {
     // Where it can't be told, the status still says that the configuration is refused.
-    let _ = writeln!(faults, "bad configuration: {key}");
+    let _ = writeln!(
+        faults,
+        "bad configuration: {key}\nconfiguration: {key}: {at} can't be bound: {why}"
+    );
     REFUSED
 }
 
@@ -36,8 +41,15 @@ fn refuse<F: Write>(faults: &mut F, key: &str) -> u8 {
 /// A line `cancel I` of the input cancels build I. On `output` stands `listening ADDR ADDR` first,
 /// for workers and for the web. Once every build is over, `build I RESULT` stands there for each. At
 /// the end it is `lane NAME COMMANDS LINES` for each worker. On `faults` stand remarks for an
-/// operator.
-pub fn serve<R, I, O, F>(rt: &R, config: Config, input: I, output: O, faults: F) -> u8
+/// operator, first of what the master has, and of the keys that nobody reads.
+pub fn serve<R, I, O, F>(
+    rt: &R,
+    config: Config,
+    unknown: &[UnknownKey],
+    input: I,
+    output: O,
+    faults: F,
+) -> u8
 where
     R: MasterHost + 'static,
     I: Read + Drop + Send,
@@ -46,23 +58,26 @@ where
 {
     let alloc = rt.alloc();
     let mut faults = faults;
-    let Ok(workers) = TcpListener::bind(rt, config.listen) else {
-        return refuse(&mut faults, "listen");
+    let workers = match TcpListener::bind(rt, config.listen) {
+        Ok(workers) => workers,
+        Err(why) => return refuse(&mut faults, "listen", config.listen, &why),
     };
-    let Ok(web) = TcpListener::bind(rt, config.web) else {
-        return refuse(&mut faults, "web");
+    let web = match TcpListener::bind(rt, config.web) {
+        Ok(web) => web,
+        Err(why) => return refuse(&mut faults, "web", config.web, &why),
     };
     let Some(blanks) = open_all(*rt, alloc, config.capacity, config.workers.as_slice()) else {
         return failed();
     };
+    let remarks = Remarks::open(rt, alloc, config.remarks, faults);
     let streams = MasterStreams {
         workers,
         web,
         input,
         output,
-        remarks: Remarks::open(rt, alloc, faults),
+        remarks,
     };
-    match run::<Brand, R, I, O>(rt, alloc, blanks, config, streams) {
+    match run::<Brand, R, I, O>(rt, alloc, blanks, config, unknown, streams) {
         Some(status) => status,
         None => failed(),
     }
@@ -90,6 +105,7 @@ fn run<Y, R, I, O>(
     alloc: Global,
     blanks: Vec<Blank<R>>,
     config: Config,
+    unknown: &[UnknownKey],
     streams: MasterStreams<I, O>,
 ) -> Option<u8>
 where
@@ -107,6 +123,9 @@ where
     let listening = OutputLine::Listening { workers, web };
     if !write_line(alloc, listening, &mut owned.coordinator.output) {
         return None;
+    }
+    if let Some(remarks) = &owned.coordinator.remarks {
+        tell_first(rt, alloc, remarks, &shared.config, unknown);
     }
     let left = run_threads(&shared, owned)?;
     Some(end(shared, left, logs))

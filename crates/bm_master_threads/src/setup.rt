@@ -79,7 +79,8 @@ fn coordinator_of<Y: Yard, O: Drop>(
     })
 }
 
-/// A handle of the logs that the web serves.
+/// A handle of the logs that the web serves. There are two: in what all threads share the logs
+/// would still be borrowed when the end wants them whole.
 type Logs<Y> = Arc<LogService<Y>>;
 
 // The logs that these see, for the thread that serves them and for the end. None where memory is
@@ -95,7 +96,7 @@ fn logs_of<Y: Yard>(alloc: Global, viewers: Vec<Viewer<Y>>) -> Option<(Logs<Y>, 
 
 /// What all threads share, and what each of them owns, before the first of them starts. With these
 /// come the logs that the web serves, for the end. `at` is where workers connect. None where
-/// memory is wanting.
+/// memory is wanting. A part of this would have the same bounds and clauses once more.
 pub fn prepare<Y, R, I, O>(
     rt: &R,
     alloc: Global,

@@ -1,10 +1,13 @@
-//! What the acceptor waits for: a connection, an arrival on one, or the master's end.
+//! What the acceptor waits for: a connection, an arrival on one, or the master's end. It waits for
+//! all sockets. A thread for each would be a second owner, and a poll in each actor a second thing
+//! to wait at.
 
 use mio::unix::SourceFd;
 use mio::{Events, Interest, Poll, Registry, Token, Waker};
 use std::alloc::Global;
 use std::net::{Net, TcpListener};
 use std::os::fd::AsRawFd;
+use std::sync::Arc;
 
 /// What the listener is called in an event. Connections have the numbers of their lanes.
 pub const LISTENER: usize = usize::MAX;
@@ -27,8 +30,8 @@ pub struct SocketEvents {
 /// By what others have the acceptor woken.
 #[derive(Drop)]
 pub struct SocketRegistry {
-    /// Where a connection is put whose arrivals are to be told.
-    pub connections: Registry,
+    /// Where a connection has its arrivals told.
+    pub connections: Arc<Registry, Global>,
     waker: Waker,
 }
 
@@ -46,7 +49,7 @@ pub fn open_sockets<R: Net>(
         .register(&mut SourceFd(&fd), Token(LISTENER), Interest::READABLE)
         .ok()?;
     let waker = Waker::new(poll.registry(), Token(END)).ok()?;
-    let connections = poll.registry().try_clone().ok()?;
+    let connections = Arc::new(alloc, poll.registry().try_clone().ok()?).ok()?;
     Some((
         SocketEvents { poll, events },
         SocketRegistry { connections, waker },

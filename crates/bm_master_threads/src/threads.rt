@@ -31,7 +31,8 @@ use std::thread;
 use std::thread::{JoinHandle, Scope};
 use std::time::Clock;
 
-/// What each thread of a master owns from its start on.
+/// What each thread of a master owns from its start on. It is one struct, since one for each step
+/// of the preparation would hide who owns what.
 #[derive(Drop)]
 pub struct ThreadOwned<Y: Yard, R: Wait + Clock + Drop, I, O> {
     /// The actors': the state of each lane, and its mailbox, in the order of the lanes.
@@ -107,7 +108,8 @@ where
 }
 
 // Starts each thread with what it owns, serves the web in this one, and joins them. None where one
-// of them could not be started, or memory is wanting.
+// of them could not be started, or memory is wanting. The web is served here, so that what is
+// served is never handed to another thread.
 fn run_all<'s, E, Y, R, I, O>(
     scope: &Scope<'s, E>,
     shared: &'s SharedState<Y, R>,

@@ -5,7 +5,7 @@ use crate::worker_process::WorkerProcess;
 use bm_board::Words;
 use bm_config::{Config, WorkerConfig};
 use bm_latent::{WorkerAction, WorkerEvent, WorkerState};
-use bm_operator::{ProgramRefusal, place_master};
+use bm_operator::{ProgramRefusal, WaitNotice, place_master};
 use std::alloc::{AllocError, Global};
 use std::net::SocketAddr;
 use std::process::{Processes, SystemProcess};
@@ -15,6 +15,10 @@ use std::process::{Processes, SystemProcess};
 pub struct WorkerEntry {
     state: WorkerState,
     process: Option<WorkerProcess>,
+    /// Whether it was told to shut down, and hasn't gone or logged in since.
+    is_dismissed: bool,
+    /// When it is told that a build waits for it.
+    waits: WaitNotice,
 }
 
 impl WorkerEntry {
@@ -28,12 +32,16 @@ impl WorkerEntry {
             return Ok(WorkerEntry {
                 state: WorkerState::plain(),
                 process: None,
+                is_dismissed: false,
+                waits: WaitNotice::new(),
             });
         };
         let words = Words::from_vec(place_master(alloc, words.as_slice(), master)?);
         Ok(WorkerEntry {
             state: WorkerState::latent(worker.idle_ticks.max(1)),
             process: Some(WorkerProcess::new(words)),
+            is_dismissed: false,
+            waits: WaitNotice::new(),
         })
     }
 
@@ -74,6 +82,33 @@ impl WorkerEntry {
         }
     }
 
+    /// It is told to shut down.
+    pub fn dismiss(&mut self) {
+        self.is_dismissed = true;
+        self.must_end();
+    }
+
+    /// It has gone, or logs in.
+    pub fn goes_or_comes(&mut self) {
+        self.is_dismissed = false;
+    }
+
+    /// Whether it was told to shut down, and hasn't gone or logged in since.
+    pub fn is_dismissed(&self) -> bool {
+        self.is_dismissed
+    }
+
+    /// A build waits for it now, or none does: whether that is to be told, since it isn't there.
+    pub fn has_waited(&mut self, now_ms: u64, has_wait: bool) -> bool {
+        let waits = has_wait && !self.state.is_ready();
+        self.waits.look(now_ms, waits)
+    }
+
+    /// Whether a build waits for it, and that wasn't told.
+    pub fn is_waited_for(&self) -> bool {
+        self.waits.is_pending()
+    }
+
     /// Its process is to end: it has some time for that before it is asked to, and then killed.
     pub fn must_end(&mut self) {
         if let Some(process) = &mut self.process {
@@ -81,17 +116,11 @@ impl WorkerEntry {
         }
     }
 
-    /// A build waits for it, or none does: a process that hasn't logged in goes on, or is to end.
+    /// A build waits for it, or none does: then a process that hasn't logged in is to end. All builds
+    /// are there from the start, so none comes to wait for it again.
     pub fn is_wanted(&mut self, is_wanted: bool) {
-        let is_starting = self.state.is_needless(false);
-        if let Some(process) = &mut self.process
-            && is_starting
-        {
-            if is_wanted {
-                process.may_go_on();
-            } else {
-                process.must_end();
-            }
+        if self.state.is_needless(is_wanted) {
+            self.must_end();
         }
     }
 

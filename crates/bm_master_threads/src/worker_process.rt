@@ -8,7 +8,8 @@ use std::io::ErrorKind;
 use std::process::{Child, Command, Processes, Stdio, SystemProcess};
 
 // Asks a process to end, by SIGTERM. The shell sends it: the process can't be mistaken, since
-// nobody has waited for it. Where no shell can be started it isn't asked.
+// nobody has waited for it. Where no shell can be started it isn't asked. The toolchain kills
+// alone, and a scheduler's client may have something to take back.
 fn ask<R: Processes<Started = SystemProcess>>(rt: &R, alloc: Global, id: u32) {
     let (Ok(mut command), Ok(words)) = (
         Command::new(alloc, "/bin/sh"),
@@ -135,13 +136,6 @@ impl WorkerProcess {
                 self.is_asked = true;
                 let _ = child.kill();
             }
-        }
-    }
-
-    /// The process may go on, unless it was asked to end already.
-    pub fn may_go_on(&mut self) {
-        if !self.is_asked {
-            self.deadline.stop();
         }
     }
 

@@ -7,8 +7,13 @@ pub mod ProgramWords
 pub mod OneLine
 pub mod Reasons
 pub mod OutputLine
+pub mod Told
 pub mod Remark
 pub mod StepEvents
 pub mod Exit
 -- How many lines a second are let through.
 pub mod RateLimit
+-- Which refused connections are told one by one.
+pub mod RefusalLimit
+-- When it is told that something waits.
+pub mod WaitNotice

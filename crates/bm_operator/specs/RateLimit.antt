@@ -31,6 +31,21 @@ limit_after l second =
       left_out = if is_allowed l second then l.left_out else min (l.left_out + 1) (2 ^ 64 - 1);
     }
 
+-- a thing happens in this second
+abbrev pub limit_at : Allowance → ℕ → Allowance
+limit_at l second =
+    record {
+      most = l.most;
+      second = second;
+      allowed = allowed_in l second;
+      left_out = l.left_out;
+    }
+
+-- it is left out, however few there were, and counted
+abbrev pub left_out_after : Allowance → ℕ → Allowance
+left_out_after l second =
+    record (limit_at l second) { left_out = min (l.left_out + 1) (2 ^ 64 - 1) }
+
 -- those left out before this second
 abbrev pub left_out_before : Allowance → ℕ → ℕ
 left_out_before l second = if l.second == second then 0 else l.left_out

@@ -11,7 +11,9 @@ pub const REFUSED: u8 = 2;
 
 /// The exit status of a master whose builds had these results: 0 where each of them is `SUCCESS` or
 /// `WARNINGS`, else 1. `failed` says that the master itself failed, which is 1 too. It fails where
-/// a report could not be written, a thread could not be started, or memory was wanting.
+/// a report could not be written, a thread could not be started, or memory was wanting. The results
+/// are listed once all builds are over: a status that is counted before would have a contract on a
+/// sum of ends.
 pub fn status(results: &[Results], failed: bool) -> u8
     ensures { result ≡ exit_status results.now failed }
 {

@@ -7,7 +7,7 @@ use std::alloc::{AllocError, Global};
 
 /// A name as it is shown on one line. Each control character is `\x` and two hex digits, and each
 /// backslash is two. So no name ends a line or moves a terminal's cursor.
-pub(crate) fn one_line(alloc: Global, name: &str) -> Result<String, AllocError>
+pub fn one_line(alloc: Global, name: &str) -> Result<String, AllocError>
     ensures { IfOk result (λ s. string_bytes s ≡ one_line name.now) }
 {
     let mut line = String::new(alloc);

@@ -17,7 +17,7 @@ fn placed(alloc: Global, word: &Text, master: &str) -> Result<Text, AllocError>
 }
 
 /// The words of a worker's program, with the master's address in the place of each `{master}` in
-/// them.
+/// them. They are texts: as the board's `Words` they would put this crate above the board.
 pub fn place_master(alloc: Global, words: &[Text], master: &str) -> Result<Vec<Text>, AllocError>
     ensures { IfOk result (λ all. IsEachPlaced master.now words.now all.items) }
 {

@@ -1,7 +1,7 @@
 //! How often a thing is told.
 
 ghost use Rattle.std.specs.Prelude.{◌≡◌, ◌==◌, ◌<◌, if◌then◌else◌};
-ghost use Rattle.bm_operator.specs.RateLimit.{allowance, is_allowed, is_left_out, left_out_before, limit_after};
+ghost use Rattle.bm_operator.specs.RateLimit.{allowance, is_allowed, is_left_out, left_out_after, left_out_before, limit_after, limit_at};
 
 use std::marker::Model;
 
@@ -50,10 +50,7 @@ impl RateLimit {
         ensures result { result ≡ is_allowed self.old second }
         ensures limit { self.new ≡ limit_after self.old second }
     {
-        if self.second != second {
-            self.second = second;
-            self.allowed = 0;
-        }
+        self.begin(second);
         if self.allowed < self.most {
             self.allowed += 1;
             true
@@ -61,6 +58,32 @@ impl RateLimit {
             self.left_out = self.left_out.saturating_add(1);
             false
         }
+    }
+
+    /// A thing happens in this second that is left out, however few there were: it is counted, up to
+    /// 2^64-1.
+    pub fn leave_out(&mut self, second: u64)
+        ensures { self.new ≡ left_out_after self.old second }
+    {
+        self.begin(second);
+        self.left_out = self.left_out.saturating_add(1);
+    }
+
+    /// A thing happens in this second.
+    fn begin(&mut self, second: u64)
+        ensures { self.new ≡ limit_at self.old second }
+    {
+        if self.second != second {
+            self.second = second;
+            self.allowed = 0;
+        }
+    }
+
+    /// Whether the last thing happened in this second.
+    pub(crate) fn is_in(&self, second: u64) -> bool
+        ensures { result ≡ (self.now.second == second) }
+    {
+        self.second == second
     }
 
     /// How many were not let through in seconds before this one, each counted once.

@@ -105,7 +105,8 @@ pub enum StartRefusal {
     Lost,
     /// The lane has had as many events as it may.
     Full,
-    /// Its command has more words, or longer ones, than one request carries.
+    /// Its command has more words, or longer ones, than one request carries. Told as `Full` it
+    /// would speak of the lane, of which nothing is full.
     TooLong,
     /// Memory was wanting.
     Memory,

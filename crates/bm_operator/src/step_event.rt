@@ -1,12 +1,13 @@
 //! What happens to a step, and what an operator is told of it.
 
 ghost use Rattle.std.specs.Prelude.{◌≡◌};
-ghost use Rattle.bm_operator.specs.Remark.{remark_line};
-ghost use Rattle.bm_operator.specs.StepEvents.{event_line, log_of};
+ghost use Rattle.bm_operator.specs.Remark.{told};
+ghost use Rattle.bm_operator.specs.StepEvents.{event_told, log_of};
 
 use crate::log_id::LogId;
 use crate::reasons::{StartRefusal, StepLimit};
 use crate::remark::Remark;
+use crate::step_at::StepAt;
 use bm_session::Results;
 
 /// What happened to a step. Commands are by their numbers on the worker's lane.
@@ -33,11 +34,10 @@ impl StepEvent {
         lane: u64,
         lanes: u64,
         worker: &'a str,
-        step: &'a str,
+        step: StepAt<'a>,
         said: &'a str,
     ) -> Remark<'a>
-        ensures { remark_line result
-            ≡ event_line build lane lanes worker.now step.now said.now self }
+        ensures { told result ≡ event_told build lane lanes worker.now step.entry said.now self }
     {
         match self {
             StepEvent::Started(command) => {

@@ -1,5 +1,5 @@
 -- What waits to be told, and what telling it does to the worker's core.
-use Rattle.std.specs.Prelude.{◌≡◌, ℕ, List, [], ◌∷◌, length, codes, Some, Result, Ok, Err}
+use Rattle.std.specs.Prelude.{◌≡◌, ℕ, List, [], ◌∷◌, length, codes, Some, None, Result, Ok, Err}
 use Rattle.std.specs.declared.alloc.AllocError.{AllocError}
 use Rattle.bm_work.specs.Core.{Core, next_number, refusal, with_reports, without_command}
 use Rattle.bm_work.specs.Reports.{reports_of}
@@ -44,13 +44,15 @@ abbrev pub told_core : OutboxEntry → Core → Core
 told_core (entry.Text k said) c = with_reports (text k said.letter said.text ∷ []) c
 told_core (entry.End k e) c = without_command k (with_reports (reports_of k (finish_of e)) c)
 
--- telling an item: its requests have the next numbers; or the window lacks the places, or its
--- command runs no more, and nothing changed
+-- telling an item: its command runs, the window has the places, and its requests have the next
+-- numbers; or the window lacks the places, or its command runs no more, and nothing changed
 abbrev pub Tells : OutboxEntry → Core → Result Progress AllocError → Core → Type 0
 Tells i c (Ok (progress.Text s)) c2 =
-    (s ∷ [] ≡ stream_from (next_number c) (reports_in i)) × (c2 ≡ told_core i c)
+    (refusal c (command_of i) (length (reports_in i)) ≡ None)
+    × (s ∷ [] ≡ stream_from (next_number c) (reports_in i)) × (c2 ≡ told_core i c)
 Tells i c (Ok (progress.End v)) c2 =
-    (v.items ≡ stream_from (next_number c) (reports_in i)) × (c2 ≡ told_core i c)
+    (refusal c (command_of i) (length (reports_in i)) ≡ None)
+    × (v.items ≡ stream_from (next_number c) (reports_in i)) × (c2 ≡ told_core i c)
 Tells i c (Ok progress.Full) c2 =
     (refusal c (command_of i) (length (reports_in i)) ≡ Some Window) × (c2 ≡ c)
 Tells i c (Ok progress.Passed) c2 =

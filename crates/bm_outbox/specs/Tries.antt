@@ -1,15 +1,28 @@
 -- How often and for how long a worker connects again.
-use Rattle.std.specs.Prelude.{ℕ, ◌+◌, ◌-◌, ◌*◌, min, nat_lt, Bool, true, false, ◌&&◌, Option, Some, None, if◌then◌else◌}
+use Rattle.std.specs.Prelude.{ℕ, ◌+◌, ◌-◌, ◌*◌, min, nat_lt, Bool, true, false, not, ◌&&◌, Option, Some, None, if◌then◌else◌}
 use Rattle.bm_outbox.specs.declared.tries.ConnectFault.{ConnectFault}
 use Rattle.bm_outbox.specs.declared.tries.ConnectFault.TheVariants as fault
 
--- the tries in a row, when the last of them began, the pause before its next connect, and whether a
--- login was answered
+-- the tries in a row, when the last of them began, the pause before its next connect, whether a login
+-- was answered, and when that of the connection that stands was
 pub record TriesState : Type 0 where
   pub made : ℕ
   pub begun_ms : ℕ
   pub next_pause_ms : ℕ
   pub is_known : Bool
+  pub answered_ms : Option ℕ
+
+-- a connection lasted whose login was answered six seconds ago
+abbrev pub has_lasted : ℕ → Option ℕ → Bool
+has_lasted now None = false
+has_lasted now (Some answered) = not (nat_lt (now - answered) 6000)
+
+-- no connection stands; one that lasted ends the tries before it
+abbrev pub after_connection : ℕ → TriesState → TriesState
+after_connection now t =
+    if has_lasted now t.answered_ms
+    then record t { made = 0; answered_ms = None }
+    else record t { answered_ms = None }
 
 -- a refused login ends its try
 abbrev pub may_go_on : ConnectFault → Bool

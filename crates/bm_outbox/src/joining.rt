@@ -120,7 +120,7 @@ fn fit(first: &str, second: &str) -> bool
 
 /// What is said of bytes of a pipe whose first stretch ends there. These are their texts in order,
 /// each of at most 65,536 bytes, with their lines. All that fits is joined. The bytes behind the
-/// last text follow.
+/// last text follow. Joined so the log is the same, and a lane's events last longer.
 pub(crate) fn joined<'a>(
     alloc: Global,
     letter: Letter,

@@ -58,7 +58,8 @@ impl Outbox {
         self.waiting.is_empty()
     }
 
-    /// Puts an entry behind the others. Want of memory changes nothing.
+    /// Puts an entry behind the others. Want of memory changes nothing. That an exit code is of its
+    /// own command is a condition. As a refusal it would be a fault that no caller can meet.
     pub fn push(&mut self, entry: OutboxEntry) -> Result<(), AllocError>
         requires { TellsOwnCode entry }
         ensures ok { OnOk result (self.new ≡ self.old ++ entry ∷ []) }

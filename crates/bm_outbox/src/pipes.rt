@@ -42,7 +42,8 @@ impl Pipes {
     }
 
     /// A pipe came to this end. That of another command is none of these, and a command has no pipe
-    /// of headers.
+    /// of headers. That is no condition of the call: an end comes through a channel, which carries
+    /// no fact.
     pub fn end(&mut self, end: PipeEnd)
         ensures { self.new ≡ with_end end self.old }
     {

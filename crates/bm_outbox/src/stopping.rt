@@ -3,10 +3,12 @@
 ghost use Rattle.std.specs.Prelude.{◌≡◌, ◌∷◌, [], IfSome, IsNone, option_map};
 ghost use Rattle.bm_outbox.specs.Stopping.{cause_line, leftover_lines, stop_end, sweep_of};
 
-/// After how many milliseconds what its pipes still give isn't told any more.
+/// After how many milliseconds what its pipes still give isn't told any more. Until then it is: the
+/// prompt that a step waited at may be in it.
 const LAST_TEXTS_MS: u64 = 200;
 
-/// After how many milliseconds a sweep that didn't come back isn't awaited any more.
+/// After how many milliseconds a sweep that didn't come back isn't awaited any more. Its rounds
+/// bound it: by a shorter time a busy machine would tell of processes that aren't left.
 const SWEEP_LIMIT_MS: u64 = 5_000;
 
 /// Why a worker ends a command.

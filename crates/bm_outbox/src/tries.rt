@@ -1,17 +1,20 @@
 //! How often and for how long a worker connects again.
 
 ghost use Rattle.std.specs.Prelude.{◌≡◌};
-ghost use Rattle.bm_outbox.specs.Tries.{after_fault, goes_on, pause_before};
+ghost use Rattle.bm_outbox.specs.Tries.{after_connection, after_fault, goes_on, has_lasted, pause_before};
 
 use std::marker::Model;
 
 /// How many times in a row a worker tries to connect again before it gives up.
 const MOST: u32 = 10;
 
-/// For how long a try goes on once a login was answered: ten of them last a minute.
+/// For how long a try goes on once a login was answered: ten of them last a minute. A connection
+/// that lasts for so long ends the tries before it. By a single connect for each try a worker would
+/// end just behind its master, or by a tunnel that closes connects.
 const SHARE_MS: u64 = 6_000;
 
-/// How long a worker waits before the first connect of a try.
+/// How long a worker waits before the first connect of a try. The pauses grow: a constant one
+/// floods a tunnel, or delays a worker whose master is back.
 const FIRST_PAUSE_MS: u64 = 10;
 
 /// How long it waits before a further one at the most.
@@ -33,6 +36,8 @@ pub struct Tries {
     begun_ms: u64,
     next_pause_ms: u64,
     is_known: bool,
+    /// When the login of the connection that stands was answered.
+    answered_ms: Option<u64>,
 }
 
 impl Model for Tries {
@@ -46,31 +51,41 @@ impl Model for Tries {
       begun_ms = t.begun_ms;
       next_pause_ms = t.next_pause_ms;
       is_known = t.is_known;
+      answered_ms = t.answered_ms;
     } };
 
     ghost invariant = { λ t. (t.made ≤ 10) × (t.next_pause_ms ≤ 1000) };
 }
 
 impl Tries {
-    ghost use Rattle.std.specs.Prelude.{true, false};
+    ghost use Rattle.std.specs.Prelude.{true, false, Some, None};
 
     /// None was made, and no login was answered.
     pub fn new() -> Tries
-        ensures { result ≡ record { made = 0; begun_ms = 0; next_pause_ms = 10; is_known = false } }
+        ensures { result ≡ record {
+          made = 0;
+          begun_ms = 0;
+          next_pause_ms = 10;
+          is_known = false;
+          answered_ms = None;
+        } }
     {
         Tries {
             made: 0,
             begun_ms: 0,
             next_pause_ms: FIRST_PAUSE_MS,
             is_known: false,
+            answered_ms: None,
         }
     }
 
-    /// A login was answered by a session: from now on each try lasts for its share of a minute.
-    pub fn answered(&mut self)
-        ensures { self.new ≡ record self.old { is_known = true } }
+    /// A login was answered by a session, where the worker's clock shows so many milliseconds: from
+    /// now on each try lasts for its share of a minute.
+    pub fn answered(&mut self, now_ms: u64)
+        ensures { self.new ≡ record self.old { is_known = true; answered_ms = Some now_ms } }
     {
         self.is_known = true;
+        self.answered_ms = Some(now_ms);
     }
 
     /// A message was heard after a login: the count starts afresh.
@@ -85,10 +100,15 @@ impl Tries {
     ///
     /// A try ends with its share of the time, or by a login that is refused. Before a login was
     /// answered each connect is a try. The pauses of a try grow from 10 milliseconds to a second.
+    /// Where a connection is lost that lasted for a try's share behind the answer to its login, the
+    /// count starts afresh. So no number of cuts ends a worker that hears no message since it has no
+    /// builds. One that was answered and dropped at once is part of its try, so that a master that
+    /// does so is not called without end.
     pub fn again(&mut self, why: ConnectFault, now_ms: u64) -> Option<u64>
-        ensures pause { result ≡ pause_before why now_ms self.old }
-        ensures tries { self.new ≡ after_fault why now_ms self.old }
+        ensures pause { result ≡ pause_before why now_ms (after_connection now_ms self.old) }
+        ensures tries { self.new ≡ after_fault why now_ms (after_connection now_ms self.old) }
     {
+        self.leave(now_ms);
         if self.goes_on(why, now_ms) {
             let pause = self.next_pause_ms;
             self.next_pause_ms = LAST_PAUSE_MS.min(2 * pause);
@@ -101,6 +121,26 @@ impl Tries {
         self.begun_ms = now_ms;
         self.next_pause_ms = 2 * FIRST_PAUSE_MS;
         Some(FIRST_PAUSE_MS)
+    }
+
+    /// The connection that stood, if one did, is there no more.
+    fn leave(&mut self, now_ms: u64)
+        ensures { self.new ≡ after_connection now_ms self.old }
+    {
+        if self.has_lasted(now_ms) {
+            self.made = 0;
+        }
+        self.answered_ms = None;
+    }
+
+    /// Whether the connection that stands has lasted for a try's share.
+    fn has_lasted(&self, now_ms: u64) -> bool
+        ensures { result ≡ has_lasted now_ms self.now.answered_ms }
+    {
+        match self.answered_ms {
+            Some(answered) => now_ms.saturating_sub(answered) >= SHARE_MS,
+            None => false,
+        }
     }
 
     /// Whether the try that was begun last goes on.

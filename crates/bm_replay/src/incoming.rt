@@ -71,7 +71,8 @@ pub fn read_event(alloc: Global, arena: &Bump, digits: &[u8]) -> Result<Event, U
 
 /// The event that the bytes of a message are. Its tree lies in the arena, and is gone when the call
 /// returns. For the bytes of each request that a worker can say it is the event that schedules
-/// deliver, or want of memory.
+/// deliver, or want of memory. What other bytes are, `decode_whole` and `Event::of_value` say, and
+/// nothing else is called.
 fn event_of(alloc: Global, arena: &Bump, bytes: &[u8]) -> Result<Event, Unread>
     ensures { HearsRequests bytes.now result }
 {

@@ -5,7 +5,8 @@
 //! stands in its logs.
 //!
 //! A body could still take one script line for another, and answer it in other words. What is read
-//! of a line and what is written for it is only tested.
+//! of a line and what is written for it is only tested. A definition of it would write the table of
+//! texts once more.
 #![tactic(auto)]
 
 mod answers;

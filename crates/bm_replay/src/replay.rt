@@ -35,7 +35,9 @@ impl From<AllocError> for Halt {
 }
 
 /// Replays the script that the input holds over a queue of `capacity` items, and writes an answer
-/// for each line that asks for one. The input is read to its end before the first answer.
+/// for each line that asks for one. The input is read to its end before the first answer. It has no
+/// clause: what a step does to the lane is proved (`World::step`), and tests compare the answers
+/// row by row.
 ///
 /// The result is the exit status. It is 0 at the script's end, and 1 after a line of another form,
 /// which is told on `faults`. It is 1 also after a read or a write that failed, too long an input

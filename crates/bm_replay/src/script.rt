@@ -58,7 +58,8 @@ pub enum ScriptLine<'a> {
     Unknown,
 }
 
-/// The bytes up to the input's end, of which there may be `most`.
+/// The bytes up to the input's end, of which there may be `most`. No interrupted read is made
+/// again, so that the number of reads is bounded.
 ///
 /// # Errors
 ///

@@ -1,6 +1,6 @@
 -- A turn of the worker's link.
 use Rattle.std.proofs.Common.{◌≡◌, refl, sym, ◌∙◌, ap, subst, ℕ, zero, suc, ◌+◌, ◌≤◌, ◌<◌, ◌^◌, Bool, true, false, cond, not, ◌&&◌, ◌||◌, List, [], ◌∷◌, ◌++◌, map, length, Some, None, Option, arith, inl, inr, ◌⊎◌, codes}
-use Rattle.std.specs.Prelude.{◌==◌, nat_lt, slice_get, is_none}
+use Rattle.std.specs.Prelude.{◌==◌, slice_get, is_none}
 use Rattle.std.specs.Ordering.{nat_cmp, eq_by_cmp}
 use Rattle.std.specs.Cmp.{nat_cmp_total}
 use Rattle.std.specs.FinMap.{FinMap, get, insert, get-insert}
@@ -28,19 +28,18 @@ use Rattle.bm_link.specs.Orders.{args_of}
 use Rattle.bm_work.specs.Core.{Core, Hearing, heard, heard_request, first_heard, answer_to, act_of, started_by, runs}
 use Rattle.bm_work.specs.Replies.{reply}
 use Rattle.bm_work.specs.Stream.{Report, text, code, over}
-use Rattle.bm_work.specs.WorkerAnswers.{is_done}
 use Rattle.bm_work.specs.declared.worker_answer.WorkerAnswer.{WorkerAnswer}
 use Rattle.bm_work.specs.declared.worker_answer.WorkerAnswer.TheVariants as work
 use Rattle.bm_replay.specs.Schedule.{Run, has_run, have_ended, is_end_of, was_started, was_refused, command_of, requests_taken}
 use Rattle.bm_replay.proofs.Lists.{or-first, or-second}
 use Rattle.bm_wired.specs.Wired.{Wired, Moves, Listen, reply_in}
-use Rattle.bm_wired.proofs.Sim.{scene_of, worker_of, Sim, Step, Upward, asks_up, answers_up, up_bytes, Follow, FitsUp, Ups, Downward, starts_down, stops_down, asks_down, answers_down, down_bytes, Descend, FitsDown, Downs, Past}
+use Rattle.bm_wired.proofs.Sim.{worker_of, Sim, Step, Upward, asks_up, answers_up, FitsUp, Ups, Downward, starts_down, stops_down, asks_down, answers_down, down_bytes, Descend, FitsDown, Downs, Past}
 use Rattle.bm_wired.proofs.Parts.{ups-add, order-once}
 use Rattle.bm_wired.proofs.Downward.{means, said-as, hearing-is, down-read}
 
 -- the map of answers
 
-get-own : (m : FinMap nat_cmp WorkerAnswer) (n : ℕ) (a : WorkerAnswer) → get (insert m n a) n ≡ Some a
+pub get-own : (m : FinMap nat_cmp WorkerAnswer) (n : ℕ) (a : WorkerAnswer) → get (insert m n a) n ≡ Some a
 get-own m n a = get-insert nat_cmp_total m n a n ∙ ap (λ b. cond b (Some a) (get m n)) (same n)
   where
     same : (i : ℕ) → eq_by_cmp nat_cmp i i ≡ true
@@ -52,7 +51,7 @@ apart i n h = grind (arith, nat_tests)
 get-other : (m : FinMap nat_cmp WorkerAnswer) (n i : ℕ) (a : WorkerAnswer) → (i ≡ n → ⊥) → get (insert m n a) i ≡ get m i
 get-other m n i a h = get-insert nat_cmp_total m n a i ∙ ap (λ b. cond b (Some a) (get m i)) (apart i n h)
 
-get-stays : (m : FinMap nat_cmp WorkerAnswer) (n i : ℕ) (a b : WorkerAnswer) → get m n ≡ None → get m i ≡ Some b → get (insert m n a) i ≡ Some b
+pub get-stays : (m : FinMap nat_cmp WorkerAnswer) (n i : ℕ) (a b : WorkerAnswer) → get m n ≡ None → get m i ≡ Some b → get (insert m n a) i ≡ Some b
 get-stays m n i a b h g = get-other m n i a (λ e. let x : get m n ≡ Some b = subst (λ j. get m j ≡ Some b) e g in cc) ∙ g
 
 -- a command that never ran has no report
@@ -70,7 +69,7 @@ ended-there (r ∷ rs) k h = go (or_cases (is_end_of k r) (have_ended rs k) h) (
     go (inr e) rest = let x = rest e in (suc x.0, x.1, x.2, x.3)
 
 -- a core that heard request n for the first time
-abbrev heard_core : Core → ℕ → WorkerAnswer → List ℕ → Core
+abbrev pub heard_core : Core → ℕ → WorkerAnswer → List ℕ → Core
 heard_core core n a started = record { running = core.running ++ started; reports = core.reports; answered = core.answered; answers = insert core.answers n a }
 
 ups-reply : (taken : ℕ) (core : Core) (up : List (List ℕ)) (n : ℕ) (a : WorkerAnswer) (started : List ℕ) → n < 2 ^ 63 → get core.answers n ≡ None → Ups taken core up → Ups taken (heard_core core n a started) (up ++ reply n a ∷ [])
@@ -80,18 +79,18 @@ ups-reply taken core up n a started low new u = ups-add taken core (heard_core c
     still (asks_up i r) f = f
     still (answers_up i b) f = (get-stays core.answers n i a b new f.0, f.1)
 
-past-heard : (t : Trace) (core : Core) (ran : List ℕ) (n : ℕ) (a : WorkerAnswer) → get core.answers n ≡ None → Past t core ran → Past t (heard_core core n a []) ran
+pub past-heard : (t : Trace) (core : Core) (ran : List ℕ) (n : ℕ) (a : WorkerAnswer) → get core.answers n ≡ None → Past t core ran → Past t (heard_core core n a []) ran
 past-heard t core ran n a new p = record {
   running = λ k h. p.running k (ap (λ xs. list_any (λ j. j == k) xs) (sym (append-nil core.running)) ∙ h);
   ran_by = λ k h. let x = p.ran_by k h in (x.0, x.1, get-stays core.answers n x.0 a work.Done new x.2);
-  refused_by = λ k h. let x = p.refused_by k h in (x.0, x.1, x.2, get-stays core.answers n x.0 a x.1 new x.3);
+  refused_by = λ k h st. let x = p.refused_by k h st in (x.0, x.1, x.2, get-stays core.answers n x.0 a x.1 new x.3);
 }
 
-past-run : (t : Trace) (core : Core) (ran : List ℕ) (n k : ℕ) → get core.answers n ≡ None → was_order t k n ≡ true → have_ended core.reports k ≡ false → Past t core ran → Past t (heard_core core n work.Done (k ∷ [])) (ran ++ k ∷ [])
+pub past-run : (t : Trace) (core : Core) (ran : List ℕ) (n k : ℕ) → get core.answers n ≡ None → was_order t k n ≡ true → have_ended core.reports k ≡ false → Past t core ran → Past t (heard_core core n work.Done (k ∷ [])) (ran ++ k ∷ [])
 past-run t core ran n k new order on p = record {
   running = λ j h. runs-on j (or_cases (runs core j) (k == j) (sym (list_any-push (λ i. i == j) core.running k) ∙ h));
   ran_by = λ j h. ran-on j (or_cases (list_any (λ i. i == j) ran) (k == j) (sym (list_any-push (λ i. i == j) ran k) ∙ h));
-  refused_by = λ j h. let x = p.refused_by j h in (x.0, x.1, x.2, get-stays core.answers n x.0 work.Done x.1 new x.3);
+  refused_by = λ j h st. let x = p.refused_by j h st in (x.0, x.1, x.2, get-stays core.answers n x.0 work.Done x.1 new x.3);
 }
   where
     has : (j : ℕ) → (list_any (λ i. i == j) ran || (k == j)) ≡ true → list_any (λ i. i == j) (ran ++ k ∷ []) ≡ true
@@ -106,33 +105,34 @@ past-run t core ran n k new order on p = record {
     ran-on j (inr h) = (n, subst (λ i. was_order t i n ≡ true) (eqb-true k j h) order, get-own core.answers n work.Done)
 
 -- a start that comes for the first time may be run
-pub may-run : (c : ℕ) (w : Wired) (ran : List ℕ) (n k : ℕ) → Sim w ran → was_order w.lane.trace k n ≡ true → get w.core.answers n ≡ None → (was_refused w.lane.trace k ≡ false) × (has_run (worker_of w.core ran) k ≡ false) × (have_ended w.core.reports k ≡ false)
-may-run c w ran n k sim order new = (refused (was_refused w.lane.trace k) refl, idle, ended (have_ended w.core.reports k) refl)
+pub may-run : (t : Trace) (core : Core) (ran : List ℕ) (n k : ℕ) → Past t core ran → ((i : ℕ) (r : Report) → slice_get core.reports i ≡ Some r → has_run (worker_of core ran) (command_of r) ≡ true) → was_order t k n ≡ true → was_started t k ≡ true → get core.answers n ≡ None
+    → (was_refused t k ≡ false) × (has_run (worker_of core ran) k ≡ false) × (have_ended core.reports k ≡ false)
+may-run t core ran n k past asked order st new = (refused (was_refused t k) refl, idle, ended (have_ended core.reports k) refl)
   where
-    refused : (b : Bool) → was_refused w.lane.trace k ≡ b → b ≡ false
+    refused : (b : Bool) → was_refused t k ≡ b → b ≡ false
     refused false e = refl
     refused true e =
-        let x = sim.links.past.refused_by k e in
-        let s : x.0 ≡ n = order-once w.lane.trace k x.0 n x.2 order in
-        let g : get w.core.answers n ≡ Some x.1 = subst (λ i. get w.core.answers i ≡ Some x.1) s x.3 in cc
+        let x = past.refused_by k e st in
+        let s : x.0 ≡ n = order-once t k x.0 n x.2 order in
+        let g : get core.answers n ≡ Some x.1 = subst (λ i. get core.answers i ≡ Some x.1) s x.3 in cc
 
-    ran-not : (b : Bool) → has_run (worker_of w.core ran) k ≡ b → b ≡ false
+    ran-not : (b : Bool) → has_run (worker_of core ran) k ≡ b → b ≡ false
     ran-not false e = refl
     ran-not true e =
-        let x = sim.links.past.ran_by k e in
-        let s : x.0 ≡ n = order-once w.lane.trace k x.0 n x.1 order in
-        let g : get w.core.answers n ≡ Some work.Done = subst (λ i. get w.core.answers i ≡ Some work.Done) s x.2 in cc
+        let x = past.ran_by k e in
+        let s : x.0 ≡ n = order-once t k x.0 n x.1 order in
+        let g : get core.answers n ≡ Some work.Done = subst (λ i. get core.answers i ≡ Some work.Done) s x.2 in cc
 
-    idle : has_run (worker_of w.core ran) k ≡ false
-    idle = ran-not (has_run (worker_of w.core ran) k) refl
+    idle : has_run (worker_of core ran) k ≡ false
+    idle = ran-not (has_run (worker_of core ran) k) refl
 
-    ended : (b : Bool) → have_ended w.core.reports k ≡ b → b ≡ false
+    ended : (b : Bool) → have_ended core.reports k ≡ b → b ≡ false
     ended false e = refl
     ended true e =
-        let x = ended-there w.core.reports k e in
-        let r : has_run (worker_of w.core ran) (command_of x.1) ≡ true = (sim.agree.asked x.0 x.1 x.2).0 in
-        let y : has_run (worker_of w.core ran) k ≡ true = subst (λ i. has_run (worker_of w.core ran) i ≡ true) x.3 r in
-        let z : has_run (worker_of w.core ran) k ≡ false = idle in cc
+        let x = ended-there core.reports k e in
+        let r : has_run (worker_of core ran) (command_of x.1) ≡ true = asked x.0 x.1 x.2 in
+        let y : has_run (worker_of core ran) k ≡ true = subst (λ i. has_run (worker_of core ran) i ≡ true) x.3 r in
+        let z : has_run (worker_of core ran) k ≡ false = idle in cc
 
 -- a trace has few orders
 
@@ -230,7 +230,7 @@ listen-quiet c w ran ds n a sim low new d = record {
 listen-run : (c : ℕ) (w : Wired) (ran : List ℕ) (ds : List Downward) (n k : ℕ) → Sim w ran → n < 2 ^ 63 → get w.core.answers n ≡ None → was_order w.lane.trace k n ≡ true → was_started w.lane.trace k ≡ true → Downs w.lane.trace w.carried.next_ask (heard_core w.core n work.Done (k ∷ [])) (map down_bytes ds)
     → Step c w ran (record w { core = heard_core w.core n work.Done (k ∷ []); up = w.up ++ reply n work.Done ∷ []; down = map down_bytes ds })
 listen-run c w ran ds n k sim low new order began d =
-    let may = may-run c w ran n k sim order new in
+    let may = may-run w.lane.trace w.core ran n k sim.links.past (λ i r g. (sim.agree.asked i r g).0) order began new in
     record {
       act = Some (Run k);
       ran2 = ran ++ k ∷ [];

@@ -1,5 +1,5 @@
 -- A run is a schedule.
-use Rattle.std.proofs.Common.{◌≡◌, refl, sym, ◌∙◌, ap, subst, ℕ, ◌+◌, ◌≤◌, ◌<◌, ◌^◌, true, List, [], ◌∷◌, ◌++◌, length, Some, None, Option, arith, inl, inr}
+use Rattle.std.proofs.Common.{◌≡◌, refl, sym, ◌∙◌, ap, subst, ℕ, ◌+◌, ◌≤◌, ◌<◌, ◌^◌, List, [], ◌∷◌, ◌++◌, length, Option, arith, inl, inr}
 use mathlib.Core.List.{IsPrefix}
 use Rattle.std.proofs.lemmas.List.{append-nil, length_push}
 use Rattle.bm_lines.specs.Names.{stdio}
@@ -17,15 +17,15 @@ use Rattle.bm_lane.specs.declared.refusals.HearRefusal.{HearRefusal}
 use Rattle.bm_link.specs.Carries.{carried_after}
 use Rattle.bm_session.specs.declared.reply.Reply.{Reply}
 use Rattle.bm_world.specs.declared.step.Step.TheVariants.{Hear}
-use Rattle.bm_world.specs.World.{World, start}
-use Rattle.bm_replay.specs.Schedule.{Act, Make, Scene, opening, after, scene_after, is_schedule, is_schedule_from, reported, new_worker}
+use Rattle.bm_world.specs.World.{World}
+use Rattle.bm_replay.specs.Schedule.{Make, Scene, opening, after, scene_after, is_schedule_from, reported, new_worker}
 use Rattle.bm_replay.proofs.Logged.{said_is_logged}
 use Rattle.bm_replay.proofs.Starts.{agree-at-first}
 use Rattle.bm_replay.proofs.Acts.{keeps}
 use Rattle.bm_replay.proofs.Agreement.{Agree}
 use Rattle.bm_wired.specs.Wired.{Wired, Move, Moves, Run, begun_wired, Start, Interrupt, Inquire, Turn, Wait, Tell, Listen, Drain, Look, TurnsBy, Orders, ordered, answers_to_send}
-use Rattle.bm_wired.specs.Laws.{IsReached, WiredIsSchedule, WiredIsLogged}
-use Rattle.bm_wired.proofs.Sim.{scene_of, worker_of, Sim, Step, Reached}
+use Rattle.bm_wired.specs.Laws.{WiredIsSchedule, WiredIsLogged}
+use Rattle.bm_wired.proofs.Sim.{scene_of, Sim, Step, Reached}
 use Rattle.bm_wired.proofs.Framework.{takes, sim-after, combine}
 use Rattle.bm_wired.proofs.Easy.{step-Look, step-Wait, step-Drain, step-Inquire, step-Start, step-Interrupt}
 use Rattle.bm_wired.proofs.Turns.{step-Turn}
@@ -61,13 +61,13 @@ ordered-grows : (w w2 : Wired) (e : Event) (carry : Carried) (bytes : List ℕ) 
 ordered-grows w w2 e carry bytes (inl x) = by w w2 (ordered w e carry bytes) x.1 (longer w.lane.trace e)
 ordered-grows w w2 e carry bytes (inr x) = by w w2 w x.2 (same w)
 
-grows : (m : Move) (w w2 : Wired) → Moves w m w2 → length w.lane.trace ≤ length w2.lane.trace
+pub grows : (m : Move) (w w2 : Wired) → Moves w m w2 → length w.lane.trace ≤ length w2.lane.trace
 grows (Start argv) w w2 h = ordered-grows w w2 _ _ _ h.1
 grows (Interrupt k) w w2 h = ordered-grows w w2 _ _ _ h
 grows (Inquire a) w w2 h = by w w2 _ h.2 (same w)
 grows Turn w w2 h = turned w w2 h.2 h.1 h.3 h.4 h.7 h.8
 grows (Wait outbox) w w2 h = by w w2 _ h.1 (same w)
-grows Tell w w2 h = by w w2 _ h.5 (same w)
+grows Tell w w2 h = by w w2 _ h.4 (same w)
 grows Listen w w2 h = by w w2 _ h.5 (same w)
 grows Drain w w2 h = by w w2 _ h.1 (same w)
 grows Look w w2 h = by w w2 w h (same w)

@@ -1,14 +1,15 @@
 -- What a move does to the parts of what holds.
-use Rattle.std.proofs.Common.{◌≡◌, refl, sym, ◌∙◌, ap, subst, ℕ, ◌+◌, ◌≤◌, ◌<◌, ◌^◌, Bool, true, false, cond, not, ◌||◌, ◌&&◌, List, [], ◌∷◌, ◌++◌, map, length, Some, None, Option, arith, inl, inr, ◌⊎◌}
+use Rattle.std.proofs.Common.{◌≡◌, refl, sym, ◌∙◌, ap, subst, ℕ, ◌+◌, ◌≤◌, ◌<◌, ◌^◌, Bool, true, false, cond, ◌||◌, ◌&&◌, List, [], ◌∷◌, ◌++◌, map, length, Some, arith, inl, inr, ◌⊎◌}
 use Rattle.std.specs.Prelude.{◌==◌}
 use Rattle.std.specs.FinMap.{get}
-use Rattle.std.specs.List.{list_any, AllByRecursion}
+use Rattle.std.specs.List.{AllByRecursion}
 use Rattle.std.proofs.lemmas.Bool.{eqb-true, or_cases}
-use Rattle.std.proofs.lemmas.List.{append-nil}
-use Rattle.bm_session.proofs.Snoc.{snoc_induction, or-false}
+use Rattle.bm_session.proofs.Snoc.{snoc_induction}
 use Rattle.bm_session.proofs.Taken.{and-left, and-right}
 use Rattle.bm_session.proofs.Pushed.{next, commands-push, orders-push, was_order-push}
 use Rattle.bm_session.specs.declared.event.Event.{Event}
+use Rattle.bm_session.specs.declared.event.Event.TheVariants.{Up, In, Go, Stop, Cut, Down}
+use Rattle.bm_session.specs.declared.event.Body.TheVariants.{Auth, Update, Complete, BadArgs, NoSuchOp, Answered}
 use Rattle.bm_session.specs.Events.{is_order, is_go}
 use Rattle.bm_session.specs.Trace.{Trace, commands, orders, was_order, begins_session, is_fresh, starts, refuses}
 use Rattle.bm_work.specs.Core.{Core}
@@ -89,17 +90,6 @@ taken-stays t e s f = requests_taken-push t e ∙ ap (λ b. cond b 0 (requests_t
 pub orders-next : (t : Trace) (e : Event) (b : Bool) → begins_session (next t e) ≡ false → is_order e ≡ b → orders (t ++ e ∷ []) ≡ orders t + cond b 1 0
 orders-next t e b s h = orders-push t e ∙ ap (λ x. cond x 0 (orders t + cond (is_order e) 1 0)) s ∙ ap (λ x. orders t + cond x 1 0) h
 
-pub past-push : (t : Trace) (e : Event) (core : Core) (ran : List ℕ) → ((k : ℕ) → refuses t k e ≡ true → (n : ℕ) × (a : WorkerAnswer) × (was_order t k n ≡ true) × (get core.answers n ≡ Some a)) → Past t core ran → Past (t ++ e ∷ []) core ran
-past-push t e core ran by p = record {
-  running = p.running;
-  ran_by = λ k h. let x = p.ran_by k h in (x.0, order-stays t e k x.0 x.1, x.2);
-  refused_by = λ k h. later k (or_cases (was_refused t k) (refuses t k e) (sym (was_refused-push t e k) ∙ h));
-}
-  where
-    later : (k : ℕ) → (was_refused t k ≡ true) ⊎ (refuses t k e ≡ true) → (n : ℕ) × (a : WorkerAnswer) × (was_order (t ++ e ∷ []) k n ≡ true) × (get core.answers n ≡ Some a)
-    later k (inl h) = let x = p.refused_by k h in (x.0, x.1, order-stays t e k x.0 x.2, x.3)
-    later k (inr h) = let x = by k h in (x.0, x.1, order-stays t e k x.0 x.2, x.3)
-
 -- a command is started by one order alone
 
 below-order : (t : Trace) (k n : ℕ) → was_order t k n ≡ true → k < commands t
@@ -115,6 +105,30 @@ below-order t k n = snoc_induction (λ t. was_order t k n ≡ true → k < comma
             let s : commands t ≡ k = eqb-true (commands t) k (and-right (is_go e) (commands t == k) (and-left (starts k (next t e)) (orders t == n) y)) in
             omega arith
         go false x (inr y) = let z : is_go e ≡ true = and-left (is_go e) (commands t == k) (and-left (starts k (next t e)) (orders t == n) y) in cc
+
+-- and a command whose start was refused is there
+refuses-order : (t : Trace) (k : ℕ) (e : Event) → refuses t k e ≡ true → (n : ℕ) × (was_order t k n ≡ true)
+refuses-order t k (In n (Answered true)) h = (n, h)
+refuses-order t k (In n (Answered false)) h = cc
+refuses-order t k (In n Auth) h = cc
+refuses-order t k (In n (Update j batch rc)) h = cc
+refuses-order t k (In n (Complete j fault)) h = cc
+refuses-order t k (In n BadArgs) h = cc
+refuses-order t k (In n NoSuchOp) h = cc
+refuses-order t k Up h = cc
+refuses-order t k Go h = cc
+refuses-order t k (Stop j) h = cc
+refuses-order t k Cut h = cc
+refuses-order t k Down h = cc
+
+pub refused-below : (t : Trace) (k : ℕ) → was_refused t k ≡ true → k < commands t
+refused-below t k = snoc_induction (λ t. was_refused t k ≡ true → k < commands t) (λ h. cc) step t
+  where
+    step : (t : Trace) (e : Event) → (was_refused t k ≡ true → k < commands t) → was_refused (t ++ e ∷ []) k ≡ true → k < commands (t ++ e ∷ [])
+    step t e ih h = let m : commands (t ++ e ∷ []) ≡ commands t + cond (is_go e) 1 0 = commands-push t e in elim (or_cases (was_refused t k) (refuses t k e) (sym (was_refused-push t e k) ∙ h)) [
+      | inl x ↦ (let l : k < commands t = ih x in omega arith)
+      | inr x ↦ (let y = refuses-order t k e x in let l : k < commands t = below-order t k y.0 y.1 in omega arith)
+    ]
 
 pub order-once : (t : Trace) (k n m : ℕ) → was_order t k n ≡ true → was_order t k m ≡ true → n ≡ m
 order-once t k n m = snoc_induction (λ t. was_order t k n ≡ true → was_order t k m ≡ true → n ≡ m) (λ h g. cc) step t
@@ -133,3 +147,21 @@ order-once t k n m = snoc_induction (λ t. was_order t k n ≡ true → was_orde
         go (inl x) (inr y) = absurd (old-new t e n m x y)
         go (inr x) (inl y) = absurd (old-new t e m n y x)
         go (inr x) (inr y) = sym (eqb-true (orders t) n (and-right (starts k (next t e)) (orders t == n) x)) ∙ eqb-true (orders t) m (and-right (starts k (next t e)) (orders t == m) y)
+
+pub past-push : (t : Trace) (e : Event) (core : Core) (ran : List ℕ) → begins_session (next t e) ≡ false → ((k : ℕ) → refuses t k e ≡ true → (n : ℕ) × (a : WorkerAnswer) × (was_order t k n ≡ true) × (get core.answers n ≡ Some a)) → Past t core ran → Past (t ++ e ∷ []) core ran
+past-push t e core ran on by p = record {
+  running = p.running;
+  ran_by = λ k h. let x = p.ran_by k h in (x.0, order-stays t e k x.0 x.1, x.2);
+  refused_by = λ k h st. later k (here k st) (or_cases (was_refused t k) (refuses t k e) (sym (was_refused-push t e k) ∙ h));
+}
+  where
+    here : (k : ℕ) → was_started (t ++ e ∷ []) k ≡ true → (was_started t k ≡ true) ⊎ (starts k (next t e) ≡ true)
+    here k st = or_cases (was_started t k) (starts k (next t e)) (sym (was_started-push t e k ∙ ap (λ b. cond b false (was_started t k || starts k (next t e))) on) ∙ st)
+
+    later : (k : ℕ) → (was_started t k ≡ true) ⊎ (starts k (next t e) ≡ true) → (was_refused t k ≡ true) ⊎ (refuses t k e ≡ true) → (n : ℕ) × (a : WorkerAnswer) × (was_order (t ++ e ∷ []) k n ≡ true) × (get core.answers n ≡ Some a)
+    later k (inl st) (inl h) = let x = p.refused_by k h st in (x.0, x.1, order-stays t e k x.0 x.2, x.3)
+    later k (inr st) (inl h) =
+        let l : k < commands t = refused-below t k h in
+        let s : commands t ≡ k = eqb-true (commands t) k (and-right (is_go e) (commands t == k) st) in
+        absurd (omega arith)
+    later k st (inr h) = let x = by k h in (x.0, x.1, order-stays t e k x.0 x.2, x.3)

@@ -1,6 +1,13 @@
 //! Laws of a lane and a worker over a connection.
 
 ghost use Rattle.bm_wired.specs.Laws.{WiredIsSchedule, WiredIsLogged};
+ghost use Rattle.bm_wired.specs.Cuts.{CutsAreSchedules, CutsAreLogged, AllIsLogged};
+ghost use Rattle.bm_wired.specs.Bytes.{BytesAreMessages, BytesAreLogged, AllBytesAreLogged};
+ghost use Rattle.bm_wired.specs.Frames.{MessagesHaveFrames, FramesAreRead, PartsAreNotRead};
+ghost use Rattle.bm_wired.specs.Frames.{FramesAreApart};
+ghost use Rattle.bm_wired.specs.CutExample.{CutsShowLines};
+ghost use Rattle.bm_wired.specs.BytesExample.{BytesShowLines};
+ghost use Rattle.bm_wired.specs.Example.{RunsShowLines};
 ghost use Rattle.bm_wired.specs.ReadBack.{StartsAreRead, RunsAreMeant, StartsAreRun, NewWorkersRun};
 ghost use Rattle.bm_wired.specs.ReadBack.{EmptyStartsAreRefused, InterruptsAreRead, AsksAreRead};
 ghost use Rattle.bm_wired.specs.ReadBack.{ReportsAreRead, ResponsesAreRead};
@@ -15,6 +22,58 @@ ghost use Rattle.bm_wired.specs.ReadLogins.{LoginRefusalsAreRead};
 pub fn wired_is_schedule()
     ensures schedule { WiredIsSchedule }
     ensures logged { WiredIsLogged }
+{}
+
+/// The same holds over connections that are cut at any moment, with whatever is under way, and over
+/// sessions that are resumed, given up, and begun anew. Whatever the two ends do, there is a
+/// schedule that reaches the same trace and the same number of shown items, and reports the same.
+/// So each log is a beginning of what was reported of its command, over all sessions. It is all of
+/// that, and viewers see it, for a command of the lane's session, where that is the session of the
+/// worker's core, nothing is unanswered, and all is shown.
+pub fn cuts_are_logged()
+    ensures schedule { CutsAreSchedules }
+    ensures prefix { CutsAreLogged }
+    ensures whole { AllIsLogged }
+{}
+
+/// The same holds where the connections carry bytes, as they do. Each message goes in a frame of a
+/// WebSocket, and a turn of either link reads one only once the whole frame is there. A cut leaves
+/// any number of bytes, so it may fall inside a frame. Each run over bytes leads where some run
+/// over messages does. So what is said of the logs over cuts holds over bytes too.
+pub fn bytes_are_logged()
+    ensures messages { BytesAreMessages }
+    ensures prefix { BytesAreLogged }
+    ensures whole { AllBytesAreLogged }
+{}
+
+/// Each message has a frame, and no two frames begin the same bytes. The reader of WebSockets that
+/// both ends have gives the message of the frame at the front, and takes that frame alone. Of a
+/// part of a frame it gives nothing, and waits. So a turn over bytes reads as this reader does,
+/// where it is between two messages and its limits let the message pass.
+pub fn frames_are_read()
+    ensures have { MessagesHaveFrames }
+    ensures read { FramesAreRead }
+    ensures part { PartsAreNotRead }
+    ensures apart { FramesAreApart }
+{}
+
+/// There is a run over one connection in which a line comes from a command to a viewer. The command
+/// is ordered and run, what it writes is told, taken and answered, and a look shows it. So the law
+/// speaks of something.
+pub fn runs_show_lines()
+    ensures { RunsShowLines }
+{}
+
+/// There is a run over a cut in which an update's answer is lost. The session is resumed, the
+/// update is sent again and taken as a repeat, and viewers see its line once.
+pub fn cuts_show_lines()
+    ensures { CutsShowLines }
+{}
+
+/// There is a run over bytes in which a cut leaves one byte of that answer's frame. The worker
+/// reads nothing in it. The session is resumed, and viewers see the line once.
+pub fn bytes_show_lines()
+    ensures { BytesShowLines }
 {}
 
 /// Messages are read back as they were meant. The bytes of each are decoded and are a message, and

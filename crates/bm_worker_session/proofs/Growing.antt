@@ -49,8 +49,8 @@ told-answered (entry.Text k said) c = refl
 told-answered (entry.End k e) c = refl
 
 tells-grow : (i : OutboxEntry) (c c2 : Core) (p : Progress) → Tells i c (Ok p) c2 → Grows c (requests_of (Ok p)) c2
-tells-grow i c c2 (progress.Text s) (h, is) = (reports_in i, ap (λ (x : Core). x.reports) is ∙ told-reports i c, h, ap (λ (x : Core). x.answered) is ∙ told-answered i c)
-tells-grow i c c2 (progress.End v) (h, is) = (reports_in i, ap (λ (x : Core). x.reports) is ∙ told-reports i c, h, ap (λ (x : Core). x.answered) is ∙ told-answered i c)
+tells-grow i c c2 (progress.Text s) (ok, h, is) = (reports_in i, ap (λ (x : Core). x.reports) is ∙ told-reports i c, h, ap (λ (x : Core). x.answered) is ∙ told-answered i c)
+tells-grow i c c2 (progress.End v) (ok, h, is) = (reports_in i, ap (λ (x : Core). x.reports) is ∙ told-reports i c, h, ap (λ (x : Core). x.answered) is ∙ told-answered i c)
 tells-grow i c c2 progress.Full (h, same) = none-more c c2 same
 tells-grow i c c2 progress.Passed (h, same) = none-more c c2 same
 tells-grow i c c2 progress.Nothing h = absurd h

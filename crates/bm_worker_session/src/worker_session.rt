@@ -17,6 +17,8 @@ use tungstenite::MaskKeys;
 
 /// A worker's session with its master, which outlives its connections. It has the core, what waits
 /// to be told, and the link, if one is up. The backlog is what that link still has to send again.
+/// In one value what was told is sent at once and in order, by contract. With three it would be up
+/// to a thread's loop.
 #[derive(Drop)]
 pub struct WorkerSession<S, K> {
     core: Worker,

@@ -1,4 +1,5 @@
 -- To believe: of which command is told next, and what is then told of it; and whose pipes gave an
--- exit code.
+-- exit code. Which session a login asks for, and when one that begins by it has another text.
 pub mod Turns
 pub mod Givers
+pub mod SessionTexts

@@ -50,7 +50,8 @@ impl<S: Read + Write + Drop, K: MaskKeys + Drop> BuildWorker<S, K> {
     /// # Errors
     ///
     /// Those of the session's `connect`. `Mem` also where no text of a next session could be drawn:
-    /// without one no login but the first is made.
+    /// without one no login is made once one was answered. By such a login a worker that misses the
+    /// answer could resume a session that it never heard of, and hang.
     pub fn log_in<R: RandomSource + AllocGlobal>(
         &mut self,
         rt: &R,

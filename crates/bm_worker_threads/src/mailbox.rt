@@ -20,7 +20,8 @@ pub struct ProcessEvent {
     pub event: PipeEvent,
 }
 
-/// What the worker's one mailbox brings.
+/// What the worker's one mailbox brings. Timed reads between two looks at the commands would delay
+/// lines, and wake an idle worker.
 #[derive(Drop)]
 pub enum WorkerMail {
     /// What came of a pipe of a process.

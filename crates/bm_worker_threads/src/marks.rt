@@ -12,8 +12,10 @@ pub(crate) const VARIABLE: &str = "BUILDWORKER_COMMAND";
 /// Where the start time of a process stands behind its name in what the system tells of it.
 const START_PLACE: usize = 19;
 
-/// The marks of a worker's commands, by which what they left running is found. Each has the worker's process namespace, user, number and
-/// start time, 16 random bytes and the number of the command.
+/// The marks of a worker's commands, by which what they left running is found. Each has the
+/// worker's process namespace, user, number and start time, 16 random bytes and the number of the
+/// command. A number alone is another process's one day, and in a container it is another one's
+/// now.
 #[derive(Drop)]
 pub struct Marks {
     alloc: Global,

@@ -8,10 +8,12 @@ use std::alloc::{AllocError, Global};
 use std::io::{ErrorKind, Read};
 use std::sync::Wait;
 
-/// How many bytes a pipe's thread reads at once.
+/// How many bytes a pipe's thread reads at once. By more a noisy command takes more room in front
+/// of the others, and the worker more memory.
 const ROOM: usize = 16_384;
 
-/// A pipe's thread: which pipe of which process and command it reads, and whom it tells.
+/// A pipe's thread: which pipe of which process and command it reads, and whom it tells. No read
+/// can be ended from outside, so that of a held pipe stays until its holder writes or ends.
 #[derive(Drop)]
 pub struct PipeReader {
     pub process: u64,

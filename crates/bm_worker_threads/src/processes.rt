@@ -298,7 +298,8 @@ impl Processes {
         }
     }
 
-    /// Looks at the processes that are about to end, and once a second at all.
+    /// Looks at the processes that are about to end, and once a second at all. No thread waits for
+    /// an end: it would hold the process, and nobody could kill it.
     pub fn look<R: Clock>(&mut self, rt: &R) {
         self.killed
             .retain_mut(|child| matches!(child.try_wait(), Ok(None)));

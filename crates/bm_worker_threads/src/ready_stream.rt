@@ -6,7 +6,8 @@ use std::io::{ErrorKind, Read, Write};
 use std::sync::Arc;
 use std::sync::atomic::{AtomicU64, Ordering};
 
-/// How many times in a row a read that a signal interrupted is made again.
+/// How many times in a row a read that a signal interrupted is made again: the link would tell it
+/// as a fault.
 const MOST_INTERRUPTS: u32 = 1_000;
 
 /// A stream of which so many reads are left until it is told that more of them won't wait. A read

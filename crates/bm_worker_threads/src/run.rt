@@ -55,7 +55,7 @@ type LinkedWorker<S, R> = BuildWorker<ReadyStream<S>, RandomKeys<R>>;
 /// login waits for its answer. What commands of workers left that are no longer there is killed
 /// first, and all that its own commands left at the end. The tries last for a minute where a
 /// session is named, which may be resumed, and was begun. `host` is the master's name, as it was
-/// dialled.
+/// dialled. The system's parts are listed: under one trait the toolchain refuses the proof.
 pub fn work_run<S, D, R>(
     rt: &R,
     dial: D,
@@ -122,7 +122,7 @@ where
     for _ in rt.forever() {
         number = number.wrapping_add(1);
         let end = match dial() {
-            Some(stream) => connected(rt, alloc, worker, number, stream, login),
+            Some(stream) => connected(rt, alloc, worker, begun, number, stream, login),
             None => ConnectionEnd::Lost,
         };
         let why = match end {
@@ -140,11 +140,13 @@ where
 }
 
 /// Logs in over a stream, and serves the connection to its end. The connection's thread is there
-/// before the login, so that a worker without it is given no builds.
+/// before the login, so that a worker without it is given no builds. The worker began then, where its
+/// clock could say it.
 fn connected<S, R>(
     rt: &R,
     alloc: Global,
     worker: &mut LinkedWorker<S, R>,
+    begun: Option<Instant>,
     number: u64,
     stream: S,
     login: Login<'_>,
@@ -172,7 +174,7 @@ where
     };
     connection.allow_reads(0);
     if worker.texts.session().is_some() {
-        worker.tries.answered();
+        worker.tries.answered(millis_since(rt, begun));
     }
     let (end, link) = worker.serve(rt, alloc, &connection, attached);
     if let Some(mut link) = link {

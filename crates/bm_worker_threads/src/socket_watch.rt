@@ -9,7 +9,9 @@ use std::sync::Wait;
 use std::time::{Clock, Instant};
 
 /// A connection's thread: it reads nothing, and tells whenever a read of the stream won't wait.
-/// Each time its stream's own limit for a read has passed, it looks how long the silence lasts.
+/// Each time its stream's own limit for a read has passed, it looks how long the silence lasts. One
+/// that reads would need buffers with bounds. So the kernel's buffer is the bound, and the link's
+/// own reads find every end.
 #[derive(Drop)]
 pub struct SocketWatch<S> {
     pub connection: u64,

@@ -3,6 +3,7 @@
 //! Texts that are configurations, and texts that aren't.
 
 mod memory;
+mod places;
 mod values;
 
 use bm_config::{ConfigFault, read_config};
@@ -109,7 +110,7 @@ fn workers_are_told_apart(rt: HostRuntime) {
 }
 
 /// What follows the addresses and a worker `w0`, and the key that is told.
-const REST: [(&str, &str); 41] = [
+const REST: [(&str, &str); 43] = [
     ("capacity = 0", "capacity"),
     ("capacity = 1", ""),
     ("capacity = 65536", ""),
@@ -118,6 +119,8 @@ const REST: [(&str, &str); 41] = [
     ("writers = 0", "writers"),
     ("writers = 64", ""),
     ("writers = 65", "writers"),
+    ("remarks = \"xml\"", "remarks"),
+    ("remarks = \"json\"\nlock = 1", "lock"),
     ("capacity = 0\nwriters = 0", "capacity"),
     ("writers = 0\ncapacity = 0", "capacity"),
     ("lock = 1", "lock"),

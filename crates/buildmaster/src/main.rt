@@ -31,7 +31,8 @@ fn main(rt: HostRuntime) -> ExitCode {
 }
 
 /// The words of the command line, of which the first is the program's name. Where one isn't UTF-8
-/// there are none, and so they ask for nothing.
+/// there are none, and so they ask for nothing. The worker's program has such a function too: the
+/// two share no crate of the system.
 fn words<R: Env + AllocGlobal>(rt: &R) -> Result<Vec<String>, AllocError> {
     match env::args(rt) {
         Ok(words) => words.collect(rt.alloc()),

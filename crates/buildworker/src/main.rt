@@ -18,7 +18,8 @@ const WRONG_WORDS: u8 = 2;
 /// How long a login waits for its master, and how often the worker looks how long one is silent.
 const READ_LIMIT_SECONDS: u64 = 5;
 
-/// How long a master may take nothing of what it is sent: as long as it may be silent.
+/// How long a master may take nothing of what it is sent: as long as it may be silent. Writes wait
+/// in the thread that hears orders, and a session that is lost so is resumed.
 const WRITE_LIMIT_SECONDS: u64 = 60;
 
 /// How long a connection may take to come to be.

@@ -6,3 +6,5 @@
 mod lanes;
 #[cfg(test)]
 mod operator;
+#[cfg(test)]
+mod refusals;

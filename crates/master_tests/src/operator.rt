@@ -211,8 +211,14 @@ fn says(alloc: Global, remark: Remark<'_>, line: &str) -> bool {
     remark.write(alloc, &mut output).is_ok() && output.as_slice() == line.as_bytes()
 }
 
+/// The first step of a build.
+const STEP: StepAt<'static> = StepAt {
+    place: 0,
+    name: "s",
+};
+
 /// Remarks, and their lines.
-const REMARKS: [(Remark<'static>, &str); 6] = [
+const REMARKS: [(Remark<'static>, &str); 9] = [
     (
         Remark::StepStarted {
             build: 2,
@@ -221,7 +227,10 @@ const REMARKS: [(Remark<'static>, &str); 6] = [
                 lane: 1,
                 lanes: 4,
             },
-            step: "a\nb\\c\u{9b}d\u{e9}",
+            step: StepAt {
+                place: 4,
+                name: "a\nb\\c\u{9b}d\u{e9}",
+            },
         },
         "build 2 step started, log 13: a\\x0ab\\\\c\\x9bd\u{e9}\n",
     ),
@@ -236,7 +245,7 @@ const REMARKS: [(Remark<'static>, &str); 6] = [
         Remark::StepRefused {
             build: 7,
             why: StartRefusal::Cancelled,
-            step: "s",
+            step: STEP,
         },
         "build 7 step not started, cancelled: s\n",
     ),
@@ -244,7 +253,7 @@ const REMARKS: [(Remark<'static>, &str); 6] = [
         Remark::StepRefused {
             build: 7,
             why: StartRefusal::TooLong,
-            step: "s",
+            step: STEP,
         },
         "build 7 step not started, command too long: s\n",
     ),
@@ -258,10 +267,27 @@ const REMARKS: [(Remark<'static>, &str); 6] = [
             },
             worker: "w 0",
             said: "cannot start: no such file\r",
-            step: "s",
+            step: STEP,
         },
         "build 7 step failed on w 0, cannot start: no such file\\x0d, log 2: s\n",
     ),
+    (
+        Remark::Counted {
+            workers: 1,
+            builds: 0,
+            steps: 2,
+        },
+        "1 worker, 0 builds, 2 steps\n",
+    ),
+    (
+        Remark::MisspeltKey {
+            place: "build 3, step 1",
+            key: "haltonfailure\n",
+            near: "haltOnFailure",
+        },
+        "build 3, step 1: unknown key \"haltonfailure\\x0a\", near \"haltOnFailure\"\n",
+    ),
+    (Remark::ShutDown { worker: "w 0" }, "worker w 0 shut down\n"),
     (
         Remark::MoreRefused { count: 90 },
         "90 more connections refused\n",
@@ -272,5 +298,58 @@ const REMARKS: [(Remark<'static>, &str); 6] = [
 fn remarks_are_one_line(rt: HostRuntime) {
     for (remark, line) in &REMARKS {
         assert!(rt; says(rt.alloc(), *remark, line), "{line}");
+    }
+}
+
+/// Whether a remark is that object, so many milliseconds after the start.
+fn is_object(alloc: Global, remark: Remark<'_>, ms: u64, object: &str) -> bool {
+    match remark.object(alloc, ms) {
+        Ok(text) => text.as_str() == object,
+        Err(_) => false,
+    }
+}
+
+/// Remarks, and their objects.
+const OBJECTS: [(Remark<'static>, &str); 4] = [
+    (
+        Remark::StepStarted {
+            build: 2,
+            log: LogId {
+                command: 3,
+                lane: 1,
+                lanes: 4,
+            },
+            step: StepAt {
+                place: 4,
+                name: "a\n\"b\\\u{1b}\u{9b}\u{e9}",
+            },
+        },
+        "{\"remark\":\"step_started\",\"ms\":7,\"build\":2,\"log\":13,\"place\":4,\"step\":\"a\\n\\\"b\\\\\\u001b\u{9b}\u{e9}\"}\n",
+    ),
+    (
+        Remark::Lost {
+            worker: "w 0",
+            cause: LossCause::Expired,
+        },
+        "{\"remark\":\"worker_lost\",\"ms\":7,\"worker\":\"w 0\",\"cause\":\"not resumed in time\"}\n",
+    ),
+    (
+        Remark::Counted {
+            workers: 1,
+            builds: 0,
+            steps: 2,
+        },
+        "{\"remark\":\"configuration_read\",\"ms\":7,\"workers\":1,\"builds\":0,\"steps\":2}\n",
+    ),
+    (
+        Remark::AcceptingPaused,
+        "{\"remark\":\"accepting_paused\",\"ms\":7}\n",
+    ),
+];
+
+#[test]
+fn remarks_are_objects_too(rt: HostRuntime) {
+    for (remark, object) in &OBJECTS {
+        assert!(rt; is_object(rt.alloc(), *remark, 7, object), "{object}");
     }
 }

@@ -1,6 +1,6 @@
 //! Tests of `bm_world`.
 //!
-//! Worked scripts. Random ones are played by `tests/random_replays`, over the program.
+//! Worked scripts. Random ones are played by `tests/gate/random_replays`, over the program.
 
 ghost use Rattle.std.specs.Prelude.{◌≤◌};
 
@@ -8,6 +8,7 @@ mod rows;
 mod says;
 mod script;
 
+use bm_lines::Block;
 use bm_session::{Results, Session};
 use bm_world::*;
 use says::Says;
@@ -17,6 +18,9 @@ use std::process::Abort;
 
 /// A step, and what the lane says to it.
 type Row = (Script, Says);
+
+/// How a command ended, and the whole of its log `stdio`.
+type Left = (Option<Results>, &'static str);
 
 /// A new world. Where one request for memory is refused, the second try succeeds; so it is below.
 fn new_world(alloc: Global, capacity: usize) -> Result<World, AllocError>
@@ -125,10 +129,27 @@ fn has_its_answer(alloc: Global, world: &mut World, (script, says): &Row) -> boo
     }
 }
 
-/// Whether the commands, from the first on, ended so.
-fn have_ended(session: &Session, outcomes: &[Option<Results>]) -> bool {
-    for (k, outcome) in outcomes.iter().enumerate() {
-        if session.outcome(k as u64) != *outcome {
+/// The log `stdio` of a command, asked for once more after want of memory.
+fn log_of(alloc: Global, session: &Session, command: u64) -> Result<Option<Block>, AllocError> {
+    match session.log(alloc, command, "stdio") {
+        Ok(log) => Ok(log),
+        Err(_) => session.log(alloc, command, "stdio"),
+    }
+}
+
+/// Whether this is the whole log `stdio` of a command.
+fn is_logged(alloc: Global, session: &Session, command: u64, text: &str) -> bool {
+    match log_of(alloc, session, command) {
+        Ok(Some(block)) => block.content() == text,
+        _ => false,
+    }
+}
+
+/// Whether the commands, from the first on, ended so, and have these logs.
+fn are_left(alloc: Global, session: &Session, commands: &[Left]) -> bool {
+    for (k, (outcome, text)) in commands.iter().enumerate() {
+        let command = k as u64;
+        if session.outcome(command) != *outcome || !is_logged(alloc, session, command, text) {
             return false;
         }
     }
@@ -136,31 +157,21 @@ fn have_ended(session: &Session, outcomes: &[Option<Results>]) -> bool {
 }
 
 /// The world plays the rows, each of which has its answer; they count from 0. Then its commands,
-/// from the first on, ended so.
-fn play(
-    rt: &(impl AllocGlobal + Abort),
-    world: &mut World,
-    rows: &[Row],
-    outcomes: &[Option<Results>],
-) {
+/// from the first on, ended so, and have these logs.
+fn play(rt: &(impl AllocGlobal + Abort), world: &mut World, rows: &[Row], commands: &[Left]) {
     for (n, row) in rows.iter().enumerate() {
         assert!(rt; has_its_answer(rt.alloc(), world, row), "row {n}");
     }
-    assert!(rt; have_ended(world.session(), outcomes));
+    assert!(rt; are_left(rt.alloc(), world.session(), commands));
 }
 
 /// The same of a new world.
-fn plays(
-    rt: &(impl AllocGlobal + Abort),
-    capacity: usize,
-    rows: &[Row],
-    outcomes: &[Option<Results>],
-)
+fn plays(rt: &(impl AllocGlobal + Abort), capacity: usize, rows: &[Row], commands: &[Left])
     requires some { 1 ≤ capacity }
     requires few { capacity ≤ 65536 }
 {
     let mut world = new_world(rt.alloc(), capacity).expect(rt, "memory for a world");
-    play(rt, &mut world, rows, outcomes);
+    play(rt, &mut world, rows, commands);
 }
 
 fn copy_of(step: &Step) -> Result<Step, AllocError> {

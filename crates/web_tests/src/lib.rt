@@ -1,5 +1,5 @@
 //! Tests of the chunk server: answers over real lanes byte for byte, and where memory is refused.
-//! What it does with connections is tested over the program, by `tests/web` and `tests/web_clients`.
+//! What it does with connections is tested over the program, by `tests/gate/web` and `web_clients`.
 #![tactic(auto)]
 
 #[cfg(test)]

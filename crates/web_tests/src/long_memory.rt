@@ -1,4 +1,4 @@
-//! Long answers where memory is wanting, which `tests/refused_memory` refuses.
+//! Long answers where memory is wanting, which `tests/gate/refused_memory` refuses.
 ghost use Rattle.std.specs.Prelude.{◌≡◌};
 
 use crate::lanes::shown;

@@ -1,4 +1,4 @@
-//! Answers where memory is wanting, which `tests/refused_memory` refuses.
+//! Answers where memory is wanting, which `tests/gate/refused_memory` refuses.
 ghost use Rattle.std.specs.Prelude.{◌≡◌, ◌<◌, length};
 
 use crate::lanes::shown;

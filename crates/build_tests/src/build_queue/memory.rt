@@ -1,8 +1,8 @@
 //! A queue where a request for memory is refused.
 //!
-//! This is made for `tests/refused_memory`, which refuses each request in turn. The call says that
-//! memory is wanting, and has changed nothing. The same call, made again, answers as usual. In the
-//! gate no request is refused, and no call is made twice.
+//! This is made for `tests/gate/refused_memory`, which refuses each request in turn. The call says
+//! that memory is wanting, and has changed nothing. The same call, made again, answers as usual. In
+//! the gate no request is refused, and no call is made twice.
 ghost use Rattle.std.specs.Prelude.{◌≡◌};
 
 use super::{build_of, queue_of, starts_none};

@@ -1,8 +1,8 @@
 //! Configurations that are read where a request for memory is refused.
 //!
-//! These are made for `tests/refused_memory`, which refuses each request in turn. The call then
-//! tells that memory is wanting, and nothing else. The same call, made again, answers as usual. In
-//! the gate no request is refused, and no text is read twice.
+//! These are made for `tests/gate/refused_memory`, which refuses each request in turn. The call
+//! then tells that memory is wanting, and nothing else. The same call, made again, answers as
+//! usual. In the gate no request is refused, and no text is read twice.
 
 use super::values::{WHOLE, is_whole};
 use bm_config::{Config, ConfigFault, read_config};

@@ -1,7 +1,7 @@
 //! Two configurations, and each value that they say.
 
 use bm_board::{Build, Listed, LockUse, Mode, StepPlan, Words};
-use bm_config::{Config, LockConfig, WorkerConfig};
+use bm_config::{Config, LockConfig, RemarkForm, WorkerConfig};
 use bm_lines::Text;
 use std::net::{IpAddr, SocketAddr};
 
@@ -118,6 +118,7 @@ struct Said {
     address: Option<&'static str>,
     capacity: u32,
     writers: u32,
+    remarks: RemarkForm,
     workers: &'static [WorkerRow],
     locks: &'static [LockRow],
     builds: &'static [BuildRow],
@@ -143,6 +144,7 @@ fn says(config: &Config, said: &Said) -> bool {
         && is_address(said.address, &config.address)
         && config.capacity == said.capacity
         && config.writers == said.writers
+        && config.remarks == said.remarks
         && are(said.workers, &config.workers)
         && are(said.locks, &config.locks)
         && are(said.builds, &config.builds)
@@ -160,6 +162,7 @@ static DEFAULTS: Said = Said {
     address: None,
     capacity: 64,
     writers: 2,
+    remarks: RemarkForm::Text,
     workers: &[WorkerRow {
         name: "w0",
         password: "p",
@@ -197,6 +200,7 @@ web = \"192.0.2.9:2\"
 address = \"m:3\"
 capacity = 8
 writers = 3
+remarks = \"json\"
 lock = [{name=\"a\"}, {name=\"b\",max=7}]
 [[worker]]
 name = \"w0\"
@@ -228,6 +232,7 @@ static EACH: Said = Said {
     address: Some("m:3"),
     capacity: 8,
     writers: 3,
+    remarks: RemarkForm::Json,
     workers: &[
         WorkerRow {
             name: "w0",

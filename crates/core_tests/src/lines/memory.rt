@@ -1,8 +1,8 @@
 //! Calls that meet want of memory change nothing, and answer when they are made again.
 //!
-//! These are made for `tests/refused_memory`, which runs each once for each of its requests, with
-//! that one refused. In the gate no request is refused, so what is asserted behind an error doesn't
-//! run there; what the calls make is asserted.
+//! These are made for `tests/gate/refused_memory`, which runs each once for each of its requests,
+//! with that one refused. In the gate no request is refused, so what is asserted behind an error
+//! doesn't run there; what the calls make is asserted.
 
 use bm_lines::{Block, Letter, LineBatch, LineBatchBuilder, LogName, Text, cut};
 use std::alloc::{AllocError, Global};

@@ -1,4 +1,4 @@
-//! Made for `tests/refused_memory`, which refuses each request for memory in turn. A call that
+//! Made for `tests/gate/refused_memory`, which refuses each request for memory in turn. A call that
 //! meets want of memory changes nothing, and answers when it's made again. In the gate no request
 //! is refused, and no call is made twice.
 

@@ -63,6 +63,22 @@ impl Links {
         }
     }
 
+    /// The answer to a call, which is seen.
+    pub fn answer_seen<Y: Yard, R: Wait>(
+        &mut self,
+        rt: &R,
+        reader: &mut ReaderEnd<Y>,
+        watch: &mut Watch,
+        step: Step,
+        call: Call,
+    ) -> Answer {
+        let (had_ended, before) = (watch.has_ended, taken_in(reader.trace()));
+        let answer = self.answer(rt, reader, call);
+        watch.see(step, answer, self.has_failed());
+        watch.see_taken(had_ended, before, taken_in(reader.trace()));
+        answer
+    }
+
     /// What is seen of the calls. Where no link was accepted none is called.
     fn watched<Y: Yard, R: Wait>(&mut self, rt: &R, reader: &mut ReaderEnd<Y>, end: End) -> Watch {
         let mut watch = Watch::of(end);
@@ -72,7 +88,7 @@ impl Links {
                 bytes: *bytes,
                 is_late: false,
             };
-            watch.see(step, self.answer(rt, reader, *call), self.has_failed());
+            self.answer_seen(rt, reader, &mut watch, step, *call);
             watch.has_link = self.has_link();
             if !watch.has_link {
                 break;
@@ -147,6 +163,17 @@ impl Part {
     }
 }
 
+/// How many events a lane took, but for its cuts and its ends.
+fn taken_in(events: &[Event]) -> usize {
+    let mut taken = 0usize;
+    for event in events {
+        if !matches!(event, Event::Cut | Event::Down) {
+            taken = taken.saturating_add(1);
+        }
+    }
+    taken
+}
+
 /// Whether the events are the first of the script's, or all of them.
 pub(crate) fn are_begun(events: &[Event], script: &[Part]) -> bool {
     for (event, part) in events.iter().zip(script) {
@@ -201,7 +228,7 @@ pub(crate) fn ended_right(watch: Option<Watch>) -> Option<bool> {
 /// that could fail.
 fn is_told_at_each_call<R: Wait + Abort>(rt: &R, alloc: Global, resumable: bool) -> bool {
     for calls in 0..400 {
-        let ended = ended_right(watched(rt, alloc, resumable, End::Fails(calls)));
+        let ended = ended_right(watched(rt, alloc, resumable, End::Trickles(calls)));
         assert!(rt; ended.is_some(), "after {calls} calls");
         if ended == Some(false) {
             return true;

@@ -5,6 +5,8 @@ use super::calls::{Answer, BAD, Call, PLAIN};
 use super::linked_lane::{Row, plays};
 use bm_link::*;
 
+const FAILED: Answer = Answer::Fault(LinkFault::Stream);
+
 /// A handshake that comes in pieces is heard; one that trickles in is taken for an attack.
 #[test]
 fn a_handshake_comes_in_pieces(rt: HostRuntime) {
@@ -15,6 +17,26 @@ fn a_handshake_comes_in_pieces(rt: HostRuntime) {
         Row::Calls(Call::AcceptInPieces(1, &[AUTH]), BAD),
     ];
     assert!(rt; plays(&rt, rt.alloc(), 1, false, &ROWS));
+}
+
+/// So often a handshake is read that comes byte by byte. Then it is taken for an attack.
+pub(crate) const MOST_READS: u32 = 65;
+
+/// Where a handshake comes byte by byte, a stream that fails is told at each read, and behind the
+/// last of them the handshake is a bad one.
+#[test]
+fn a_handshake_of_single_bytes_fails_at_each_read(rt: HostRuntime) {
+    for reads in 0..=MOST_READS {
+        let told = if reads < MOST_READS { FAILED } else { BAD };
+        let rows = [
+            Row::FailsAfter(reads),
+            Row::Calls(Call::AcceptInPieces(1, &[AUTH]), told),
+        ];
+        assert!(rt;
+            plays(&rt, rt.alloc(), 1, false, &rows),
+            "after {reads} reads"
+        );
+    }
 }
 
 const GET: &[u8] = b"GET / HTTP/1.1\r\nHost: x\r\n";
@@ -35,8 +57,8 @@ static HANDSHAKES: [Row; 16] = [
     ),
     Row::Calls(Call::AcceptHead(&[]), BAD),
     Row::Calls(Call::AcceptHead(&[GET, UPGRADE, KEY, VERSION]), BAD),
-    Row::Calls(Call::AcceptSome(0), Answer::Fault(LinkFault::Stream)),
-    Row::Calls(Call::AcceptSome(40), Answer::Fault(LinkFault::Stream)),
+    Row::Calls(Call::AcceptSome(0), FAILED),
+    Row::Calls(Call::AcceptSome(40), FAILED),
     Row::Calls(Call::AcceptHead(&[b"\x82\x80\0\0\0\0", END, END]), BAD),
     Row::Calls(Call::AcceptHead(&[GET, END]), BAD),
     Row::Calls(Call::AcceptHead(&[GET, KEY, VERSION, END]), BAD),

@@ -198,8 +198,7 @@ impl Links {
                 // An order that the lane took before it was cut is sent again, so it is given.
                 is_late: matches!(call, Call::Start),
             };
-            let answer = self.answer(rt, reader, *call);
-            seen.watch.see(step, answer, self.has_failed());
+            let answer = self.answer_seen(rt, reader, &mut seen.watch, step, *call);
             seen.note(*call, answer);
             if !self.has_link() {
                 break;

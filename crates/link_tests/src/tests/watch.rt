@@ -9,6 +9,8 @@ use bm_link::LinkFault;
 pub(crate) enum End {
     /// It gives single bytes after the head, and fails once, behind so many of its calls.
     Fails(u32),
+    /// The same, and it gives its head in short pieces.
+    Trickles(u32),
     /// It ends after so many bytes.
     Cut(usize),
     /// It gives all that it has. A request for memory is refused, or none.
@@ -22,6 +24,7 @@ impl End {
     pub fn shapes(self, stream: &mut Script) {
         match self {
             End::Fails(calls) => stream.fails_after(calls),
+            End::Trickles(calls) => stream.trickles(calls),
             End::Cut(bytes) => stream.input.truncate(bytes),
             End::Refused | End::Whole => {}
         }
@@ -69,7 +72,7 @@ impl Watch {
     pub fn may_go_on(&self) -> bool {
         match self.end {
             End::Refused => self.has_ended,
-            End::Fails(_) | End::Cut(_) | End::Whole => true,
+            End::Fails(_) | End::Trickles(_) | End::Cut(_) | End::Whole => true,
         }
     }
 
@@ -88,10 +91,16 @@ impl Watch {
         self.is_late = step.is_late && answer == step.right;
     }
 
+    /// Sees how many events the lane took before a call and behind it. Once the stream came to its
+    /// end there is none but what that end brings.
+    pub fn see_taken(&mut self, had_ended: bool, before: usize, after: usize) {
+        self.is_right &= !had_ended || before == after;
+    }
+
     /// Whether the stream came to its end by now.
     fn ends(&self, step: Step, answer: Answer, has_failed: bool) -> bool {
         match self.end {
-            End::Fails(_) => has_failed,
+            End::Fails(_) | End::Trickles(_) => has_failed,
             End::Cut(bytes) => self.place > bytes,
             End::Refused => answer != step.right && self.may_be_refused(step, answer),
             End::Whole => false,
@@ -112,7 +121,7 @@ impl Watch {
     /// Whether this tells of the end. A handshake that ends is a bad message.
     fn is_told_by(&self, step: Step, answer: Answer) -> bool {
         match self.end {
-            End::Fails(_) => {
+            End::Fails(_) | End::Trickles(_) => {
                 answer == Answer::Fault(LinkFault::Stream) || (step.is_late && answer == step.right)
             }
             End::Cut(_) => answer == CLOSED || (answer == BAD && !self.has_link),

@@ -3,6 +3,7 @@
 mod failing;
 
 use super::calls::{Answer, BAD, CLOSED, DROPPED, NOTED};
+use super::handshakes::MOST_READS;
 use super::{
     AGREED, AUTH, AUTH_S, BAD_LOGIN, CLOSE, DONE, NEW, ORDER, RESUMED, Script, TEXT, TRUE,
     script_of,
@@ -114,6 +115,45 @@ impl LinkedWorker {
     /// All that it wrote.
     pub fn output(&self) -> Result<Vec<u8>, AllocError> {
         Vec::from_slice(self.alloc, &self.link.get_ref().output)
+    }
+}
+
+/// How a worker's handshake fails whose answer comes byte by byte, over a stream that fails behind
+/// so many of its calls.
+fn refused_after(alloc: Global, calls: u32) -> Option<LinkFault> {
+    match script_of(alloc, AGREED, &[TRUE]) {
+        Ok(mut stream) => {
+            stream.piece = 1;
+            stream.calls = calls;
+            fault_over(alloc, stream)
+        }
+        Err(_) => None,
+    }
+}
+
+fn fault_over(alloc: Global, stream: Script) -> Option<LinkFault> {
+    match LinkedWorker::over(alloc, None, stream) {
+        Ok(_) => None,
+        Err(fault) => Some(fault),
+    }
+}
+
+/// Where the answer to a worker's handshake comes byte by byte, a stream that fails is told at each
+/// call: its request is written and flushed, and then the answer is read. Behind the last of these
+/// reads it is a bad one.
+#[test]
+fn an_agreement_of_single_bytes_fails_at_each_call(rt: HostRuntime) {
+    let most = MOST_READS.saturating_add(2);
+    for calls in 0..=most {
+        let told = if calls < most {
+            LinkFault::Stream
+        } else {
+            LinkFault::BadMessage
+        };
+        assert!(rt;
+            refused_after(rt.alloc(), calls) == Some(told),
+            "after {calls} calls"
+        );
     }
 }
 

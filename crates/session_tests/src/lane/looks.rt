@@ -20,15 +20,23 @@ pub fn snapshot_of<Y: Yard>(reader: &ReaderEnd<Y>) -> Snapshot {
 /// How the log `stdio` of command 0 stands, and how many items its viewer has seen then.
 pub type ViewerSnapshot = (Option<LogState>, u64);
 
-/// What the first viewer sees.
-pub fn first_viewer<Y: Yard>(viewers: &mut [Viewer<Y>]) -> Option<ViewerSnapshot> {
-    match viewers.first_mut() {
+// What the viewer in this place sees, where there is one.
+fn seen_by<Y: Yard>(viewers: &mut [Viewer<Y>], place: usize) -> Option<ViewerSnapshot> {
+    match viewers.get_mut(place) {
         Some(viewer) => {
             let state = viewer.state(0, "stdio").ok();
             Some((state, viewer.count()))
         }
         None => None,
     }
+}
+
+/// What each of a lane's two viewers sees, or its one.
+pub fn seen_by_both<Y: Yard>(
+    viewers: &mut [Viewer<Y>],
+) -> (Option<ViewerSnapshot>, Option<ViewerSnapshot>) {
+    let first = seen_by(viewers, 0);
+    (first, seen_by(viewers, 1))
 }
 
 /// Whether the answer has as many lines as a log in this state has from the place `offset` on,

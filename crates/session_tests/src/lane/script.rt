@@ -2,7 +2,7 @@
 ghost use Rattle.std.specs.Prelude.{◌≡◌, ◌<◌, ◌≤◌};
 
 use super::hand::*;
-use super::looks::{first_viewer, snapshot_of};
+use super::looks::{seen_by_both, snapshot_of};
 use super::says::Says;
 use bm_lane::*;
 use bm_session::{Event, Refusal, Reply};
@@ -118,11 +118,11 @@ fn views<Y: Yard>(viewer: &mut Viewer<Y>, call: Call, says: &Says) -> bool {
     }
 }
 
-// Drains once. After want of memory the first viewer sees what it saw, and it is drained again.
+// Drains once. After want of memory each viewer sees what it saw, and it is drained again.
 fn drain_looked<Y: Yard, W: Wait + Drop>(ends: &mut Ends<Y, W>) -> Result<Drained, AllocError> {
-    let before = first_viewer(ends.viewers.as_mut_slice());
+    let before = seen_by_both(ends.viewers.as_mut_slice());
     match ends.writer.drain() {
-        Err(_) if first_viewer(ends.viewers.as_mut_slice()) == before => ends.writer.drain(),
+        Err(_) if seen_by_both(ends.viewers.as_mut_slice()) == before => ends.writer.drain(),
         answer => answer,
     }
 }

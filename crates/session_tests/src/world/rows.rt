@@ -29,7 +29,7 @@ fn lines_are_seen_once_drained(rt: HostRuntime) {
         (Look(0, "stdio", 0, 10), Lines(0, 1, "oa\n")),
         (Drain, Empty),
     ];
-    plays(&rt, 4, &ROWS, &[]);
+    plays(&rt, 4, &ROWS, &[(None, "oa\n")]);
 }
 
 #[test]
@@ -86,7 +86,12 @@ fn numbers_start_afresh_after_a_loss(rt: HostRuntime) {
         (Look(1, "stdio", 0, 9), Lines(0, 1, "on\n")),
         (Drain, Empty),
     ];
-    plays(&rt, 8, &ROWS, &[Some(Results::Retry), None]);
+    plays(
+        &rt,
+        8,
+        &ROWS,
+        &[(Some(Results::Retry), "oa\n"), (None, "on\n")],
+    );
 }
 
 #[test]
@@ -103,7 +108,7 @@ fn update_after_complete_is_not_kept(rt: HostRuntime) {
         (Drain, Empty),
         (Look(0, "stdio", 0, 9), Lines(0, 0, "")),
     ];
-    plays(&rt, 4, &ROWS, &[Some(Results::Cancelled)]);
+    plays(&rt, 4, &ROWS, &[(Some(Results::Cancelled), "")]);
 }
 
 #[test]
@@ -154,7 +159,7 @@ fn resumed_session_doubles_no_line(rt: HostRuntime) {
         (Drain, Empty),
         (Look(0, "stdio", 0, 9), Lines(0, 3, "oa\nob\noc\n")),
     ];
-    plays(&rt, 8, &ROWS, &[None]);
+    plays(&rt, 8, &ROWS, &[(None, "oa\nob\noc\n")]);
 }
 
 #[test]
@@ -172,12 +177,12 @@ fn cut_session_is_resumed_or_given_up(rt: HostRuntime) {
         (Up, Silent),
         (Go, Start(0, 2)),
     ];
-    plays(&rt, 8, &ROWS, &[Some(Results::Retry)]);
+    plays(&rt, 8, &ROWS, &[(Some(Results::Retry), "")]);
 }
 
 #[test]
 fn lines_are_seen_from_a_place_on(rt: HostRuntime) {
-    static ROWS: [Row; 14] = [
+    static ROWS: [Row; 15] = [
         (Up, Silent),
         (Go, Start(0, 0)),
         (Update(0, 0, "stdio", O, "a\nb\n"), Done(0)),
@@ -192,6 +197,7 @@ fn lines_are_seen_from_a_place_on(rt: HostRuntime) {
         (Look(0, "stdio", 4, 9), Lines(4, 0, "")),
         (Look(0, "stdio", 7, 9), Lines(7, 0, "")),
         (Look(0, "stdio", 1, 0), Lines(1, 0, "")),
+        (Look(0, "stdio", 2, u64::MAX), Lines(2, 2, "ec\nhd\n")),
     ];
     plays(&rt, 4, &ROWS, &[]);
 }
@@ -205,7 +211,7 @@ fn refused_start_ends_its_command(rt: HostRuntime) {
         (Update(0, 0, "stdio", O, "a\n"), NoCommand(0)),
         (Stop(0), Refused(Refusal::NoSuchCommand)),
     ];
-    plays(&rt, 4, &ROWS, &[Some(Results::Exception)]);
+    plays(&rt, 4, &ROWS, &[(Some(Results::Exception), "")]);
 }
 
 #[test]

@@ -1,7 +1,7 @@
 //! What waits and is told where a request for memory is refused.
 //!
-//! These are made for `tests/refused_memory`, which refuses each request in turn. Nothing is lost
-//! then, and nothing told twice. In the gate no request is refused, and no call is made twice.
+//! These are made for `tests/gate/refused_memory`, which refuses each request in turn. Nothing is
+//! lost then, and nothing told twice. In the gate no request is refused, and no call is made twice.
 
 use super::pipe_texts::{says, says_last};
 use super::{STOPPED, begins, exit_code, opens, pushes, stops, tells, worker_of};

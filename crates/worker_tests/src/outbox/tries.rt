@@ -37,7 +37,7 @@ const FAILED_CONNECTS: [(u64, ConnectFault, u64); 11] = [
 #[test]
 fn a_try_of_a_known_worker_goes_on(rt: HostRuntime) {
     let mut tries = Tries::new();
-    tries.answered();
+    tries.answered(0);
     for (now_ms, why, want_ms) in &FAILED_CONNECTS {
         let is_right = pauses(&mut tries, *why, *now_ms, Some(*want_ms));
         assert!(rt; is_right, "at {now_ms} ms");
@@ -47,7 +47,7 @@ fn a_try_of_a_known_worker_goes_on(rt: HostRuntime) {
 #[test]
 fn ten_refused_logins_end_a_known_worker(rt: HostRuntime) {
     let mut tries = Tries::new();
-    tries.answered();
+    tries.answered(0);
     for made in 0..10u64 {
         assert!(rt;
             pauses(&mut tries, ConnectFault::Refused, made, Some(10)),
@@ -57,4 +57,37 @@ fn ten_refused_logins_end_a_known_worker(rt: HostRuntime) {
     assert!(rt; pauses(&mut tries, ConnectFault::Refused, 10, None));
     tries.heard();
     assert!(rt; pauses(&mut tries, ConnectFault::Refused, 11, Some(10)));
+}
+
+#[test]
+fn a_connection_that_lasts_ends_the_tries_before_it(rt: HostRuntime) {
+    let mut tries = Tries::new();
+    for cut in 0..100u64 {
+        tries.answered(10_000 * cut);
+        let is_right = pauses(
+            &mut tries,
+            ConnectFault::NoAnswer,
+            10_000 * cut + 6_000,
+            Some(10),
+        );
+        assert!(rt; is_right, "cut {cut}");
+    }
+}
+
+#[test]
+fn ten_connections_that_are_dropped_early_end_a_known_worker(rt: HostRuntime) {
+    let mut tries = Tries::new();
+    for made in 0..11u64 {
+        tries.answered(6_000 * made);
+        let want = if made < 10 { Some(10) } else { None };
+        assert!(rt;
+            pauses(
+                &mut tries,
+                ConnectFault::NoAnswer,
+                6_000 * made + 5_999,
+                want
+            ),
+            "connection {made}"
+        );
+    }
 }

@@ -1,8 +1,8 @@
 //! What the worker asks for where a request for memory is refused.
 //!
-//! These are made for `tests/refused_memory`, which refuses each request in turn. The call then
-//! tells that memory is wanting, and nothing else. The same call, made again, answers as usual. In
-//! the gate no request is refused, and no call is made twice.
+//! These are made for `tests/gate/refused_memory`, which refuses each request in turn. The call
+//! then tells that memory is wanting, and nothing else. The same call, made again, answers as
+//! usual. In the gate no request is refused, and no call is made twice.
 
 use bm_lines::Letter;
 use bm_worker_threads::{PipeEvent, PipeReader, ProcessEvent, WorkerMail, new_session, words};

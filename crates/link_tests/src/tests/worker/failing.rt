@@ -357,7 +357,7 @@ fn seen(alloc: Global, login: &Login, end: End) -> Option<Watch> {
 /// fail.
 fn loses_nothing_at_each_call(rt: &impl Abort, alloc: Global, login: &Login) -> bool {
     for calls in 0..1000 {
-        let ended = ended_right(seen(alloc, login, End::Fails(calls)));
+        let ended = ended_right(seen(alloc, login, End::Trickles(calls)));
         assert!(rt; ended.is_some(), "after {calls} calls");
         if ended == Some(false) {
             return true;

@@ -1,0 +1,153 @@
+//! The orders of a build to start one command, and how far it has come by their answers.
+
+ghost use Rattle.std.specs.Prelude.{◌≡◌};
+ghost use Rattle.bm_lane_actor.specs.StartProgress.{after_step, start_refusal, start_step};
+ghost use Rattle.bm_lane_actor.specs.declared.start_progress.StartStage.TheVariants as stage;
+
+use crate::byte_count::ByteCount;
+use crate::lane_request::{CancelFlag, LaneRequest, StartOrder};
+use crate::mailbox::LaneHandle;
+use crate::order_outcome::OrderOutcome;
+use bm_board::StepPlan;
+use bm_operator::StartRefusal;
+use crossbeam_channel::bounded;
+use std::alloc::Global;
+use std::sync::{Arc, Wait};
+use std::time::Clock;
+
+/// What a build does by the answer to one order.
+#[derive(Clone, Copy, PartialEq, Eq)]
+pub(crate) enum StartStep {
+    /// It asks again later.
+    AskAgain,
+    /// The lane has started this command.
+    Started(u64),
+    /// The command isn't started, and isn't asked for again.
+    Refused(StartRefusal),
+}
+
+/// How far a build has come with one command.
+#[derive(Clone, Copy, PartialEq, Eq)]
+pub(crate) enum StartStage {
+    /// Each answer so far was to try it later.
+    Asking,
+    /// The last answer was the first that had started it.
+    Started(u64),
+    /// The last answer was the first that had refused it.
+    Refused(StartRefusal),
+    /// An order was given once it was settled.
+    AskedTwice,
+    /// It was refused before an order was given.
+    Unasked(StartRefusal),
+}
+
+/// How far a build has come with one command. Contracts see its stage. What comes by a mailbox no
+/// contract sees, so `ask` alone may say it.
+#[derive(Drop)]
+pub(crate) struct StartProgress {
+    stage: StartStage,
+}
+
+/// Why a step isn't started whose order came to this, and isn't tried again.
+fn start_refusal(outcome: OrderOutcome) -> StartRefusal
+    ensures { result ≡ start_refusal outcome }
+{
+    match outcome {
+        OrderOutcome::Cancelled => StartRefusal::Cancelled,
+        OrderOutcome::Full => StartRefusal::Full,
+        OrderOutcome::TooLong => StartRefusal::TooLong,
+        OrderOutcome::Started(_)
+        | OrderOutcome::Interrupted
+        | OrderOutcome::Later
+        | OrderOutcome::Refused => StartRefusal::Lost,
+    }
+}
+
+/// What a build does by the answer to an order. None: memory was wanting for that.
+fn start_step(answer: Option<OrderOutcome>) -> StartStep
+    ensures { result ≡ start_step answer }
+{
+    match answer {
+        Some(OrderOutcome::Started(command)) => StartStep::Started(command),
+        Some(OrderOutcome::Later) => StartStep::AskAgain,
+        Some(outcome) => StartStep::Refused(start_refusal(outcome)),
+        None => StartStep::Refused(StartRefusal::Memory),
+    }
+}
+
+/// How far a build has come after one step more.
+fn after_step(before: StartStage, step: StartStep) -> StartStage
+    ensures { result ≡ after_step before step }
+{
+    match (before, step) {
+        (StartStage::Asking, StartStep::AskAgain) => StartStage::Asking,
+        (StartStage::Asking, StartStep::Started(command)) => StartStage::Started(command),
+        (StartStage::Asking, StartStep::Refused(why)) => StartStage::Refused(why),
+        _ => StartStage::AskedTwice,
+    }
+}
+
+/// What the actor answers to a start; `Refused` where it has left. None where memory is wanting.
+fn try_start<S: Drop, R: Wait + Clock>(
+    rt: &R,
+    alloc: Global,
+    handle: &LaneHandle<S>,
+    step: &StepPlan,
+    cancelled: &CancelFlag,
+    bytes: &ByteCount,
+) -> Option<OrderOutcome> {
+    let (answer, answers) = bounded(alloc, 1).ok()?;
+    let order = StartOrder {
+        words: step.argv.copy().ok()?,
+        bytes: Arc::try_clone(bytes).ok()?,
+        cancelled: if step.always_run {
+            None
+        } else {
+            Some(Arc::try_clone(cancelled).ok()?)
+        },
+    };
+    if !handle.tell(rt, LaneRequest::Start(order, answer)) {
+        return Some(OrderOutcome::Refused);
+    }
+    match handle.answer(rt, &answers) {
+        Some(outcome) => Some(outcome),
+        None => Some(OrderOutcome::Refused),
+    }
+}
+
+impl StartProgress {
+    /// Nothing was asked for.
+    pub fn new() -> StartProgress
+        ensures { result.stage ≡ stage.Asking }
+    {
+        StartProgress {
+            stage: StartStage::Asking,
+        }
+    }
+
+    /// The command isn't asked for.
+    pub fn refuse(&mut self, why: StartRefusal) -> StartRefusal
+        ensures stage { self.new.stage ≡ stage.Unasked why }
+        ensures told { result ≡ why }
+    {
+        self.stage = StartStage::Unasked(why);
+        why
+    }
+
+    /// Gives the lane's actor the order once, and hears its answer.
+    pub fn ask<S: Drop, R: Wait + Clock>(
+        &mut self,
+        rt: &R,
+        alloc: Global,
+        handle: &LaneHandle<S>,
+        step: &StepPlan,
+        cancelled: &CancelFlag,
+        bytes: &ByteCount,
+    ) -> StartStep
+        ensures { self.new.stage ≡ after_step self.old.stage result }
+    {
+        let said = start_step(try_start(rt, alloc, handle, step, cancelled, bytes));
+        self.stage = after_step(self.stage, said);
+        said
+    }
+}

@@ -1,0 +1,167 @@
+//! What remarks of workers and their programs say.
+
+ghost use Rattle.std.specs.Prelude.{◌≡◌, IfOk, string_bytes};
+ghost use Rattle.bm_operator.specs.Remark.{dismissed, filled, logged_in, program_ended, program_failed, program_started, resumed, shut_down, worker_cut, worker_lost};
+ghost use Rattle.bm_operator.specs.Told.{shaped};
+
+use crate::field::{Field, Shape, shaped};
+use crate::reasons::{LossCause, ProgramRefusal};
+use std::alloc::{AllocError, Global};
+
+// A worker logged in.
+pub(crate) fn logged_in(alloc: Global, shape: Shape, worker: &str) -> Result<String, AllocError>
+    ensures { IfOk result (λ s. string_bytes s ≡ shaped shape (logged_in worker.now)) }
+{
+    shaped(
+        alloc,
+        shape,
+        "worker_logged_in",
+        &[Field::Name("worker ", "worker", worker)],
+        " logged in",
+    )
+}
+
+// A worker is back.
+pub(crate) fn resumed(alloc: Global, shape: Shape, worker: &str) -> Result<String, AllocError>
+    ensures { IfOk result (λ s. string_bytes s ≡ shaped shape (resumed worker.now)) }
+{
+    shaped(
+        alloc,
+        shape,
+        "worker_resumed",
+        &[Field::Name("worker ", "worker", worker)],
+        " resumed",
+    )
+}
+
+// A worker's connection was cut.
+pub(crate) fn worker_cut(
+    alloc: Global,
+    shape: Shape,
+    worker: &str,
+    cause: LossCause,
+) -> Result<String, AllocError>
+    ensures { IfOk result (λ s. string_bytes s ≡ shaped shape (worker_cut worker.now cause)) }
+{
+    shaped(
+        alloc,
+        shape,
+        "worker_cut",
+        &[
+            Field::Name("worker ", "worker", worker),
+            Field::Word(" cut, ", "cause", cause.text()),
+        ],
+        "",
+    )
+}
+
+// A worker's session ended.
+pub(crate) fn worker_lost(
+    alloc: Global,
+    shape: Shape,
+    worker: &str,
+    cause: LossCause,
+) -> Result<String, AllocError>
+    ensures { IfOk result (λ s. string_bytes s ≡ shaped shape (worker_lost worker.now cause)) }
+{
+    shaped(
+        alloc,
+        shape,
+        "worker_lost",
+        &[
+            Field::Name("worker ", "worker", worker),
+            Field::Word(" lost, ", "cause", cause.text()),
+        ],
+        "",
+    )
+}
+
+// A worker was told to shut down.
+pub(crate) fn dismissed(alloc: Global, shape: Shape, worker: &str) -> Result<String, AllocError>
+    ensures { IfOk result (λ s. string_bytes s ≡ shaped shape (dismissed worker.now)) }
+{
+    shaped(
+        alloc,
+        shape,
+        "worker_told_to_shut_down",
+        &[Field::Name("worker ", "worker", worker)],
+        " told to shut down",
+    )
+}
+
+// A worker that was told to shut down is gone.
+pub(crate) fn shut_down(alloc: Global, shape: Shape, worker: &str) -> Result<String, AllocError>
+    ensures { IfOk result (λ s. string_bytes s ≡ shaped shape (shut_down worker.now)) }
+{
+    shaped(
+        alloc,
+        shape,
+        "worker_shut_down",
+        &[Field::Name("worker ", "worker", worker)],
+        " shut down",
+    )
+}
+
+// A worker's lane takes nothing any more.
+pub(crate) fn filled(alloc: Global, shape: Shape, worker: &str) -> Result<String, AllocError>
+    ensures { IfOk result (λ s. string_bytes s ≡ shaped shape (filled worker.now)) }
+{
+    shaped(
+        alloc,
+        shape,
+        "worker_full",
+        &[Field::Name("worker ", "worker", worker)],
+        " full",
+    )
+}
+
+// The program of a worker was started.
+pub(crate) fn program_started(
+    alloc: Global,
+    shape: Shape,
+    worker: &str,
+) -> Result<String, AllocError>
+    ensures { IfOk result (λ s. string_bytes s ≡ shaped shape (program_started worker.now)) }
+{
+    shaped(
+        alloc,
+        shape,
+        "program_started",
+        &[Field::Name("program of ", "worker", worker)],
+        " started",
+    )
+}
+
+// The program of a worker was not started.
+pub(crate) fn program_failed(
+    alloc: Global,
+    shape: Shape,
+    worker: &str,
+    why: ProgramRefusal,
+) -> Result<String, AllocError>
+    ensures { IfOk result (λ s. string_bytes s ≡ shaped shape (program_failed worker.now why)) }
+{
+    shaped(
+        alloc,
+        shape,
+        "program_not_started",
+        &[
+            Field::Name("program of ", "worker", worker),
+            Field::Word(" not started, ", "cause", why.text()),
+        ],
+        "",
+    )
+}
+
+// The program of a worker ended.
+pub(crate) fn program_ended(alloc: Global, shape: Shape, worker: &str) -> Result<String, AllocError>
+    ensures { IfOk result (λ s. string_bytes s ≡ shaped shape (program_ended worker.now)) }
+{
+    shaped(
+        alloc,
+        shape,
+        "program_ended",
+        &[Field::Name("program of ", "worker", worker)],
+        " ended",
+    )
+}
