@@ -132,8 +132,6 @@ def compare_all(builds, shelf, watched):
     compare_shorts(builds)
     compare_limits(builds, watched)
     compare_refused(builds)
-    if FIGURES["times that the descriptors were filled"] and not FIGURES["accepting paused"]:
-        fault("accepting never paused")
 
 
 def compare_build(builds, number, steps):

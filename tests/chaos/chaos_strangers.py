@@ -2,7 +2,7 @@
 
 import asyncio
 import contextlib
-import math
+import itertools
 import os
 import resource
 import struct
@@ -18,6 +18,8 @@ from wire import reset
 SECONDS_TO_LOG_IN = 10
 SLACK = 15
 SECONDS_TO_CONNECT = 10
+# A bound for a master that doesn't tell that it has no descriptor left.
+SECONDS_TO_PAUSE = 20
 TOO_MANY = "connection refused, too many connections"
 # A second login is answered within so many seconds: a bound for a hang. It is far below the 60
 # after which a connection that is silent ends by itself.
@@ -226,23 +228,26 @@ class Strangers:
             for writer in writers:
                 reset(writer)
 
-    async def used_descriptors(self):
-        """How many the master has, once connections of before are closed there."""
-        used, before = len(os.listdir(f"/proc/{self.master.pid}/fd")), math.inf
-        while used < before:
-            await asyncio.sleep(0.3)
-            used, before = len(os.listdir(f"/proc/{self.master.pid}/fd")), used
-        return used
+    def limit_descriptors(self, most):
+        """Has the master open no descriptor more, whichever of those below the limit are free."""
+        used = {int(name) for name in os.listdir(f"/proc/{self.master.pid}/fd")}
+        limit = next(number for number in itertools.count() if number not in used)
+        resource.prlimit(self.master.pid, resource.RLIMIT_NOFILE, (limit, most))
 
     async def fill(self):
-        """The master's descriptors run out, by silent connections on both ports."""
+        """The master's descriptors run out, by silent connections on both ports, until it tells so."""
         async with self.descriptors:
-            used = await self.used_descriptors()
             _, most = resource.prlimit(self.master.pid, resource.RLIMIT_NOFILE)
-            resource.prlimit(self.master.pid, resource.RLIMIT_NOFILE, (used + 10, most))
+            told, begun = FIGURES["accepting paused"], time.monotonic()
             try:
-                async with self.opened([self.workers_address, self.web] * 15):
+                async with contextlib.AsyncExitStack() as stack:
+                    while FIGURES["accepting paused"] == told and time.monotonic() < begun + SECONDS_TO_PAUSE:
+                        self.limit_descriptors(most)
+                        await stack.enter_async_context(self.opened([self.workers_address, self.web]))
+                        await asyncio.sleep(0.1)
                     await asyncio.sleep(CHANCE.uniform(0.2, 2))
                     FIGURES["times that the descriptors were filled"] += 1
             finally:
                 resource.prlimit(self.master.pid, resource.RLIMIT_NOFILE, (most, most))
+            if FIGURES["accepting paused"] == told:
+                fault(f"accepting was not told to be paused within {SECONDS_TO_PAUSE} seconds")
