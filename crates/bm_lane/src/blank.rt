@@ -52,7 +52,9 @@ impl<R: Wait + Drop> Model for Blank<R> {
         × (b.publisher.kept ≡ []) × AllFresh b.publisher.history [] b.book_readers.items };
 }
 
-/// The ends of a lane.
+/// The ends of a lane, as one value that [`settle`](crate::settle) takes, and gives back at want of
+/// memory. Its condition is on what the fields hold, the number of viewers too, so ends that were
+/// put together by hand are safe.
 #[derive(Drop)]
 pub struct Ends<Y: Yard, R: Wait + Drop> {
     pub reader: ReaderEnd<Y>,
@@ -62,6 +64,9 @@ pub struct Ends<Y: Yard, R: Wait + Drop> {
 
 /// A queue that takes `capacity` items at once, and a published copy with places for so many
 /// viewers.
+///
+/// It may wait, since it publishes the empty copy once. By that each viewer learns which history it
+/// sees, which ties it to the writer's when the lane is settled.
 ///
 /// `NoPlace` where the copy gave no place to one of the viewers, `Mem` where memory is wanting.
 /// After either there is no lane, and the runtime is let go.
@@ -95,7 +100,8 @@ pub fn open<R: Wait + Drop>(
 }
 
 /// The ends of lane 0, lane 1 and so on, in order: those at a place are of the blank at that place.
-/// At want of memory there are none, and the blanks are let go.
+/// At want of memory there are none, and the blanks are let go: a program that meets it ends, or
+/// opens its lanes anew.
 pub fn ends_of_all<Y: Yard, W: Wait + Drop>(
     alloc: Global,
     blanks: Vec<Blank<W>>,

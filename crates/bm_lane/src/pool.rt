@@ -42,11 +42,11 @@ pub struct PoolReport {
 /// Why a pool didn't run to its end.
 #[derive(Clone, Copy, Debug, PartialEq, Eq, Error)]
 pub enum PoolFault {
-    /// A thread could not be started. The others ended at their next turn, and what they drained
-    /// stays drained.
+    /// A thread could not be started, maybe since memory was wanting for it. The others ended at
+    /// their next turn, and what they drained stays drained.
     #[error("no thread")]
     Spawn,
-    /// Memory is wanting. No thread was started.
+    /// Memory is wanting for the pool's own list. No thread was started.
     #[error("out of memory")]
     Mem,
 }
@@ -208,7 +208,8 @@ where
 
 /// So many threads drain these lanes. Worker w begins at lane w, modulo the number of lanes, and
 /// goes round. It ends where its gate says so, or after so many turns. Each drain that took an item
-/// or met want of memory is counted once.
+/// or met want of memory is counted once. There may be no thread and no lane: a condition that
+/// nothing needs would be proved by each caller.
 ///
 /// After `Spawn` the workers that were started have ended, and what they drained stays drained;
 /// after `Mem` nothing was.

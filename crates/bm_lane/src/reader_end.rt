@@ -22,6 +22,9 @@ use std::sync::{Arc, Wait};
 ///
 /// At all times what it put is the items of its trace. Each call answers its event, which then ends
 /// the trace; or hands the event back with the reason, and then nothing has changed.
+///
+/// It tells what its caller has to know (`is_up`, `next_order`), since no contract would tie a
+/// caller's own note of that to it.
 #[derive(Drop)]
 pub struct ReaderEnd<Y: Yard> {
     lane: u64,
@@ -108,6 +111,9 @@ impl<Y: Yard> ReaderEnd<Y> {
 
     /// An event comes, as a message of the worker. It takes no memory where that gives the session
     /// up, and refuses a cut only where the trace does.
+    ///
+    /// Every event may come: to hear a Down is `down`. A condition that nothing needs would be
+    /// proved by each caller.
     pub fn hear<R: Wait>(&mut self, rt: &R, event: Event) -> Result<Reply, (Event, HearRefusal)>
         ensures taken { Hears self.old event result self.new }
         ensures spared { event ≡ Event.Down

@@ -3,7 +3,7 @@ use std::marker::Brand;
 
 /// Names the queue and the copy of each lane, by the lane's number. It has no functions. It is
 /// picked once for all lanes, when their blanks are made, and each end's type keeps that its own
-/// are those.
+/// are those. Each end carries its number, so ends of two lanes can't be settled together.
 pub trait Yard {
     ghost use Rattle.std.specs.Prelude.{ℕ};
     ghost use Rattle.atomic_table.specs.Seated.{TableId};

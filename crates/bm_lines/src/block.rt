@@ -9,6 +9,9 @@ use std::alloc::{AllocError, Global};
 use std::marker::Model;
 
 /// A list of lines. Its copies share the lines, and one without lines takes no memory.
+///
+/// It gives its lines as text alone. A list of them, or a line with a text of its own, would take
+/// memory at each call. Only contracts have a type of a line.
 #[derive(Drop)]
 pub struct Block {
     alloc: Global,
@@ -75,6 +78,8 @@ impl Block {
     pub fn part(&self, skip: u64, limit: u64) -> &str
         ensures { result.now ≡ content_of (take limit (drop skip self.now)) }
     {
+        // Of the blocks of an answer only the first and the last are ever cut. The others are given
+        // as the text that they are.
         let lines = self.len();
         if skip == 0 && lines as u64 <= limit {
             return self.content();

@@ -12,7 +12,8 @@ use std::alloc::{AllocError, Global};
 use std::marker::Model;
 
 /// At least one line, as one text: the content of the lines, and where each but the first begins in
-/// it. So any slice of them is a piece of the text.
+/// it. So any slice of them is a piece of the text. A list with a text for each line would take a
+/// block of memory or two for each.
 #[derive(Drop)]
 pub struct Content {
     text: String,

@@ -7,14 +7,16 @@ ghost use Rattle.bm_lines.specs.Places.{HasPlaces, place_in};
 use std::alloc::{AllocError, Global};
 use std::collections::BTreeMap;
 
-/// As many names are looked through faster than a table of them is made.
+/// As many names are looked through faster than a table of them is made. Below, a walk finds a name
+/// and takes no memory.
 pub const FEW_NAMES: usize = 8;
 
 /// The places that names have in a list. A list may have a table beside it once a walk over its
 /// names would take long.
 #[derive(Drop)]
 pub struct NameTable {
-    /// In memory of its own, so that a list without a table stays small.
+    /// In memory of its own, so that a list without a table stays small. An ordered map, since no
+    /// choice of names makes that slow, as it could a hash whose seed is known.
     places: Box<BTreeMap<String, usize>>,
 }
 

@@ -5,7 +5,8 @@ ghost use Rattle.std.specs.Prelude.{◌≡◌, string_bytes, IfOk, bytes_eq};
 use std::alloc::{AllocError, Global};
 use std::marker::Model;
 
-/// A text that a value keeps, seen as its bytes in UTF-8.
+/// A text that a value keeps, seen as its bytes in UTF-8. Calls answer it, and not a `String`,
+/// where their contracts speak of these bytes.
 #[derive(Drop)]
 pub struct Text {
     string: String,

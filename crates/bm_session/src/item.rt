@@ -13,7 +13,8 @@ pub enum Item {
     Open(u64),
     /// Lines of the command's logs, by name.
     Lines(u64, LineBatch),
-    /// The command ended.
+    /// The command ended, with the outcome as it stands after this event. `books_have_the_logs` in
+    /// `bm_store` shows that the whole trace agrees.
     End(u64, Results),
     /// The session was given up: each open command ended with `Retry`.
     Gone,

@@ -11,6 +11,9 @@ use std::marker::Model;
 
 /// The request numbers of a session, as sorted ranges of which no two could be one, each with the
 /// first verdict on its numbers.
+///
+/// A worker that numbers its requests downwards by twos makes each message move all ranges, up to
+/// the lane's million events. Another form can't give its sorted slice without memory.
 #[derive(Drop)]
 pub struct Ranges {
     vec: Vec<Seen>,

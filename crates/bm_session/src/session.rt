@@ -107,7 +107,9 @@ impl Session {
     }
 
     /// The log of the command under the name, or None where that log isn't there. It reads the
-    /// whole trace, and takes memory for that unless the command was never started.
+    /// whole trace, and takes memory for that unless the command was never started. A flag for each
+    /// event would make each line larger, and this is asked seldom. To ask for n logs in turn takes
+    /// n times n comparisons of n names.
     pub fn log(&self, alloc: Global, command: u64, name: &str) -> Result<Option<Block>, AllocError>
         ensures log { IfOk result (λ log. log ≡ (if has_log_in self.now.trace command name.now
             then Some (log_of self.now.trace command name.now) else None)) }

@@ -12,7 +12,9 @@ use Rattle.bm_store.specs.Kept.{Kept, logs_in, kept_after}
 abbrev pub look_at : Trace → ℕ → Name → ℕ → ℕ → Option (List Line)
 look_at t k name off lim = if has_log t k name then Some (slice (log t k name) off lim) else None
 
--- the book of a trace's items has the logs and the outcomes that the trace says
+-- The book of a trace's items has the logs and the outcomes that the trace says. It is false where
+-- an event wasn't taken: in `Go, Up, Go, refused start 0` the definition ends two commands, and one
+-- item ends one. A session's invariant supplies the premise.
 abbrev pub BooksHaveTheLogs : Type 0
 BooksHaveTheLogs = (t : Trace) → was_taken t ≡ true → book (items t) ≡ logs t
 

@@ -116,7 +116,8 @@ fn remove_last(logs: &mut Vec<NamedLog>, name: &LogName)
     }
 }
 
-/// Undoes the adding of parts, the last one first.
+/// Undoes the adding of parts, the last one first. It takes n times n comparisons of n names, and
+/// only runs where memory is wanting.
 fn take_back(logs: &mut Vec<NamedLog>, parts: &[LogLines])
     ensures { (base : List Named) → have_blocks base ≡ true
         → logs.old.items ≡ with_parts parts.now base → logs.new.items ≡ base }

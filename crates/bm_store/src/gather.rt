@@ -46,6 +46,9 @@ pub fn lines_of_part(block: &Block, skip: u64, limit: u64) -> u64
 
 /// Appends the content of lines, and counts them. They are those of the blocks from the place
 /// `start` on, behind the first `skip` lines, `limit` at most.
+///
+/// To keep the text of small blocks side by side would save visits at the next look. It doubles the
+/// code of a look.
 fn gather(
     out: &mut String,
     blocks: &[Placed],

@@ -11,7 +11,9 @@ use crate::placed::Placed;
 use bm_lines::Text;
 use std::alloc::{AllocError, Global};
 
-/// A portion of the text of asked lines, and where the rest begins.
+/// A portion of the text of asked lines, and where the rest begins. It is bounded in bytes: bounded
+/// in lines it may have megabytes, and each reader holds one. The price: each look steps over the
+/// bytes of its first block that were told before.
 #[derive(Drop)]
 pub struct Portion {
     /// The portion.

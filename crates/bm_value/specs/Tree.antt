@@ -1,4 +1,5 @@
--- MessagePack trees. A float is kept as its bits, a str as the bytes of its text.
+-- MessagePack trees. A float is kept as its bits, a str as the bytes of its text. The children have
+-- lists of their own (`Trees`, `Pairs`), since the logic has no nested data types.
 use Rattle.std.specs.Prelude.{ℕ, suc, max, ℤ, List, Bool}
 
 mutual

@@ -85,7 +85,8 @@ fn pair_copied<A: Allocator, B: Allocator + Copy>(
 }
 
 impl<A: Allocator> Value<A> {
-    /// An equal tree whose parts lie in `alloc`.
+    /// An equal tree whose parts lie in `alloc`. Lists and pairs have no `copy` of their own, since
+    /// the copy of a tree goes into an allocator that is named.
     ///
     /// # Errors
     ///

@@ -3,7 +3,7 @@
 //! The format is that of the MessagePack specification (msgpack.org,
 //! github.com/msgpack/msgpack/blob/master/spec.md). A reader meets every format of a kind; a writer
 //! uses the one with the fewest bytes. Floats are kept as their bits, timestamps as the ext that
-//! they are.
+//! they are, since the protocol interprets neither.
 //!
 //! Promised: `decode` gives just the tree that bytes spell, or the first fault from the left. What
 //! `encode` writes is read back as the same tree. A body could still want memory at any growth.

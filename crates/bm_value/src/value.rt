@@ -9,7 +9,8 @@ use crate::num::Num;
 use crate::value_text::ValueText;
 use std::alloc::{AllocError, Allocator, Global};
 
-/// A MessagePack value, whose parts lie in the allocator `A`.
+/// A MessagePack value, whose parts lie in the allocator `A`. The calls that make one want an `A`
+/// that is `Copy`: an arena or a small heap is given as `&Bump` or `&LocalHeap`.
 #[cycle(value)]
 #[derive(Drop)]
 pub enum Value<A: Allocator = Global> {
