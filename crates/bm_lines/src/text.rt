@@ -6,6 +6,8 @@ use std::alloc::{AllocError, Global};
 use std::marker::Model;
 
 /// A text that a value keeps, seen as its bytes in UTF-8.
+/// It stands here, where its definition is. A crate of its own would only spare the board and the
+/// configuration this library.
 #[derive(Drop)]
 pub struct Text {
     string: String,

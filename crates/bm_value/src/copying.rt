@@ -85,7 +85,8 @@ fn pair_copied<A: Allocator, B: Allocator + Copy>(
 }
 
 impl<A: Allocator> Value<A> {
-    /// An equal tree whose parts lie in `alloc`.
+    /// An equal tree whose parts lie in `alloc`. It only passes on: the cycle of calls begins
+    /// behind it.
     ///
     /// # Errors
     ///
