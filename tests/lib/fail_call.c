@@ -1,8 +1,9 @@
 // Fails one call of a program's connections: the one with the number FAIL_CALL, counted from 1 among
 // all reads and writes of all its threads. It answers that the connection was reset, and the calls
-// after it succeed. What came of it is told in the file FAIL_TOLD: `failed`, and `again` where the
-// thread that met it called that connection once more. An answer to a handshake is read in pieces of
-// three bytes, the fewest that `tungstenite` doesn't take for an attack, and all else byte by byte.
+// after it succeed: one that fails for good can't show a program that tries again. What came of it
+// is told in the file FAIL_TOLD: `failed`, and `again` where the thread that met it called that
+// connection once more. An answer to a handshake is read in pieces of three bytes, the fewest that
+// `tungstenite` doesn't take for an attack, and all else byte by byte.
 // Where FAIL_UNHEARD is set a write that fails is told as done, and where FAIL_REPEATED is set it is
 // made again: so would a wrong program do.
 #define _GNU_SOURCE

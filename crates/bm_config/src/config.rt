@@ -12,6 +12,7 @@ pub struct Config {
     /// Where it serves logs.
     pub web: SocketAddr,
     /// The address that programs of workers are given, where it isn't the one it listens at.
+    /// It is any text that isn't empty: only the worker that is given a name can look it up.
     pub address: Option<Text>,
     /// How many items wait at the most between a worker and its logs.
     pub capacity: u32,

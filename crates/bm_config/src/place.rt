@@ -91,6 +91,8 @@ fn both(alloc: Global, outer: ArrayRow, inner: ArrayRow) -> Result<String, Alloc
 }
 
 /// A key, and where it stands.
+/// It is told by a text, in an object of JSON too. Numbers would take a member for each kind of
+/// row.
 #[derive(Clone, Copy, Debug, PartialEq, Eq)]
 pub struct Spot {
     pub key: Key,

@@ -74,6 +74,7 @@ fn tables(value: &Value) -> Option<&[Value]>
     }
 }
 
+// It only passes on, since two views of a value meet here.
 fn are_tables(values: &[Value]) -> bool
     ensures { result ≡ list_all is_table (map view values.now) }
 {

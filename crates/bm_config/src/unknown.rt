@@ -26,6 +26,8 @@ pub struct UnknownKey {
 }
 
 /// The keys of a text that nobody reads, table by table; none where the text is no TOML.
+/// They are found by a second reading. The configuration would else carry what only the master's
+/// first remarks want.
 pub fn unknown_keys(alloc: Global, text: &str) -> Result<Vec<UnknownKey>, AllocError>
     ensures { IfOk result (λ found. found.items ≡ unknown_keys text.now) }
 {

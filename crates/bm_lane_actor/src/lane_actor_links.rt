@@ -94,7 +94,8 @@ where
     }
 
     /// It is to be known soon whether the worker of the lane's link lives: it is asked for a sign of
-    /// life, and has little time for that.
+    /// life, and has little time for that. The connection of a dead machine would else look alive
+    /// for a minute, for which builds or another login wait.
     pub(crate) fn ask_for_life(&mut self) {
         if self.state.connection() == ConnectionState::Up {
             self.ask();
@@ -165,7 +166,8 @@ where
         self.gate.wake(self.place);
     }
 
-    /// A link that waits is told `busy`, since the master ends.
+    /// A link that waits is told `busy`, since the master ends. It would else see an end without a
+    /// word, and a text of its own would be one more exception of the protocol.
     pub(crate) fn put_off_waiting(&mut self) {
         let Some(link) = self.waiting.take() else {
             return;

@@ -19,7 +19,8 @@ pub const MOST_PENDING_LOGINS: u64 = 256;
 pub(crate) enum LoginEntry {
     /// There is a place for it.
     Room,
-    /// It takes the place of the one that has been silent longest, which is put out.
+    /// It takes the place of the one that has been silent longest, which is put out. The oldest
+    /// could be a worker in the midst of its login.
     InPlace,
     /// It doesn't: as many as may were put out and have not ended yet.
     Crowded,

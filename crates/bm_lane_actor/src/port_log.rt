@@ -28,7 +28,9 @@ pub(crate) fn polled(state: Result<LogState, ViewRefusal>, is_cancelled: bool) -
     }
 }
 
-/// What a line of a log says, where it is one of headers, and no longer than is told of it.
+/// What a line of a log says, where it is one of headers, and no longer than is told of it. A
+/// command's last one tells why it failed, as the web's readers see it. The session keeps no text
+/// of a `complete`: it would have to keep it for as long as it runs.
 pub(crate) fn header_in(alloc: Global, line: &str) -> Option<Text>
     ensures { IfSome result (λ said. (line.now ≡ codes "h" ++ (said ++ codes "\n"))
         × (length said ≤ 256)) }

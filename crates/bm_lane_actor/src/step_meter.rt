@@ -11,7 +11,8 @@ use std::marker::Model;
 const MOST_WAIT_TICKS: u32 = 1_000;
 
 /// Counts the ticks of a step's command, and tells when it has reached a limit. A limit of 0 is
-/// none. It counts while the lane is cut too: no worker is asked.
+/// none. It counts while the lane is cut too: no worker is asked, since one that hangs would not
+/// answer.
 #[derive(Drop)]
 pub struct StepMeter {
     max_bytes: u32,

@@ -2,7 +2,7 @@
 //!
 //! [`open_all`] opens a lane for each worker, [`deal`] gives each end to its owner, and
 //! [`settle_all`] closes the lanes once every end is back. Nothing here knows threads or
-//! processes.
+//! processes, so its checks are quicker than those of the threads' crate.
 //!
 //! Promised: how many viewers a lane is opened with, and who has which of its ends, in the lanes'
 //! order. A settled lane's logs, and what is told of it, are those of all that was heard.

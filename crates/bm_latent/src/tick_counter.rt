@@ -9,6 +9,8 @@ use std::time::Duration;
 
 /// How long a tick is, in milliseconds: of the master's threads, and of the counts of ticks in its
 /// configuration.
+/// It is a number, and no `Duration`: the conditions of `TickCounter` are facts on numbers. The
+/// worker has a tick of its own, since it stands on no crate of the master.
 pub const TICK_MS: u64 = 10;
 
 /// How many ticks are told of at once at the most, where who tells was late.

@@ -136,7 +136,9 @@ impl WorkerState {
         }
     }
 
-    // What is to be done with the process: the machine has heard of the event.
+    // What is to be done with the process: the machine has heard of the event. One that connects
+    // though it was to be stopped, or without a process of ours, is told to shut down. Else its
+    // process would not end, or builds would wait for the end of one that is gone.
     fn process_action(&self, event: WorkerEvent, act: Act) -> ProcessAction
         ensures { result ≡ process_action self.now event act }
     {
@@ -179,6 +181,8 @@ impl WorkerState {
     }
 
     /// Whether the worker's process is to be ended, since no build waits for its login any more.
+    /// None comes to want it again: all builds are there from the start, and one that waits for a
+    /// lock counts as waiting.
     pub fn is_needless(&self, is_wanted: bool) -> bool
         ensures { result ≡ is_needless self.now is_wanted }
     {

@@ -107,6 +107,7 @@ impl LineBatch {
     }
 
     /// Appends the lines of a text to the part with this name, or to a new part at the end.
+    /// It only passes on, since two views of a value meet here: the parts, and the batch of them.
     pub fn add(&mut self, name: &LogName, letter: Letter, text: &str) -> Result<(), AllocError>
         ensures ok { OnOk result (self.new
             ≡ with_item name.now (lines_of letter text.now) self.old) }

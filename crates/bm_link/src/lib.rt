@@ -1,4 +1,6 @@
-//! The ends of a WebSocket between a build master and a worker.
+//! The ends of a WebSocket between a build master and a worker. Both stand here, so a worker's
+//! program stands on the crates of lanes too. Frames, arena and faults would else want a third
+//! crate.
 //!
 //! A master's link reads one message a turn, gives its event to the reader's end of a lane, and
 //! writes the answer. A worker's link gives the message to the worker's core, and writes the

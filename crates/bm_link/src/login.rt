@@ -20,7 +20,8 @@ use std::alloc::Global;
 use std::io::{Read, Write};
 use tungstenite::{Message as Frame, NoMask, WebSocket};
 
-/// Why no user is let in.
+/// Why no user is let in. It has no `thiserror`: its crate makes another fault of it, and its text
+/// would be read by nobody.
 #[derive(Drop)]
 pub(crate) enum Unadmitted {
     /// A login with this name was read, which is that of no user.

@@ -1,4 +1,7 @@
 //! From bytes to a tree, from a tree to its message, and the end of a tree's arena.
+//!
+//! A link has a function for each kind of message that it reads. One for all would be given by its
+//! caller what is made of a tree, and the clause on that.
 
 ghost use Rattle.std.specs.Prelude.{◌≡◌, ◌≤◌, ◌⊎◌, IfOk, IfErr};
 ghost use Rattle.bm_value.specs.Spelling.{Spells};

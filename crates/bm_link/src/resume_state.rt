@@ -18,6 +18,9 @@ const FIRST_ASK: u64 = 1 << 62;
 /// has the session's text, and the orders that have no answer yet, with the bytes that were sent.
 /// It also has the number of the next request that is no order. Each lane has one of its own, and
 /// gives it to all of its links.
+///
+/// A call of a link takes it beside the reader's end. A value of both would be taken apart for each
+/// call, since the lane's own calls take a reader's end.
 #[derive(Drop)]
 pub struct ResumeState {
     resumable: bool,

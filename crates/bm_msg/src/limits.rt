@@ -104,7 +104,8 @@ fn parts_are_short(message: Outgoing) -> bool
     }
 }
 
-/// Whether the message's tree nests no deeper than 32.
+/// Whether the message's tree nests no deeper than 32. It only passes on, since two views of a
+/// message meet here: its parts, and its tree.
 pub fn message_nests(message: Outgoing) -> bool
     ensures { IsTrue result ↔ (depth (outgoing_tree message.entry) ≤ 32) }
 {

@@ -59,7 +59,8 @@ fn option_copied(text: &Option<Text>) -> Result<Option<Text>, AllocError>
 }
 
 impl Request {
-    /// An equal request.
+    /// An equal request. The table of cases is one function: a part of it would need a condition
+    /// that says which requests come to it.
     pub fn copy(&self, alloc: Global) -> Result<Request, AllocError>
         ensures { IfOk result (λ r. asked r ≡ asked self.now) }
     {

@@ -44,7 +44,8 @@ impl Remark<'_> {
         output.write_all(line.as_bytes())
     }
 
-    // The remark in this form.
+    // The remark in this form. The table of cases is one function: a part of it would need a
+    // condition that says which remarks come to it.
     fn told(&self, a: Global, shape: Shape) -> Result<String, AllocError>
         ensures { IfOk result (λ s. string_bytes s ≡ shaped shape (told self.now)) }
     {

@@ -13,7 +13,8 @@ use std::alloc::{AllocError, Global};
 use std::io;
 use std::io::{BufWriter, Read, Write};
 
-/// Why a replay ends before its script does.
+/// Why a replay ends before its script does. It has no `thiserror`: what is told of it is made
+/// elsewhere, and a text of its own would be read by nobody.
 #[derive(Drop)]
 enum Halt {
     /// A line of another form, with its number, counted from 1.

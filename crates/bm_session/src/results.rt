@@ -6,6 +6,8 @@ ghost use Rattle.bm_session.specs.Texts.{result_name};
 use std::fmt;
 
 /// How a command, a step or a build ended: the result codes of the Buildbot manual.
+/// It stands here, where its definition is. A crate of its own would only spare the board and the
+/// configuration this library.
 #[derive(Clone, Copy, Debug, PartialEq, Eq)]
 pub enum Results {
     Success,

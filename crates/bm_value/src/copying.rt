@@ -87,6 +87,7 @@ fn pair_copied<A: Allocator, B: Allocator + Copy>(
 impl<A: Allocator> Value<A> {
     /// An equal tree whose parts lie in `alloc`. Lists and pairs have no `copy` of their own, since
     /// the copy of a tree goes into an allocator that is named.
+    /// It only passes on, since the cycle of calls begins behind it.
     ///
     /// # Errors
     ///

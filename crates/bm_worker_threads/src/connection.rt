@@ -5,7 +5,8 @@ use std::alloc::Global;
 use std::sync::atomic::{AtomicU64, Ordering};
 use std::sync::{Arc, Wait};
 
-/// How a connection ended.
+/// How a connection ended. It has no `thiserror`: it decides what the worker does next, and a text
+/// would be read by nobody.
 #[derive(Clone, Copy, PartialEq, Eq)]
 pub enum ConnectionEnd {
     /// The master asked for the end of the worker.

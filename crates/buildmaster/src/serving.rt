@@ -15,7 +15,8 @@ use std::thread::Threads;
 use std::time::Clock;
 use std::{fs, io, str};
 
-/// Why there is no configuration.
+/// Why there is no configuration. It has no `thiserror`: what is told is a remark, whose text is
+/// proved.
 #[derive(Drop)]
 enum ConfigRefusal {
     /// The file can't be read.

@@ -16,6 +16,8 @@ use std::alloc::{AllocError, Global};
 use std::sync::Wait;
 
 /// The first items of a lane, as many as its queue takes at once, find room.
+/// Of later items no clause of `bm_lane` says it: it would compare what the reader put with what
+/// the writer took, in another thread. For one thread `bm_world` says it with drains.
 pub fn first_items_find_room<Y: Yard, R: Wait>(
     reader: &mut ReaderEnd<Y>,
     rt: &R,
@@ -64,6 +66,7 @@ pub fn drained_items_are_published<Y: Yard, R: Wait + Drop>(
 
 /// The lines that a viewer is given are those of all the items that it then counts. These are no
 /// fewer than before.
+/// A caller that looks twice would not refuse a look at an older copy, whose answers never go back.
 pub fn lines_are_of_all_that_was_seen<Y: Yard>(
     viewer: &mut Viewer<Y>,
     command: u64,
@@ -83,6 +86,9 @@ pub fn lines_are_of_all_that_was_seen<Y: Yard>(
 }
 
 /// A viewer is told that a log isn't there only where what it has seen has none.
+/// So a look that only tries a shared lock is refused by this, and by what the lock requires. One
+/// that takes a lock is refused by its signature, which has no `Wait` handle. One that spins has no
+/// falling measure.
 pub fn log_that_was_seen_is_there<Y: Yard>(
     viewer: &mut Viewer<Y>,
     command: u64,

@@ -1,7 +1,8 @@
 //! Proved callers. Each relies on one promise of a call, and is proved from its contract alone.
 //!
 //! The body of the call plays no part here, so the contract has to exclude each answer that breaks
-//! the promise. Bodies that give such answers stand in `wrong-bodies` of the crate of the call.
+//! the promise. Bodies that give such answers stand in `wrong-bodies` of the crate of the call. To
+//! edit such a body and check it again takes minutes, and a caller is proved in seconds.
 #![tactic(auto)]
 
 mod board;
