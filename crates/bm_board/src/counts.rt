@@ -12,6 +12,9 @@ use std::marker::Model;
 
 /// What the builds of a board hold and wait for, counted as they change. No call but `new` takes
 /// memory.
+///
+/// The board alone counts. A count beside it, in the queue, would be a second owner of one fact,
+/// with an invariant of its own.
 #[derive(Drop)]
 pub struct Counts {
     // Of each worker, how many slots are taken.

@@ -13,6 +13,9 @@ pub trait Copied: Sized {
 }
 
 /// Items in their order. Contracts see them as a list.
+///
+/// One type serves all lists of builds, steps, words and locks. With a type for each kind of item,
+/// each would need the same view and the same copy.
 #[derive(Drop)]
 pub struct Listed<T> {
     pub(crate) vec: Vec<T>,

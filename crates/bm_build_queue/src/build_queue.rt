@@ -30,6 +30,9 @@ pub enum Cancelled {
 /// see its board, its pools of viewers, and whether memory was wanting.
 ///
 /// On the board a build is one step, that of its runner, whose outcome is what the runner reports.
+/// Its own steps run in the build's thread, by `run_build`. Steps on the board would have the
+/// coordinator between any two of them. A build keeps its slot and its locks from the first to the
+/// last, so no other build could start earlier.
 #[derive(Drop)]
 pub struct BuildQueue<Y: Yard> {
     board: Board,

@@ -35,7 +35,8 @@ most = 0x7fff_ffff
 abbrev pub named : {A : Type 0} → Key → (List ℕ → Option A) → Members → Result A Key
 named key meaning members = and_then (text_at key members) (λ text. or_fault key (meaning text))
 
--- a worker's name: not empty, and not that of one before it
+-- A worker's name: not empty, and not that of one before it. A password, a lock's name and a step's
+-- name may be empty.
 abbrev pub new_worker : List WorkerConfig → List ℕ → Option (List ℕ)
 new_worker before name =
     if length name == 0 || list_any (λ w. bytes_eq w.name name) before then None else Some name
@@ -57,7 +58,7 @@ text_array d =
 abbrev pub texts_of : List Data → List (List ℕ)
 texts_of ds = filter_map as_str ds
 
--- the program that starts a worker
+-- The program that starts a worker. `latent = []` is at fault, since there is no program to start.
 abbrev pub program : Data → Option (Option (List (List ℕ)))
 program d = option_map (λ ds. Some (texts_of ds)) (text_array d)
 

@@ -47,7 +47,8 @@ abbrev pub list_of : Items → List Data
 list_of no_items = []
 list_of (item d ds) = d ∷ list_of ds
 
--- the text writes this address; None where there is no text, or it writes none
+-- The text writes this address; None where there is no text, or it writes none. It is a relation,
+-- since the toolchain's grammar of socket addresses is one.
 abbrev pub IsAddressOf : Option (List ℕ) → Option SocketAddr → Type 0
 IsAddressOf (Some text) (Some address) = IsSocketText text address
 IsAddressOf (Some text) None = (address : SocketAddr) → ¬ (IsSocketText text address)

@@ -39,7 +39,8 @@ table_of key d = or_fault key (as_table d)
 abbrev pub is_table : Data → Bool
 is_table d = is_some (as_table d)
 
--- the elements of an array of tables
+-- The elements of an array of tables. A key's own form is judged before what stands in its value:
+-- the array as a whole, then its tables in order. So `worker = [{}, 1]` is told as `worker`.
 abbrev pub tables : Data → Option (List Data)
 tables d = option_and_then (λ ds. if list_all is_table ds then Some ds else None) (elements d)
 

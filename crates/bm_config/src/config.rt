@@ -5,6 +5,9 @@ use bm_lines::Text;
 use std::net::SocketAddr;
 
 /// What a build master is to do.
+///
+/// It has no invariant: the definition makes values of it, and would have to prove what its
+/// equations say already. So a caller meets a limit once more where a call requires it.
 #[derive(Drop)]
 pub struct Config {
     /// Where it listens for workers. Port 0 lets the system choose.

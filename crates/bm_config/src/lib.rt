@@ -1,6 +1,8 @@
 //! The configuration of a build master: its addresses, workers, locks and builds. It is read from a
 //! text in TOML (toml.io, version 1.1), or the first key at fault is told.
 //!
+//! Of this tree the crate stands over `bm_board` and `bm_lines` alone.
+//!
 //! Promised: what `read_config` makes is what the text's tree says, and the fault that is told is
 //! the first one. A body could still want memory. That a text is the tree that it spells is the
 //! word of the crate of TOML.

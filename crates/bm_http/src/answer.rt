@@ -13,7 +13,8 @@ use std::alloc::{AllocError, Global};
 pub struct Answer {
     /// The status code.
     pub status: u16,
-    /// The bytes of the body: compact JSON, or nothing under 503.
+    /// The bytes of the body: compact JSON, or nothing under 503. They are a plain list, since
+    /// `hyper` takes these: a type round it would be opened at once.
     pub body: Vec<u8>,
 }
 

@@ -1,4 +1,7 @@
 //! The bodies of answers, byte for byte.
+//!
+//! They are `serde_json`'s to the last byte. A writer of this crate's own would be faster, and more
+//! code to keep.
 ghost use Rattle.std.specs.Prelude.{◌≡◌, codes, string_bytes, IfOk};
 ghost use Rattle.serde_json.specs.View.{view};
 ghost use Rattle.bm_http.specs.Bodies.{contents_text, error_text, log_text};

@@ -78,6 +78,8 @@ fn from_close(text: &[u8]) -> &[u8]
 }
 
 // Whether what stands behind an opening bracket is an address, a closing one and a port.
+// The address is one of IPv6. The grammar has later versions too, of which none exists: who can't
+// tell what one means is to refuse it.
 fn is_bracketed(text: &[u8]) -> bool
     ensures { IsTrue result ↔ IsBracketed text.now }
 {

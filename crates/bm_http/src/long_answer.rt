@@ -40,6 +40,9 @@ pub enum PieceError {
 /// the text.
 #[derive(Drop)]
 pub struct LongAnswer<Y: Yard> {
+    // What the first look had seen: of a viewer nothing is known from one lock to the next but that
+    // it is one. A viewer that has seen as much begins with the same items, so each piece is of the
+    // same log.
     mark: Mark<Y>,
     command: u64,
     name: String,
@@ -159,7 +162,8 @@ impl<Y: Yard> LongAnswer<Y> {
         })
     }
 
-    /// The lane that it is of.
+    /// The lane that it is of. It only advises whose viewer to take, and so has no clause: `next`
+    /// finds out another lane's viewer by the mark.
     pub fn lane(&self) -> u64 {
         self.mark.lane()
     }

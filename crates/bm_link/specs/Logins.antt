@@ -95,7 +95,9 @@ module _ {S : Type 0} where
       (new.stage ≡ stage.Failed) × (new.login ≡ None)
       × FailsToLogIn remaining contents users old f new
 
-  -- a login: after another, or on a link that is not open, it does nothing
+  -- A login: after another, or on a link that is not open, it does nothing. The stage and the login
+  -- stand beside the link, since cases go by arguments alone. Each contract gives those of that
+  -- very link.
   abbrev pub LogsInAt : (S → Option (List ℕ)) → (S → Option (List ℕ)) → List User → Stage
       → Option Named → LinkState S → Result ℕ LinkFault → LinkState S → Type 0
   LogsInAt remaining contents users stage.Open None old r new =

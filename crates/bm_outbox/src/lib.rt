@@ -1,6 +1,9 @@
 //! What a worker tells its master of its commands, and in which order: the texts of their pipes,
 //! joined, and their ends. Nothing here knows sockets, processes or threads.
 //!
+//! So contracts and wrong bodies reach what is decided. When the program hears, looks and sends is
+//! a loop of `bm_worker_threads`, which tests show.
+//!
 //! Promised: what waits is told in order, under the next numbers. What is said of a pipe is its
 //! text, in order, with the same lines. An exit code is told only by an [`ExitCode`], which only
 //! [`Pipes`] give that noted the ends of both pipes of its command, or gave them up after a minute.

@@ -9,6 +9,8 @@ use std::alloc::{AllocError, Global};
 use std::marker::Model;
 
 /// The entries that a port keeps, oldest first.
+///
+/// A type of its own, so that no port has to prove for itself that memory is taken before a start.
 #[derive(Drop)]
 pub struct Entries {
     vec: Vec<Told>,

@@ -17,6 +17,9 @@ pub struct Served<T, E> {
 }
 
 /// What answers requests, whatever carries them.
+///
+/// It is a trait so that the clauses of connections name no lane: types of lanes in them would make
+/// each check longer.
 pub trait Handler: Drop {
     /// What is left to tell of a long answer.
     type Rest: Drop;

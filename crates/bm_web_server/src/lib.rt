@@ -4,6 +4,8 @@
 //! [`serve`] takes them in and gives what they ask to a [`Handler`]. The one of a master is
 //! [`LogService`], which answers by the routes of `bm_http` and a viewer of each lane.
 //!
+//! The crate stands apart from `bm_http`, since what stands over `hyper` takes long to check.
+//!
 //! Promised: a response has the status and the text that the service gives for its request, or it
 //! is 503. A request whose field `Host` is no host gets 400, and no other does without the service.
 //! The pieces of a long answer that is told to its end are its text, joined.

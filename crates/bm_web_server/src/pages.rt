@@ -24,6 +24,9 @@ use std::convert::Infallible;
 use std::sync::{Arc, Wait};
 
 /// The pages of a service. A request's body is never read.
+///
+/// Clauses go as far as the response that `call` gives. That the connection carries its status and
+/// its text is `hyper`'s own promise.
 #[derive(Drop)]
 pub struct Pages<R, S> {
     pub rt: R,
@@ -159,6 +162,8 @@ fn whole<R: Wait + Drop, S: Handler>(body: Bytes, seen: Option<S::Source>) -> Pa
     PageBody::Whole(Some(body), seen)
 }
 
+// The response to a field `Host` that is no host, before anything else is looked at. It has no
+// body, as for what isn't HTTP: JSON would be one more text for what no client sends.
 fn bad_request<R: Drop, S: Handler>(alloc: Global) -> Response<PageBody<R, S>>
     ensures { replied S.text result ≡ bad_request_reply }
 {

@@ -11,7 +11,8 @@ use bm_value::{Items, Value};
 use std::alloc::{AllocError, Global};
 use std::marker::Model;
 
-/// A program and its words, in order.
+/// A program and its words, in order. It isn't a `Listed` of `bm_board`, since this crate sees no
+/// crate of builds.
 #[derive(Drop)]
 pub struct Argv {
     words: Vec<Text>,

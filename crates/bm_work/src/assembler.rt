@@ -9,7 +9,9 @@ use memchr::memchr;
 use std::alloc::{AllocError, Global};
 use std::marker::Model;
 
-/// The most bytes of a line that go into one text.
+/// The most bytes of a line that go into one text. A longer line is cut there, and each text is
+/// decoded by itself: a character across such a cut shows as U+FFFD in both. A cut between a pipe's
+/// pieces never shows, as the pieces are joined before they are decoded.
 const LONGEST: usize = 16_384;
 
 /// Joins what a pipe gives, piece by piece, to texts: each ends with its line, or after 16,384
