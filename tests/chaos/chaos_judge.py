@@ -87,6 +87,11 @@ ALLOWED = {False: ("SUCCESS", "RETRY", "CANCELLED"), True: ("SUCCESS", "EXCEPTIO
 STOPPED = "hinterrupted"
 
 
+def ends(lines):
+    """How these lines begin and end, for a person."""
+    return [f"{line[:60]} .. {line[-60:]}" for line in lines]
+
+
 def compare(step, lines):
     """Compares a log with what its command printed."""
     last = "hprogram finished with exit code 0"
@@ -100,7 +105,8 @@ def compare(step, lines):
         fault(f"log {step.log}, {step.result}: its header lines are {[lines[place][:100] for place in headers]}")
     for letter, printed in said.items():
         found = [line[1:] for line in lines if line[:1] == letter]
-        if is_stopped and found and any(line.startswith(found[-1]) for line in printed[len(found) - 1 : len(found)]):
+        due = printed[len(found) - 1 : len(found)]
+        if is_stopped and found and any(numbered_lines.may_begin(found[-1], line) for line in due):
             # The process was killed within this line.
             found.pop()
         wrong = judged(found, printed, has_ended or step.result == "SUCCESS")
@@ -109,7 +115,7 @@ def compare(step, lines):
             place = next((at for at, pair in enumerate(zip(found, printed)) if pair[0] != pair[1]), len(found))
             fault(
                 f"log {step.log}, {step.result}, pipe {letter}: {len(found)} of {len(printed)} lines, {wrong}; line {place} is"
-                f" {found[place : place + 1]!r:.100} for {printed[place : place + 1]!r:.100}"
+                f" {ends(found[place : place + 1])} for {ends(printed[place : place + 1])}"
             )
     FIGURES["lines compared"] += len(lines)
     FIGURES[f"logs that ended {step.result}"] += 1

@@ -47,6 +47,12 @@ def shown(line):
     return [text.decode(errors="replace").removesuffix("\n") for text in texts]
 
 
+def may_begin(start, line):
+    """Whether a process that was killed within this line may have said so much of it. A character
+    that was cut is shown as one U+FFFD."""
+    return line.startswith(start) or start.endswith("\ufffd") and line.startswith(start[:-1])
+
+
 def write(pipe, data):
     while data:
         data = data[os.write(pipe, data) :]

@@ -26,9 +26,28 @@ const TURNS: u64 = 1 << 32;
 #[derive(Drop)]
 struct BuildTask<Y: Yard, R: Wait + Clock + Drop> {
     number: u64,
+    worker: usize,
     viewer: Viewer<Y>,
     lane: LaneHandle<WorkerStream<R>>,
+    ghost of_the_worker: { viewer.lane ≡ worker },
     ghost fits: { viewer.lane ≡ lane },
+}
+
+impl<Y: Yard, R: Wait + Clock + Drop> BuildTask<Y, R> {
+    // The assignment comes back, which no thread took.
+    fn into_assignment(self) -> Assignment<Y> {
+        let BuildTask {
+            number,
+            worker,
+            viewer,
+            ..
+        } = self;
+        Assignment {
+            number,
+            worker,
+            viewer,
+        }
+    }
 }
 
 /// Tells the coordinator of a build's steps.
@@ -169,6 +188,7 @@ where
 {
     let BuildTask {
         number,
+        worker: _,
         viewer,
         lane,
     } = task;
@@ -202,41 +222,43 @@ fn task_of<Y: Yard, R: Wait + Clock + Drop>(
     };
     let Assignment {
         number,
-        worker: _,
+        worker,
         viewer,
     } = assignment;
     Ok(BuildTask {
         number,
+        worker,
         viewer,
         lane,
     })
 }
 
 /// Runs an assigned build in a thread of its own, which tells its end. Where no thread can be
-/// started, or memory is wanting, its viewer comes back.
+/// started, or memory is wanting, the assignment comes back.
 pub fn start_build<'s, E, Y, R>(
     scope: &Scope<'s, E>,
     shared: &'s SharedState<Y, R>,
     assignment: Assignment<Y>,
-) -> Result<(), Viewer<Y>>
+) -> Result<(), Assignment<Y>>
 where
     Y: Yard + Send + Sync + 's,
     R: Wait + Clock + Threads + Drop + Send + Sync + 's,
 {
     let (rt, alloc, gate) = (&shared.rt, shared.alloc, &shared.drain_gate);
+    let worker = assignment.worker;
     let Some((build, cancel)) = shared.build(assignment.number) else {
-        return Err(assignment.viewer);
+        return Err(assignment);
     };
-    cancel.begins(assignment.worker);
+    cancel.begins(worker);
     let (Ok(events), Ok(steps)) = (shared.events.copy(), shared.events.copy()) else {
-        return Err(assignment.viewer);
+        return Err(assignment);
     };
     let Ok((give, take)) = bounded::<BuildTask<Y, R>, Global>(alloc, 1) else {
-        return Err(assignment.viewer);
+        return Err(assignment);
     };
     let task = match task_of(shared.lanes.as_slice(), assignment) {
         Ok(task) => task,
-        Err(assignment) => return Err(assignment.viewer),
+        Err(assignment) => return Err(assignment),
     };
     // The task follows the thread, so that it isn't lost.
     let thread = scope.spawn(move || {
@@ -245,10 +267,10 @@ where
         }
     });
     if thread.is_err() {
-        return Err(task.viewer);
+        return Err(task.into_assignment());
     }
     match give.send(rt, task) {
         Ok(()) => Ok(()),
-        Err(error) => Err(error.into_inner().viewer),
+        Err(error) => Err(error.into_inner().into_assignment()),
     }
 }

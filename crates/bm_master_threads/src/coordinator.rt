@@ -8,6 +8,7 @@ use crate::held_builds::HeldBuilds;
 use crate::host::MasterHost;
 use crate::remarks::Remarks;
 use crate::shared_state::SharedState;
+use crate::unstarted_build::UnstartedBuild;
 use crate::worker_entry::WorkerEntry;
 use bm_build_queue::{BuildQueue, ViewerPool};
 use bm_lane::Yard;
@@ -57,6 +58,8 @@ pub struct CoordinatorLeft<Y: Yard, O> {
 pub struct Coordinator<'s, Y: Yard, R: Wait + Clock + Drop, O> {
     pub shared: &'s SharedState<Y, R>,
     pub queue: BuildQueue<Y>,
+    /// The build that has its slot, and whose thread could not be started yet.
+    pub unstarted: Option<UnstartedBuild<Y>>,
     /// The builds that hold their slots although they have their results.
     pub held: HeldBuilds<Y>,
     /// The workers, in their order.
@@ -101,9 +104,14 @@ where
         self.ticks.told(now)
     }
 
+    // Whether the start of a build is to be tried again.
+    fn is_short(&self) -> bool {
+        self.queue.is_short() || self.unstarted.is_some()
+    }
+
     // Whether ticks count.
     fn is_timed(&self) -> bool {
-        self.queue.is_short()
+        self.is_short()
             || !self.held.is_empty()
             || self.workers.iter().any(|worker| worker.is_timed())
     }
@@ -160,7 +168,7 @@ where
             let event = self.next_event(events);
             let ticks = self.ended_ticks();
             if is_timed {
-                self.is_stale = self.is_stale || self.queue.is_short();
+                self.is_stale = self.is_stale || self.is_short();
                 self.release_free();
                 for _ in 0..ticks {
                     self.tick();
@@ -229,6 +237,7 @@ where
             let mut coordinator = Coordinator {
                 shared,
                 queue,
+                unstarted: None,
                 held: HeldBuilds::new(shared.alloc),
                 workers,
                 output,

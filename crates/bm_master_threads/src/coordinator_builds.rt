@@ -4,11 +4,13 @@ use crate::build_thread::start_build;
 use crate::coordinator::Coordinator;
 use crate::events::FinishedBuild;
 use crate::host::MasterHost;
-use bm_build_queue::{Cancelled, HeldBuild};
+use crate::unstarted_build::UnstartedBuild;
+use bm_build_queue::{Assignment, Cancelled, HeldBuild};
 use bm_lane::{Viewer, Yard};
 use bm_operator::{OutputLine, Remark};
 use bm_session::Results;
 use std::io::Write;
+use std::sync::atomic::Ordering;
 use std::thread::Scope;
 
 impl<'s, Y, R, O> Coordinator<'s, Y, R, O>
@@ -17,21 +19,69 @@ where
     R: MasterHost + 's,
     O: Write + Drop,
 {
-    /// Starts each build that can be started.
+    /// Starts each build that can be started. Where the thread of one can't be, it is tried again at
+    /// the next tick, before all others.
     pub fn start_builds<E>(&mut self, scope: &Scope<'s, E>) {
         self.want();
         for _ in 0..self.queue.builds() {
-            let Some(assignment) = self.queue.next() else {
+            let Some(build) = self.next_build() else {
                 return;
             };
-            let (number, worker) = (assignment.number, assignment.worker);
-            match start_build(scope, self.shared, assignment) {
-                Ok(()) => self.begins(number, worker),
-                Err(viewer) => {
-                    self.has_failed = true;
-                    self.ends(number, Results::Retry, viewer);
-                }
+            if !self.start_one(scope, build) {
+                return;
             }
+        }
+    }
+
+    // The build that is to be started now.
+    fn next_build(&mut self) -> Option<UnstartedBuild<Y>> {
+        match self.unstarted.take() {
+            Some(build) => Some(build),
+            None => Some(UnstartedBuild::new(self.queue.next()?)),
+        }
+    }
+
+    // Starts a build, or ends one that isn't tried any more. The answer is whether the next one may
+    // be started now.
+    fn start_one<E>(&mut self, scope: &Scope<'s, E>, build: UnstartedBuild<Y>) -> bool {
+        let UnstartedBuild { assignment, tries } = build;
+        let (number, worker) = (assignment.number, assignment.worker);
+        if tries.is_given_up(self.is_cancelled(number)) {
+            self.gives_up(assignment);
+            return true;
+        }
+        match start_build(scope, self.shared, assignment) {
+            Ok(()) => {
+                self.begins(number, worker);
+                true
+            }
+            Err(assignment) => {
+                self.unstarted = Some(UnstartedBuild { assignment, tries });
+                false
+            }
+        }
+    }
+
+    // Whether a running build is to be cancelled.
+    fn is_cancelled(&self, number: u64) -> bool {
+        match self.shared.cancels.get(number as usize) {
+            Some(cancel) => cancel.flag.load(Ordering::SeqCst),
+            None => false,
+        }
+    }
+
+    // A build ends that never began: CANCELLED where it was cancelled, else RETRY.
+    fn gives_up(&mut self, assignment: Assignment<Y>) {
+        if !self.is_cancelled(assignment.number) {
+            self.has_failed = true;
+        }
+        self.ends(assignment.number, Results::Retry, assignment.viewer);
+    }
+
+    /// A tick has passed for the build whose thread is tried to be started.
+    pub fn tick_unstarted(&mut self) {
+        if let Some(build) = &mut self.unstarted {
+            build.tries.tick();
         }
     }
 

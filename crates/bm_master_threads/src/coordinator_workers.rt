@@ -123,6 +123,7 @@ where
             let has_build = self.queue.has_build(at);
             self.happens(at, WorkerEvent::Tick { has_build });
         }
+        self.tick_unstarted();
         self.want();
     }
 

@@ -31,6 +31,7 @@ mod setup;
 mod shared_state;
 mod sockets;
 mod threads;
+mod unstarted_build;
 mod web;
 mod worker_entry;
 mod worker_process;

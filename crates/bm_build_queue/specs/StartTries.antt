@@ -1,0 +1,14 @@
+-- How often the thread of a build is tried to be started.
+use Rattle.std.specs.Prelude.{ℕ, ◌+◌, ◌-◌, ◌^◌, Bool, min, nat_le, ◌||◌}
+
+-- so many ticks are tried at most: a minute
+abbrev pub most_ticks : ℕ
+most_ticks = 6000
+
+-- for how many ticks it was tried, a tick later
+abbrev pub tries_after : ℕ → ℕ
+tries_after ticks = min (ticks + 1) (2 ^ 32 - 1)
+
+-- it isn't tried again: it was for a minute, or its build is cancelled
+abbrev pub is_given_up : ℕ → Bool → Bool
+is_given_up ticks is_cancelled = is_cancelled || nat_le most_ticks ticks
