@@ -20,6 +20,61 @@
 //! are of bytes alone, and need no run.
 //!
 //! Not said: that a program makes these moves alone, and that anything arrives.
+//!
+//! # Which function makes which move
+//!
+//! The moves and steps are those of `Wired.antt` and `Cuts.antt`. No clause says that the programs
+//! make no others. The list names, for each, the function that makes it, and the definition that
+//! its contract cites. `tests/gate/recorded_runs` plays what both programs said in a run through
+//! the replay. That shows moves of the lane. Of a worker it looks that no request is passed over,
+//! and that what is sent again has the same bytes.
+//!
+//! - *Start*: `LaneState::start`, for `LaneActor::answer_start`. Cites `Starts` of `bm_lane_actor`,
+//!   by that of `bm_link`.
+//! - *Interrupt*: `LaneState::interrupt`, for `LaneActor::send_stop`. Cites `Interrupts` of both.
+//! - *Inquire*: `LaneState::shut_down`, which asks for a shutdown. The programs ask for nothing
+//!   else. Cites `ShutsDown`, by `AsksFor` of `bm_link`.
+//! - *Turn*: `LaneState::turn`, for `LaneActor::turn`. Cites `Turns`, by `Turned` of `bm_link`.
+//! - *Wait*: `Processes::next` and `Processes::run`, which put entries into the session's outbox.
+//!   What they put is said by contract, but a Wait may be any change.
+//! - *Tell*: `WorkerSession::send_next`, where no request is to be sent again. Cites `SendsNext`,
+//!   by `TellsOn` and `TellsNext`.
+//! - *Resend*: `WorkerSession::send_next`, where one is. Cites `SendsNext`, by `HandsOver`.
+//! - *Listen*: `WorkerSession::hear`. Cites `HearsBy`, by `Worked` of `bm_link`.
+//! - *Drain*: `WriterEnd::drain`, where it answers `Took`. Cites `Drains`.
+//! - *Look*: `Viewer::chunk`, `portion` and `state`. Cites `GivesChunk`, `GivesPortion`,
+//!   `GivesState`.
+//! - *Break*: no function: the network does, or an end that fails. A call whose write fails is the
+//!   move that succeeded, and then a Break. Cites none.
+//! - *Leave*: `WorkerSession::lose`; the end of the worker's process is one too. By the clauses
+//!   `link` and `kept`.
+//! - *Lose*: `LaneState::turn`, `start`, `interrupt` and `attach`, where the link has failed;
+//!   `give_up`, `expire` and `tick`. Cites `Ends` of `bm_link`; `GivesUp`, `Expires`, `Ticks`.
+//! - *Meet*: `LaneState::attach`, for `LaneActor::admit`. Cites `Attaches` of `bm_lane_actor`, by
+//!   that of `bm_link`.
+//! - *Begin*: `WorkerSession::connect`, behind the answer that it reads. Cites `ConnectsBy`, by
+//!   `BeginsBy`.
+//!
+//! No other thread makes them, since each value has one owner, and its calls take it by `&mut`:
+//!
+//! - *Start to Turn, Lose, Meet*: the `LaneState` owns the lane's `ReaderEnd`, its `MasterLink` and
+//!   its `ResumeState`, in private fields. `start_actor` moves it into the lane's thread, where the
+//!   `LaneActor` owns it until `serve_lane` ends. Others have a `LaneHandle`: they send a request
+//!   or a signal to the `Mailbox`, and the actor makes the move. A login's thread owns its
+//!   `MasterLink` until the request `Attach` moves it there.
+//! - *Tell, Resend, Listen, Leave, Begin, Wait*: the `WorkerSession` owns the core, the backlog and
+//!   the `WorkerLink` in private fields. The `BuildWorker` owns the session, and is a local value
+//!   of `work_run` on the worker's main thread. The outbox is a public field, which `BuildWorker`
+//!   alone lends out, to `Processes` on the same thread. The threads of a pipe and of a connection
+//!   send mail.
+//! - *Drain*: a `WriterEnd` lies behind a lock. A thread of the pool (`writers`), or `drain_lanes`
+//!   in its place, has it while it holds the lock.
+//! - *Look*: a `Viewer` is moved to the thread of a build, and back to the coordinator at its end.
+//!   Those of the web lie in a `LogService`: a look takes one out, under the lock of its lane.
+//!
+//! What ownership doesn't say: a connection's thread has a second handle of the worker's socket.
+//! That it peeks there, and takes and writes nothing, is by its body alone. So it is that the
+//! outbox gets nothing but what `Processes` puts there.
 #![tactic(auto)]
 
 pub mod laws;
