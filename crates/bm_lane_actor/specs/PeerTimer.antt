@@ -1,5 +1,5 @@
 -- When a silent worker is asked for a sign of life, and when it is taken for dead.
-use Rattle.std.specs.Prelude.{ℕ, ◌-◌, ◌==◌, Bool, true, false, ◌&&◌, ◌||◌, not, nat_le, min, if◌then◌else◌, Option, Some, None}
+use Rattle.std.specs.Prelude.{ℕ, ◌-◌, ◌==◌, Bool, true, false, ◌&&◌, ◌||◌, not, nat_le, max, min, if◌then◌else◌, Option, Some, None}
 use Rattle.std.specs.Option.{option_map_or}
 use Rattle.bm_lane_actor.specs.declared.peer_timer.PeerAction.{PeerAction}
 use Rattle.bm_lane_actor.specs.declared.peer_timer.PeerAction.TheVariants as action
@@ -58,3 +58,14 @@ abbrev pub rest_at : ℕ → PeerView → ℕ
 rest_at now s =
     option_map_or (λ since. min (remaining (silent_for s) s.since now) (remaining answer_within since now))
     s.wanted (remaining (silent_for s) s.since now)
+
+-- the peer of a link that waits for a sign of life may leave
+abbrev pub most_glance : Bool → ℕ
+most_glance true = 100
+most_glance false = 60000
+
+-- how long an actor waits at its mailbox at most, whose worker needs nothing for so long while it is
+-- up, and on which another link may wait
+abbrev pub glance_at : Bool → ℕ → Bool → ℕ
+glance_at true rest is_wanted = max 1 (min rest (most_glance is_wanted))
+glance_at false rest is_wanted = most_glance is_wanted

@@ -10,7 +10,7 @@ use crate::lane_event::{EventSink, event_after, loss_of};
 use crate::lane_request::{LaneRequest, LaneSignal};
 use crate::lane_state::{Awaited, LaneState};
 use crate::mailbox::{Mailbox, NextRequest};
-use crate::peer_timer::PeerTimer;
+use crate::peer_timer::{PeerTimer, glance_ms};
 use crate::read_watch::ReadWatch;
 use crate::stop_orders::StopOrders;
 use crate::stream::WorkerStream;
@@ -22,12 +22,6 @@ use bumpalo::Bump;
 use std::alloc::Global;
 use std::sync::Wait;
 use std::time::{Clock, Duration, Instant};
-
-/// How long an actor waits at its mailbox at the most, in milliseconds.
-const GLANCE_MS: u64 = 60_000;
-
-/// How long, where another link waits for a sign of life: its peer may leave.
-const WANTED_GLANCE_MS: u64 = 100;
 
 /// The most bytes that the arena of a lane's messages takes, and what it keeps after a message. A
 /// reader without a tree would spare them, and be a second decoder. No clause has this limit, since
@@ -151,15 +145,8 @@ where
 
     /// How long it waits for a request at most: until something is to be done about a silent worker.
     fn glance(&self) -> Duration {
-        let most = if self.waiting.is_some() {
-            WANTED_GLANCE_MS
-        } else {
-            GLANCE_MS
-        };
-        Duration::from_millis(match self.state.connection() {
-            ConnectionState::Up => self.rest().min(most).max(1),
-            ConnectionState::Cut | ConnectionState::Down => most,
-        })
+        let is_up = matches!(self.state.connection(), ConnectionState::Up);
+        Duration::from_millis(glance_ms(is_up, self.rest(), self.waiting.is_some()))
     }
 
     /// Counts the ticks of a lane that is cut: one that isn't awaited any more is given up.

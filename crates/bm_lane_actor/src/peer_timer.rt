@@ -2,7 +2,7 @@
 
 ghost use Rattle.std.specs.Prelude.{◌≡◌};
 ghost use Rattle.std.specs.Option.{is_some};
-ghost use Rattle.bm_lane_actor.specs.PeerTimer.{after_action, action_at, heard_at, remaining, rest_at, started, wanted_at};
+ghost use Rattle.bm_lane_actor.specs.PeerTimer.{after_action, action_at, glance_at, heard_at, remaining, rest_at, started, wanted_at};
 
 use std::marker::Model;
 
@@ -14,6 +14,12 @@ pub const DEAD_AFTER_MS: u64 = 60_000;
 
 /// How long a worker may be silent once another connection asks for its lane, in milliseconds.
 pub const ANSWER_WITHIN_MS: u64 = 1_500;
+
+/// How long an actor waits at its mailbox at the most.
+const GLANCE_MS: u64 = 60_000;
+
+/// How long, where another link waits for a sign of life: its peer may leave.
+const WANTED_GLANCE_MS: u64 = 100;
 
 /// What is to be done about a worker.
 #[derive(Clone, Copy, Debug, PartialEq, Eq)]
@@ -142,4 +148,21 @@ fn remaining(most: u64, since: u64, now: u64) -> u64
     ensures { result ≡ remaining most since now }
 {
     most.saturating_sub(now.saturating_sub(since))
+}
+
+/// How long an actor waits at its mailbox at most, in milliseconds. While it is up its worker needs
+/// nothing for `rest_ms`. `is_wanted`: another link waits for a sign of life.
+pub(crate) fn glance_ms(is_up: bool, rest_ms: u64, is_wanted: bool) -> u64
+    ensures { result ≡ glance_at is_up rest_ms is_wanted }
+{
+    let most = if is_wanted {
+        WANTED_GLANCE_MS
+    } else {
+        GLANCE_MS
+    };
+    if is_up {
+        rest_ms.min(most).max(1)
+    } else {
+        most
+    }
 }

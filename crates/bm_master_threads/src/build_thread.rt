@@ -9,7 +9,7 @@ use bm_lane::{Viewer, Yard};
 use bm_lane_actor::{CancelFlag, DrainGate, LaneHandle, LanePort, Watch, WorkerStream, handle_of};
 use bm_lines::Text;
 use bm_operator::{StartRefusal, StepEvent, StepLimit};
-use bm_runner::run_build;
+use bm_runner::{place_of, run_build};
 use bm_session::Results;
 use crossbeam_channel::bounded;
 use std::alloc::Global;
@@ -92,15 +92,11 @@ impl<'s, Y: Yard, R: Wait + Clock> StepReporter<'s, Y, R> {
         }
     }
 
-    // This step is the next. A step that is left out doesn't always run, and behind it none does that
-    // doesn't: so it is the first of those to come that always run where it does.
+    // This step is the next.
     fn reaches(&mut self, step: &StepPlan) {
-        for (place, one) in self.steps.iter().enumerate() {
-            if place >= self.behind && one.always_run == step.always_run {
-                self.place = place;
-                self.behind = place.saturating_add(1);
-                break;
-            }
+        if let Some(place) = place_of(self.steps, self.behind, step.always_run) {
+            self.place = place;
+            self.behind = place.saturating_add(1);
         }
         self.name = step.name.copy().ok();
     }

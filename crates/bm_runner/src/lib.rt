@@ -8,7 +8,9 @@
 mod entries;
 mod port;
 mod run;
+mod step_place;
 
 pub use entries::Entries;
 pub use port::{Polled, Port, Told};
 pub use run::{Report, run_build};
+pub use step_place::place_of;
