@@ -1,63 +1,69 @@
 -- When a silent worker is asked for a sign of life, and when it is taken for dead.
 use Rattle.std.specs.Prelude.{ℕ, ◌-◌, ◌==◌, Bool, true, false, ◌&&◌, ◌||◌, not, nat_le, max, min, if◌then◌else◌, Option, Some, None}
-use Rattle.std.specs.Option.{option_map_or}
+use Rattle.std.specs.Option.{is_some, option_map_or}
 use Rattle.bm_lane_actor.specs.declared.peer_timer.PeerAction.{PeerAction}
 use Rattle.bm_lane_actor.specs.declared.peer_timer.PeerAction.TheVariants as action
 
--- The count of what came from the worker, and when it was first seen. Whether the worker was asked
+-- The count of what came from the worker, and when it was first seen. When the worker was asked
 -- since, and since when another connection asks for its lane. Times are in milliseconds.
 pub record PeerView : Type 0 where
   pub count : ℕ
   pub since : ℕ
-  pub asked : Bool
+  pub asked : Option ℕ
   pub wanted : Option ℕ
 
 abbrev pub ask_after : ℕ
 ask_after = 15000
 
+-- from when it was asked
 abbrev pub dead_after : ℕ
-dead_after = 60000
+dead_after = 45000
 
 abbrev pub answer_within : ℕ
 answer_within = 1500
 
 abbrev pub started : ℕ → ℕ → PeerView
-started count now = record { count = count; since = now; asked = false; wanted = None }
+started count now = record { count = count; since = now; asked = None; wanted = None }
 
 -- another count says that the worker lives
 abbrev pub heard_at : ℕ → ℕ → PeerView → PeerView
 heard_at count now s = if s.count == count then s else started count now
 
--- the worker doesn't answer though another connection asks for its lane
-abbrev pub is_unanswered : ℕ → Option ℕ → Bool
-is_unanswered now wanted = option_map_or (λ since. nat_le answer_within (now - since)) wanted false
+-- so many milliseconds have passed since then
+abbrev pub has_passed : ℕ → ℕ → Option ℕ → Bool
+has_passed most now since = option_map_or (λ at. nat_le most (now - at)) since false
+
+-- the worker doesn't answer though it was asked, or another connection asks for its lane
+abbrev pub is_unanswered : ℕ → PeerView → Bool
+is_unanswered now s = has_passed answer_within now s.wanted || has_passed dead_after now s.asked
 
 -- it is asked once for each silence
 abbrev pub action_at : ℕ → PeerView → PeerAction
 action_at now s =
-    if is_unanswered now s.wanted || nat_le dead_after (now - s.since) then action.GiveUp
-    else (if nat_le ask_after (now - s.since) && not s.asked then action.Ask else action.Nothing)
+    if is_unanswered now s then action.GiveUp
+    else (if not (is_some s.asked) && nat_le ask_after (now - s.since) then action.Ask
+    else action.Nothing)
 
-abbrev pub after_action : PeerAction → PeerView → PeerView
-after_action action.Ask s = record s { asked = true }
-after_action _ s = s
+abbrev pub after_action : ℕ → PeerAction → PeerView → PeerView
+after_action now action.Ask s = record s { asked = Some now }
+after_action now _ s = s
 
 abbrev pub wanted_at : ℕ → PeerView → PeerView
-wanted_at now s = record s { asked = true; wanted = Some now }
+wanted_at now s = record s { asked = Some (option_map_or (λ at. at) s.asked now); wanted = Some now }
 
 -- how much of so many milliseconds is left that have begun then
 abbrev pub remaining : ℕ → ℕ → ℕ → ℕ
 remaining most since now = most - (now - since)
 
 -- how long it may be silent until something is to be done
-abbrev pub silent_for : PeerView → ℕ
-silent_for s = if s.asked then dead_after else ask_after
+abbrev pub silent_for : ℕ → PeerView → ℕ
+silent_for now s = option_map_or (λ at. remaining dead_after at now) s.asked (remaining ask_after s.since now)
 
 -- how long nothing is to be done, if nothing comes from the worker
 abbrev pub rest_at : ℕ → PeerView → ℕ
 rest_at now s =
-    option_map_or (λ since. min (remaining (silent_for s) s.since now) (remaining answer_within since now))
-    s.wanted (remaining (silent_for s) s.since now)
+    option_map_or (λ since. min (silent_for now s) (remaining answer_within since now)) s.wanted
+    (silent_for now s)
 
 -- the peer of a link that waits for a sign of life may leave
 abbrev pub most_glance : Bool → ℕ

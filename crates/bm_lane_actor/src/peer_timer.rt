@@ -2,15 +2,16 @@
 
 ghost use Rattle.std.specs.Prelude.{◌≡◌};
 ghost use Rattle.std.specs.Option.{is_some};
-ghost use Rattle.bm_lane_actor.specs.PeerTimer.{after_action, action_at, glance_at, heard_at, remaining, rest_at, started, wanted_at};
+ghost use Rattle.bm_lane_actor.specs.PeerTimer.{after_action, action_at, glance_at, heard_at, is_unanswered, remaining, rest_at, started, wanted_at};
 
 use std::marker::Model;
 
 /// How long a worker may be silent before it is asked for a sign of life, in milliseconds.
 pub const ASK_AFTER_MS: u64 = 15_000;
 
-/// How long a worker may be silent before it is taken for dead, in milliseconds.
-pub const DEAD_AFTER_MS: u64 = 60_000;
+/// How long a worker that was asked may be silent before it is taken for dead, in milliseconds. The
+/// count begins with the question: a master that stood still asks first.
+pub const DEAD_AFTER_MS: u64 = 45_000;
 
 /// How long a worker may be silent once another connection asks for its lane, in milliseconds.
 pub const ANSWER_WITHIN_MS: u64 = 1_500;
@@ -38,8 +39,8 @@ pub struct PeerTimer {
     count: u64,
     /// When the count was first seen.
     since: u64,
-    /// Whether it was asked since.
-    is_asked: bool,
+    /// When it was asked since.
+    asked: Option<u64>,
     /// Since when another connection asks for its lane.
     wanted: Option<u64>,
 }
@@ -52,7 +53,7 @@ impl Model for PeerTimer {
     ghost view = { λ t. record {
       count = t.count;
       since = t.since;
-      asked = t.is_asked;
+      asked = t.asked;
       wanted = t.wanted;
     } };
 }
@@ -65,7 +66,7 @@ impl PeerTimer {
         PeerTimer {
             count,
             since: now,
-            is_asked: false,
+            asked: None,
             wanted: None,
         }
     }
@@ -79,18 +80,27 @@ impl PeerTimer {
         }
     }
 
+    /// Whether nothing came since it was asked, for longer than it has for an answer.
+    fn is_unanswered(&self, now: u64) -> bool
+        ensures { result ≡ is_unanswered now self.now }
+    {
+        if let Some(since) = self.wanted {
+            if ANSWER_WITHIN_MS <= now.saturating_sub(since) {
+                return true;
+            }
+        }
+        match self.asked {
+            Some(since) => DEAD_AFTER_MS <= now.saturating_sub(since),
+            None => false,
+        }
+    }
+
     fn action(&self, now: u64) -> PeerAction
         ensures { result ≡ action_at now self.now }
     {
-        let silent = now.saturating_sub(self.since);
-        if let Some(since) = self.wanted {
-            if ANSWER_WITHIN_MS <= now.saturating_sub(since) {
-                return PeerAction::GiveUp;
-            }
-        }
-        if DEAD_AFTER_MS <= silent {
+        if self.is_unanswered(now) {
             PeerAction::GiveUp
-        } else if ASK_AFTER_MS <= silent && !self.is_asked {
+        } else if self.asked.is_none() && ASK_AFTER_MS <= now.saturating_sub(self.since) {
             PeerAction::Ask
         } else {
             PeerAction::Nothing
@@ -100,12 +110,12 @@ impl PeerTimer {
     /// What is to be done now. It is asked once for each silence.
     pub fn look(&mut self, count: u64, now: u64) -> PeerAction
         ensures action { result ≡ action_at now (heard_at count now self.old) }
-        ensures timer { self.new ≡ after_action result (heard_at count now self.old) }
+        ensures timer { self.new ≡ after_action now result (heard_at count now self.old) }
     {
         self.hear(count, now);
         let action = self.action(now);
         if action == PeerAction::Ask {
-            self.is_asked = true;
+            self.asked = Some(now);
         }
         action
     }
@@ -115,12 +125,10 @@ impl PeerTimer {
     pub fn rest(&self, now: u64) -> u64
         ensures { result ≡ rest_at now self.now }
     {
-        let silent_for = if self.is_asked {
-            DEAD_AFTER_MS
-        } else {
-            ASK_AFTER_MS
+        let rest = match self.asked {
+            Some(since) => remaining(DEAD_AFTER_MS, since, now),
+            None => remaining(ASK_AFTER_MS, self.since, now),
         };
-        let rest = remaining(silent_for, self.since, now);
         match self.wanted {
             Some(since) => rest.min(remaining(ANSWER_WITHIN_MS, since, now)),
             None => rest,
@@ -131,7 +139,7 @@ impl PeerTimer {
     pub fn want(&mut self, now: u64)
         ensures { self.new ≡ wanted_at now self.old }
     {
-        self.is_asked = true;
+        self.asked = Some(self.asked.unwrap_or(now));
         self.wanted = Some(now);
     }
 

@@ -6,8 +6,8 @@ ghost use Rattle.bm_outbox.specs.Keepalives.{after_silence};
 /// After how much silence the master is asked for a sign of life.
 const PING_AFTER_SECONDS: u64 = 15;
 
-/// After how much silence the master counts as lost.
-const LOST_AFTER_SECONDS: u64 = 60;
+/// How long it has from then on, until it counts as lost.
+const ANSWER_WITHIN_SECONDS: u64 = 45;
 
 /// What is to be done about a silent master.
 #[derive(Clone, Copy, PartialEq, Eq)]
@@ -20,16 +20,26 @@ pub enum Keepalive {
     GiveUp,
 }
 
-/// What is to be done about a master that has been silent for so long, and was pinged meanwhile or
-/// not. It is pinged once after 15 seconds, and given up after 60.
-pub fn after_silence(silent_seconds: u64, was_pinged: bool) -> Keepalive
-    ensures { result ≡ after_silence silent_seconds was_pinged }
+/// What is to be done about a master that has been silent for so long, and was pinged so long ago,
+/// where it was. It is pinged once after 15 seconds, and given up 45 seconds behind the ping. So a
+/// worker that stood still for an hour asks first.
+pub fn after_silence(silent_seconds: u64, pinged_seconds: Option<u64>) -> Keepalive
+    ensures { result ≡ after_silence silent_seconds pinged_seconds }
 {
-    if silent_seconds >= LOST_AFTER_SECONDS {
-        Keepalive::GiveUp
-    } else if silent_seconds >= PING_AFTER_SECONDS && !was_pinged {
-        Keepalive::Ping
-    } else {
-        Keepalive::Wait
+    match pinged_seconds {
+        Some(passed) => {
+            if passed >= ANSWER_WITHIN_SECONDS {
+                Keepalive::GiveUp
+            } else {
+                Keepalive::Wait
+            }
+        }
+        None => {
+            if silent_seconds >= PING_AFTER_SECONDS {
+                Keepalive::Ping
+            } else {
+                Keepalive::Wait
+            }
+        }
     }
 }

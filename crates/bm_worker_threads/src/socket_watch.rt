@@ -35,16 +35,21 @@ impl<S: OpenStream + Drop> SocketWatch<S> {
     /// nobody hears it.
     fn watch<R: Wait + Clock>(&self, rt: &R) -> bool {
         let begun = Instant::now(rt).ok();
-        let mut has_pinged = false;
+        let (mut has_pinged, mut pinged) = (false, None);
         for _ in rt.forever() {
             if !is_silent(&self.stream) {
                 return self.tell(rt, WorkerMail::Readable(self.connection));
             }
-            let next = after_silence(seconds_since(rt, begun), has_pinged);
+            let pinged_seconds = if has_pinged {
+                Some(seconds_since(rt, pinged))
+            } else {
+                None
+            };
+            let next = after_silence(seconds_since(rt, begun), pinged_seconds);
             if next == Keepalive::Wait {
                 continue;
             }
-            has_pinged = true;
+            (has_pinged, pinged) = (true, Instant::now(rt).ok());
             let is_heard = self.tell(rt, WorkerMail::Silent(self.connection, next));
             if !is_heard || next == Keepalive::GiveUp {
                 return is_heard;
