@@ -75,6 +75,23 @@
 //! What ownership doesn't say: a connection's thread has a second handle of the worker's socket.
 //! That it peeks there, and takes and writes nothing, is by its body alone. So it is that the
 //! outbox gets nothing but what `Processes` puts there.
+//!
+//! # What refuses the ways to break it
+//!
+//! Each has a wrong body that a call's clause refuses, and a wrong sentence that a law refuses
+//! (`tests/beside/wrong_sentences`):
+//!
+//! - An update is sent before the core has it: `said_but_not_kept` of `bm_work`; the sentence
+//!   `update_before_the_core_has_it`.
+//! - An answer leaves before the trace took the update: `answered_before_the_lane_took_it` of
+//!   `bm_link`; `answered_before_the_trace_took_it`.
+//! - A request is sent again under another number: `resend_renumbers` of `bm_work`;
+//!   `another_request_is_sent_again`.
+//! - A session begins twice: `resumed_session_begins_anew` of `bm_worker_session`; a sentence of
+//!   that name.
+//! - An order is dropped at a resumption: `orders_are_not_sent_again` of `bm_link`, for which the
+//!   caller `order_is_sent_again` stands. No law refuses it: a command that isn't run makes no log
+//!   wrong.
 #![tactic(auto)]
 
 pub mod laws;
