@@ -23,6 +23,7 @@ mod host;
 mod mailbox;
 mod marks;
 mod pipe_reader;
+mod pipe_threads;
 mod processes;
 mod ready_stream;
 mod run;

@@ -8,7 +8,7 @@ use crate::elapsed::{millis_since, whole_millis};
 use crate::host::Host;
 use crate::mailbox::{PipeEvent, ProcessEvent, WorkerMail};
 use crate::marks::Marks;
-use crate::pipe_reader::PipeReader;
+use crate::pipe_threads::PipeTask;
 use crate::running_command::RunningCommand;
 use crate::starting::{permits, started};
 use crate::sweeping::Sweeper;
@@ -18,10 +18,8 @@ use bm_work::Argv;
 use crossbeam_channel::{Receiver, Sender};
 use std::alloc::{AllocError, Global};
 use std::collections::VecDeque;
-use std::io::Read;
-use std::process::Child;
+use std::process::{Child, ChildStderr, ChildStdout};
 use std::sync::Wait;
-use std::thread;
 use std::time::{Clock, Duration, Instant};
 
 /// How much mail lies before the owner until the threads wait in turn.
@@ -147,7 +145,8 @@ impl Processes {
         }
     }
 
-    /// Starts a process and the threads of its pipes, or answers why one of them can't be started.
+    /// Starts the threads of a process's pipes, and then the process, or answers why one of them
+    /// can't be started.
     fn starts<R>(
         &mut self,
         rt: &R,
@@ -160,15 +159,29 @@ impl Processes {
     {
         self.running.reserve(1)?;
         self.killed.reserve(1)?;
-        let (permits, given) = permits(rt, alloc)?;
         self.sweepers.reserve(1)?;
+        let (permits, given) = permits(rt, alloc)?;
         self.started = self.started.wrapping_add(1);
         let mark = self.marks.value(self.started)?;
-        let child = match started(rt, alloc, words, mark.as_str()) {
+        let output: Option<Sender<ChildStdout>> = self
+            .task(command, Letter::O, &given)
+            .start(rt, alloc);
+        let Some(output) = output else {
+            return Ok(Some(StartFault::NoThread));
+        };
+        let errors: Option<Sender<ChildStderr>> = self
+            .task(command, Letter::E, &given)
+            .start(rt, alloc);
+        let Some(errors) = errors else {
+            return Ok(Some(StartFault::NoThread));
+        };
+        let mut child = match started(rt, alloc, words, mark.as_str()) {
             Ok(child) => child,
             Err(why) => return Ok(Some(why)),
         };
-        let mut process = RunningCommand {
+        let are_given = gives(rt, &output, child.stdout.take())
+            && gives(rt, &errors, child.stderr.take());
+        let process = RunningCommand {
             number: self.started,
             child,
             pipes: Pipes::open(command),
@@ -179,7 +192,7 @@ impl Processes {
             stop: None,
             ended: None,
         };
-        if self.watches(rt, alloc, &mut process, &given) {
+        if are_given {
             self.running.push(process)?;
             return Ok(None);
         }
@@ -187,56 +200,15 @@ impl Processes {
         Ok(Some(StartFault::NoThread))
     }
 
-    /// Starts the threads of a process's pipes, or answers that one of them can't be started.
-    fn watches<R>(
-        &self,
-        rt: &R,
-        alloc: Global,
-        process: &mut RunningCommand,
-        permits: &Receiver<()>,
-    ) -> bool
-    where
-        R: Host,
-    {
-        let (output, errors) = (process.child.stdout.take(), process.child.stderr.take());
-        match (output, errors) {
-            (Some(output), Some(errors)) => {
-                self.read_pipe(rt, alloc, process, permits, Letter::O, output)
-                    && self.read_pipe(rt, alloc, process, permits, Letter::E, errors)
-            }
-            _ => false,
-        }
-    }
-
-    /// Starts the thread of a pipe.
-    fn read_pipe<R, P>(
-        &self,
-        rt: &R,
-        alloc: Global,
-        process: &RunningCommand,
-        permits: &Receiver<()>,
-        letter: Letter,
-        pipe: P,
-    ) -> bool
-    where
-        R: Host,
-        P: Read + Drop + Send + 'static,
-    {
-        let owner: Result<_, _> = self.owner.clone();
-        let permits: Result<_, _> = permits.clone();
-        let (Ok(owner), Ok(permits)) = (owner, permits) else {
-            return false;
-        };
-        let reader = PipeReader {
-            process: process.number,
-            command: process.pipes.command(),
+    /// What the thread of a pipe is to do, of the process that is started last.
+    fn task<'a>(&'a self, command: u64, letter: Letter, permits: &'a Receiver<()>) -> PipeTask<'a> {
+        PipeTask {
+            process: self.started,
+            command,
             letter,
-            owner,
+            owner: &self.owner,
             permits,
-        };
-        let handle = *rt;
-        // A thread that reads a silent pipe may outlive the program's work, so it is never joined.
-        thread::spawn(rt, move || reader.run(&handle, alloc, pipe)).is_ok()
+        }
     }
 
     /// Keeps what a pipe's thread tells until its command's turn. That of a pipe that is waited for
@@ -360,6 +332,14 @@ impl Processes {
         let _ = process.permits.send(rt, ());
         self.running.push(process)?;
         outbox.push(OutboxEntry::Text { command, said })
+    }
+}
+
+/// Gives a thread its pipe. False where there is none.
+fn gives<R: Wait, P: Drop>(rt: &R, thread: &Sender<P>, pipe: Option<P>) -> bool {
+    match pipe {
+        Some(pipe) => thread.send(rt, pipe).is_ok(),
+        None => false,
     }
 }
 
