@@ -18,6 +18,7 @@ const MOST_TRIES: u32 = 20;
 const PAUSE_MS: u64 = 10;
 
 /// Of which command, and of which of its pipes, a thread is to tell.
+#[derive(Drop)]
 pub(crate) struct PipeTask<'a> {
     /// The number of the process.
     pub(crate) process: u64,
