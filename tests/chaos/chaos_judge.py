@@ -59,8 +59,9 @@ LEAST = {
     "short commands beside a noisy one": (4, 20),
 }
 
-# What comes as well once all builds are over.
-OWED = [name for name in LEAST if "connects" in name or "door" in name or "crowds" in name or "dark" in name]
+# What comes as well once all builds are over, by words of its name.
+COMES_LATER = ("connects", "door", "crowds", "dark", "logins", "trickle", "kills", "stops", "blocked", "readers that stopped")
+OWED = [name for name in LEAST if any(word in name for word in COMES_LATER)]
 
 
 def judged(found, printed, is_whole):
