@@ -1,7 +1,9 @@
 // Refuses one start of a thread: the one with the number REFUSE_THREAD, counted from 1 among those
 // of one thread. That is the main thread where REFUSE_OF is 0, and else the one that the main
 // thread started as its first, second and so on. Where REFUSE_ALL is set each later one is refused as
-// well. What was refused is told by the file REFUSE_TOLD, which it makes.
+// well. Where REFUSE_EVERY is set, and not 0, all threads' starts are counted, and behind the first
+// REFUSE_THREAD each one whose number REFUSE_EVERY divides is refused. What was refused is told by
+// the file REFUSE_TOLD, which it makes.
 #define _GNU_SOURCE
 #include <dlfcn.h>
 #include <errno.h>
@@ -11,15 +13,16 @@
 #include <unistd.h>
 #define MOST 1000
 static struct start { void *(*work)(void *); void *with; unsigned long place; } starts[MOST];
-static unsigned long asked, refused, of, begun;
+static unsigned long asked, refused, of, begun, every, all;
 static int and_all;
 // Which of the main thread's this one is: 0 for all that other threads started.
 static __thread unsigned long place;
 // Programs that this one starts are refused nothing.
 __attribute__((constructor)) static void begin(void) {
-    const char *at = getenv("REFUSE_THREAD"), *by = getenv("REFUSE_OF");
+    const char *at = getenv("REFUSE_THREAD"), *by = getenv("REFUSE_OF"), *each = getenv("REFUSE_EVERY");
     refused = at ? strtoul(at, 0, 10) : 0;
     of = by ? strtoul(by, 0, 10) : 0;
+    every = each ? strtoul(each, 0, 10) : 0;
     and_all = getenv("REFUSE_ALL") != 0;
     unsetenv("LD_PRELOAD");
 }
@@ -28,18 +31,23 @@ static void *placed(void *with) {
     place = start->place;
     return start->work(start->with);
 }
+static int refuse(void) {
+    const char *path = getenv("REFUSE_TOLD");
+    int fd = path ? open(path, O_CREAT | O_WRONLY, 0600) : -1;
+    if (fd >= 0) close(fd);
+    return EAGAIN;
+}
 int pthread_create(pthread_t *thread, const pthread_attr_t *attr, void *(*work)(void *), void *with) {
     static int (*real)(pthread_t *, const pthread_attr_t *, void *(*)(void *), void *);
     if (!real) real = dlsym(RTLD_NEXT, "pthread_create");
+    if (every) {
+        unsigned long number = __atomic_add_fetch(&all, 1, __ATOMIC_SEQ_CST);
+        return number > refused && number % every == 0 ? refuse() : real(thread, attr, work, with);
+    }
     int is_main = gettid() == getpid();
     int is_counted = of ? place == of : is_main;
     unsigned long number = is_counted ? __atomic_add_fetch(&asked, 1, __ATOMIC_SEQ_CST) : 0;
-    if (is_counted && refused && (number == refused || (and_all && number > refused))) {
-        const char *path = getenv("REFUSE_TOLD");
-        int fd = path ? open(path, O_CREAT | O_WRONLY, 0600) : -1;
-        if (fd >= 0) close(fd);
-        return EAGAIN;
-    }
+    if (is_counted && refused && (number == refused || (and_all && number > refused))) return refuse();
     // The main thread alone counts here.
     if (!is_main || begun == MOST) return real(thread, attr, work, with);
     struct start *start = &starts[begun];
