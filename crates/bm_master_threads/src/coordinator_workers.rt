@@ -3,6 +3,7 @@
 use crate::coordinator::Coordinator;
 use crate::events::EventReceiver;
 use crate::host::MasterHost;
+use crate::worker_process::ProgramStart;
 use bm_lane::Yard;
 use bm_lane_actor::{LaneEvent, LaneSignal, declines, event_of, fills, remark_of};
 use bm_latent::{ProcessAction, TICK_MS, WorkerAction, WorkerEvent};
@@ -75,21 +76,43 @@ where
         }
     }
 
-    // Starts the worker's process, and answers what then is to be done.
+    // Starts the worker's process, and answers what then is to be done. Nothing is where it is to be
+    // tried again.
     fn start_process(&mut self, at: usize) -> Option<WorkerAction> {
         let name = self.name(at);
         let worker = self.workers.get_mut(at)?;
         match worker.start(&self.shared.rt, self.shared.alloc) {
-            Ok(()) => {
+            ProgramStart::Started => {
                 let action = worker.hear(WorkerEvent::Started);
                 self.remark(&Remark::ProgramStarted { worker: name });
                 Some(action)
             }
-            Err(why) => {
-                let action = worker.hear(WorkerEvent::Failed);
+            ProgramStart::Later => None,
+            ProgramStart::Refused(why) => {
+                let action = worker.fails();
                 self.remark(&Remark::ProgramFailed { worker: name, why });
                 Some(action)
             }
+        }
+    }
+
+    // Tries again to start the worker's process, where that is to be. Nothing is told where no build
+    // waits for it any more.
+    fn start_again(&mut self, at: usize) {
+        let is_wanted = self.queue.is_wanted(at);
+        let Some(worker) = self.workers.get_mut(at) else {
+            return;
+        };
+        if !worker.is_unstarted() {
+            return;
+        }
+        let action = if is_wanted {
+            self.start_process(at)
+        } else {
+            Some(worker.fails())
+        };
+        if let Some(action) = action {
+            self.act(at, action);
         }
     }
 
@@ -120,6 +143,7 @@ where
             if self.tick_process(at) {
                 self.stopped(at);
             }
+            self.start_again(at);
             let has_build = self.queue.has_build(at);
             self.happens(at, WorkerEvent::Tick { has_build });
         }

@@ -1,7 +1,7 @@
 //! A worker, as the coordinator knows it.
 ghost use Rattle.std.specs.Prelude.{◌≤◌};
 
-use crate::worker_process::WorkerProcess;
+use crate::worker_process::{ProgramStart, WorkerProcess};
 use bm_board::Words;
 use bm_config::{Config, WorkerConfig};
 use bm_latent::{WorkerAction, WorkerEvent, WorkerState};
@@ -47,22 +47,39 @@ impl WorkerEntry {
 
     /// Whether ticks are to be told.
     pub fn is_timed(&self) -> bool {
-        self.state.is_timed() || self.is_running()
+        self.state.is_timed() || self.is_running() || self.is_unstarted()
     }
 
     /// Starts its process.
-    ///
-    /// # Errors
-    ///
-    /// Those of [`WorkerProcess::start`].
     pub fn start<R: Processes<Started = SystemProcess>>(
         &mut self,
         rt: &R,
         alloc: Global,
-    ) -> Result<(), ProgramRefusal> {
+    ) -> ProgramStart {
         match &mut self.process {
             Some(process) => process.start(rt, alloc),
-            None => Err(ProgramRefusal::NotFound),
+            None => ProgramStart::Refused(ProgramRefusal::NotFound),
+        }
+    }
+
+    /// Whether the start of its process is to be tried again.
+    pub fn is_unstarted(&self) -> bool {
+        match &self.process {
+            Some(process) => process.is_unstarted(),
+            None => false,
+        }
+    }
+
+    /// Its process isn't started, and isn't tried again. One that connected meanwhile, as by hand,
+    /// goes on as one whose process has ended.
+    pub fn fails(&mut self) -> WorkerAction {
+        if let Some(process) = &mut self.process {
+            process.forget_start();
+        }
+        if self.state.is_ready() {
+            self.hear(WorkerEvent::Stopped)
+        } else {
+            self.hear(WorkerEvent::Failed)
         }
     }
 

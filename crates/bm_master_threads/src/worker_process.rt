@@ -1,6 +1,10 @@
 //! The process of a worker that is started on demand.
 
+ghost use Rattle.std.specs.Prelude.{◌≡◌};
+ghost use Rattle.bm_master_threads.specs.Programs.{may_pass};
+
 use bm_board::Words;
+use bm_build_queue::StartTries;
 use bm_latent::{Deadline, EndAct};
 use bm_operator::ProgramRefusal;
 use std::alloc::Global;
@@ -38,6 +42,23 @@ fn refusal_of(kind: ErrorKind) -> ProgramRefusal {
     }
 }
 
+// Whether a program may be started a moment later: what is wanting may come back.
+fn may_pass(kind: ErrorKind) -> bool
+    ensures { result ≡ may_pass kind }
+{
+    matches!(kind, ErrorKind::WouldBlock | ErrorKind::OutOfMemory)
+}
+
+/// What came of a try to start a program.
+#[derive(Clone, Copy, PartialEq, Eq)]
+pub enum ProgramStart {
+    Started,
+    /// It is to be tried again, at the next tick.
+    Later,
+    /// Nothing runs that did not run before, and it isn't tried again.
+    Refused(ProgramRefusal),
+}
+
 /// The program that starts a worker, and its process where one was started and hasn't ended.
 #[derive(Drop)]
 pub struct WorkerProcess {
@@ -47,6 +68,8 @@ pub struct WorkerProcess {
     deadline: Deadline,
     /// Whether the process was asked to end, or killed.
     is_asked: bool,
+    /// For how long its start is tried, where it is to be tried again.
+    tries: Option<StartTries>,
 }
 
 impl WorkerProcess {
@@ -57,29 +80,26 @@ impl WorkerProcess {
             child: None,
             deadline: Deadline::new(),
             is_asked: false,
+            tries: None,
         }
     }
 
     /// Starts the process. It has an empty input, and what it prints is dropped; its errors go
     /// where those of the master go.
-    ///
-    /// # Errors
-    ///
-    /// Why it isn't started: nothing runs then that did not run before.
     pub fn start<R: Processes<Started = SystemProcess>>(
         &mut self,
         rt: &R,
         alloc: Global,
-    ) -> Result<(), ProgramRefusal> {
+    ) -> ProgramStart {
         let Some((program, rest)) = self.words.as_slice().split_first() else {
-            return Err(ProgramRefusal::NotFound);
+            return ProgramStart::Refused(ProgramRefusal::NotFound);
         };
         let Ok(mut command) = Command::new(alloc, program.as_str()) else {
-            return Err(ProgramRefusal::Memory);
+            return ProgramStart::Refused(ProgramRefusal::Memory);
         };
         for word in rest {
             if command.arg(word.as_str()).is_err() {
-                return Err(ProgramRefusal::Memory);
+                return ProgramStart::Refused(ProgramRefusal::Memory);
             }
         }
         command.stdin(Stdio::null());
@@ -90,10 +110,31 @@ impl WorkerProcess {
                 self.child = Some(child);
                 self.deadline.stop();
                 self.is_asked = false;
-                Ok(())
+                self.tries = None;
+                ProgramStart::Started
             }
-            Err(error) => Err(refusal_of(error.kind())),
+            Err(error) => self.refused(error.kind()),
         }
+    }
+
+    // The system has refused its start so: it is tried for a minute where that may pass.
+    fn refused(&mut self, kind: ErrorKind) -> ProgramStart {
+        let tries = self.tries.take().unwrap_or(StartTries::new());
+        if may_pass(kind) && !tries.is_given_up(false) {
+            self.tries = Some(tries);
+            return ProgramStart::Later;
+        }
+        ProgramStart::Refused(refusal_of(kind))
+    }
+
+    /// Whether its start is to be tried again.
+    pub fn is_unstarted(&self) -> bool {
+        self.tries.is_some()
+    }
+
+    /// Its start isn't tried again.
+    pub fn forget_start(&mut self) {
+        self.tries = None;
     }
 
     /// Whether a process was started whose end was not seen.
@@ -121,8 +162,11 @@ impl WorkerProcess {
         }
     }
 
-    /// A tick has passed for a process that is to end.
+    /// A tick has passed for a process that is to end, or to start.
     pub fn tick<R: Processes<Started = SystemProcess>>(&mut self, rt: &R, alloc: Global) {
+        if let Some(tries) = &mut self.tries {
+            tries.tick();
+        }
         let Some(child) = &mut self.child else {
             return;
         };

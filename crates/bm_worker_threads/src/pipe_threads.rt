@@ -3,19 +3,13 @@
 use crate::host::Host;
 use crate::mailbox::WorkerMail;
 use crate::pipe_reader::PipeReader;
+use crate::starting::{MOST_TRIES, PAUSE_MS};
 use bm_lines::Letter;
 use crossbeam_channel::{Receiver, Sender, bounded};
 use std::alloc::Global;
 use std::io::Read;
 use std::thread;
 use std::time::Duration;
-
-/// How often the start of a thread is tried. A worker that is short of threads for a moment so
-/// loses no command.
-const MOST_TRIES: u32 = 20;
-
-/// How long lies between two tries. All that the worker does waits for them.
-const PAUSE_MS: u64 = 10;
 
 /// Of which command, and of which of its pipes, a thread is to tell.
 #[derive(Drop)]

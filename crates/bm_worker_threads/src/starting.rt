@@ -1,5 +1,8 @@
 //! How the process of a command is started.
 
+ghost use Rattle.std.specs.Prelude.{◌≡◌};
+ghost use Rattle.bm_worker_threads.specs.Starting.{may_pass};
+
 use crate::host::Host;
 use crate::marks::VARIABLE;
 use bm_lines::Text;
@@ -8,9 +11,28 @@ use crossbeam_channel::{Receiver, Sender};
 use std::alloc::{AllocError, Global};
 use std::process::{Child, Command, Stdio};
 use std::sync::Wait;
+use std::thread;
+use std::time::Duration;
 
 /// How many texts of a command wait to be told before its pipes' threads wait in turn.
 const MOST_TEXTS: usize = 8;
+
+/// How often the start of a process or a thread is tried. A worker whose machine is short of them
+/// for a moment so loses no command.
+pub(crate) const MOST_TRIES: u32 = 20;
+
+/// How long lies between two tries. All that the worker does waits for them.
+pub(crate) const PAUSE_MS: u64 = 10;
+
+/// Whether it may start a moment later: what is wanting may come back.
+fn may_pass(why: StartFault) -> bool
+    ensures { result ≡ may_pass why }
+{
+    matches!(
+        why,
+        StartFault::NoProcess | StartFault::NoDescriptor | StartFault::NoMemory
+    )
+}
 
 /// The permits of the first texts of a command, and where more of them are given.
 pub(crate) fn permits<R: Wait>(
@@ -24,14 +46,34 @@ pub(crate) fn permits<R: Wait>(
     Ok((permits, given))
 }
 
-/// A process of these words with an empty input, and with pipes for its output and its errors; or
-/// why it can't be started. Its environment is the worker's, with this mark.
+/// The process of these words, as [`started_once`] has it. Where what is wanting may come back it is
+/// tried again.
 pub(crate) fn started<R>(
     rt: &R,
     alloc: Global,
     words: &[Text],
     mark: &str,
 ) -> Result<Child, StartFault>
+where
+    R: Host,
+{
+    for _ in 1..MOST_TRIES {
+        match started_once(rt, alloc, words, mark) {
+            Ok(child) => return Ok(child),
+            Err(why) => {
+                if !may_pass(why) {
+                    return Err(why);
+                }
+            }
+        }
+        thread::sleep(rt, Duration::from_millis(PAUSE_MS));
+    }
+    started_once(rt, alloc, words, mark)
+}
+
+/// A process of these words with an empty input, and with pipes for its output and its errors; or
+/// why it can't be started. Its environment is the worker's, with this mark.
+fn started_once<R>(rt: &R, alloc: Global, words: &[Text], mark: &str) -> Result<Child, StartFault>
 where
     R: Host,
 {
