@@ -11,7 +11,7 @@ use std::alloc::AllocError;
 pub enum Mode {
     /// Beside others, up to the lock's maximum.
     Counting,
-    /// Alone.
+    /// Beside no other holder.
     Exclusive,
 }
 
@@ -37,7 +37,7 @@ impl Copied for Text {
     }
 }
 
-/// The words of a command.
+/// A command's words: the program first, then its arguments, as no shell would split them again.
 pub type Words = Listed<Text>;
 
 /// A step of a build: a command, and what its outcome means for the build.

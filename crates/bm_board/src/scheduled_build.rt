@@ -31,7 +31,7 @@ pub struct Started {
     pub next: Next,
 }
 
-/// A build on the board.
+/// A build, with where it stands and the outcomes of its steps so far.
 #[derive(Drop)]
 pub struct ScheduledBuild {
     build: Build,

@@ -5,8 +5,6 @@ pub mod ViewerPool
 pub mod Cancels
 -- When a build that has its result holds no open command any more, to be believed.
 pub mod HeldBuilds
--- For how long the thread of a build is tried to be started, to be believed.
-pub mod StartTries
 -- What holds of every board of a build queue, to be believed.
 pub mod Laws
 -- That each build on its board is one step, which helps the proofs alone.

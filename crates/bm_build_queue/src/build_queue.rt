@@ -30,9 +30,9 @@ pub enum Cancelled {
 /// see its board, its pools of viewers, and whether memory was wanting.
 ///
 /// On the board a build is one step, that of its runner, whose outcome is what the runner reports.
-/// Its own steps run in the build's thread, by `run_build`. Steps on the board would have the
-/// coordinator between any two of them. A build keeps its slot and its locks from the first to the
-/// last, so no other build could start earlier.
+/// Its own steps run in the build's thread, by `run_build`. Steps on the board would bring in the
+/// coordinator between any two of them, and start nothing earlier: a build keeps its slot and its
+/// locks from its first step to its last.
 #[derive(Drop)]
 pub struct BuildQueue<Y: Yard> {
     board: Board,
@@ -171,7 +171,6 @@ impl<Y: Yard> BuildQueue<Y> {
         }
     }
 
-    // A viewer of the worker's lane.
     fn take_viewer(&mut self, worker: usize) -> Option<Viewer<Y>>
         ensures own { IfSome result (λ v. v.lane ≡ worker) }
         ensures found { has_viewer self.old.pools worker ≡ true → IsSome result }

@@ -3,23 +3,20 @@
 //!
 //! A build is started only on a worker that is ready and has a free slot, and gets a viewer of that
 //! worker's lane. Its result is kept once, under its number. It holds its slot until its commands
-//! have ended, as a [`HeldBuild`]. For how long its thread is tried to be started is counted by
-//! [`StartTries`].
+//! have ended, as a [`HeldBuild`].
 //!
 //! Promised: [`BuildQueue::next`] starts the first build that can be started, and each call changes
-//! what its definition says. A body could still want memory. It could so pass over a build, and say
-//! that by `is_short`.
+//! what its definition says. A body could still want memory: it could so pass over a build, which
+//! `is_short` then tells.
 #![tactic(auto)]
 
 mod assignment;
 mod build_queue;
 mod held_build;
 pub mod laws;
-mod start_tries;
 mod viewer_pool;
 
 pub use assignment::Assignment;
 pub use build_queue::{BuildQueue, Cancelled};
 pub use held_build::HeldBuild;
-pub use start_tries::StartTries;
 pub use viewer_pool::ViewerPool;

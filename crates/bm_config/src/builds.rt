@@ -19,7 +19,6 @@ use bm_lines::Text;
 use std::alloc::Global;
 use toml::{Table, Value};
 
-/// The most builds of a configuration.
 const MOST_BUILDS: usize = 10_000;
 
 const MAX_BYTES: NumberRange = NumberRange {
@@ -116,7 +115,7 @@ impl ConfigRow<()> for StepPlan {
     }
 }
 
-/// The builds of a table.
+/// The rows of `[[build]]`: none where the array is missing, and at most 10,000.
 pub(crate) fn builds(
     alloc: Global,
     places: &WorkersAndLocks,
@@ -136,7 +135,6 @@ fn uses(alloc: Global, locks: &Listed<LockConfig>, table: &Table) -> Result<Lock
     read_rows(alloc, Key::Locks, locks, values)
 }
 
-// The steps of a build.
 fn steps(alloc: Global, table: &Table) -> Result<StepPlans, Fault>
     ensures { Gives (steps_of (table_view table.now)) result }
 {

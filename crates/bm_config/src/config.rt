@@ -6,8 +6,8 @@ use std::net::SocketAddr;
 
 /// What a build master is to do.
 ///
-/// It has no invariant: the definition makes values of it, and would have to prove what its
-/// equations say already. So a caller meets a limit once more where a call requires it.
+/// It has no invariant: the definition builds values of it, and would have to prove each one. So a
+/// caller checks a limit once more where a call requires it.
 #[derive(Drop)]
 pub struct Config {
     /// Where it listens for workers. Port 0 lets the system choose.

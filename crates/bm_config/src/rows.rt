@@ -54,7 +54,7 @@ pub(crate) fn table_of(value: &Value, key: Key) -> Result<&Table, Key>
     value.as_table().ok_or(key)
 }
 
-/// The elements of an array.
+/// The elements, or None where the value is no array.
 pub(crate) fn elements(value: &Value) -> Option<&[Value]>
     ensures { option_map (λ s. map view s.now) result ≡ elements (view value.now) }
 {
@@ -64,7 +64,7 @@ pub(crate) fn elements(value: &Value) -> Option<&[Value]>
     }
 }
 
-// The elements of an array of tables.
+// The elements, or None where the value is no array or one of them is no table.
 fn tables(value: &Value) -> Option<&[Value]>
     ensures { option_map (λ s. map view s.now) result ≡ tables (view value.now) }
 {
@@ -74,7 +74,7 @@ fn tables(value: &Value) -> Option<&[Value]>
     }
 }
 
-// It only passes on, since two views of a value meet here.
+// Restates `each_is_table` over the views, as the definitions have it.
 fn are_tables(values: &[Value]) -> bool
     ensures { result ≡ list_all is_table (map view values.now) }
 {

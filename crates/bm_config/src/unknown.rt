@@ -51,7 +51,6 @@ fn add_all(alloc: Global, found: &mut Vec<UnknownKey>, table: &Table) -> Result<
     add_builds(alloc, found, rows_at(table, Key::Build))
 }
 
-// Adds those of the builds.
 fn add_builds(
     alloc: Global,
     found: &mut Vec<UnknownKey>,
@@ -70,7 +69,6 @@ fn add_builds(
     Ok(())
 }
 
-// Adds those of a build.
 fn add_build(
     alloc: Global,
     found: &mut Vec<UnknownKey>,
@@ -108,7 +106,6 @@ fn add_array(
     )
 }
 
-// Adds those of rows.
 fn add_rows(
     alloc: Global,
     found: &mut Vec<UnknownKey>,

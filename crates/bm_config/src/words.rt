@@ -52,7 +52,7 @@ pub(crate) fn command(alloc: Global, table: &Table) -> Result<Words, Fault>
     }
 }
 
-// The elements of an array of texts, at least one.
+// The elements, or None where the value isn't an array of one or more texts.
 fn text_array(value: &Value) -> Option<&[Value]>
     ensures { option_map (λ s. map view s.now) result ≡ text_array (view value.now) }
 {

@@ -22,7 +22,6 @@ use toml::{Table, Value};
 /// The most that a number of ticks, and a lock's maximum, may be.
 pub(crate) const MOST: u32 = 0x7fff_ffff;
 
-/// The most workers of a configuration.
 const MOST_WORKERS: usize = 64;
 
 const SLOTS: NumberRange = NumberRange {
@@ -159,7 +158,7 @@ fn is_named(text: &Text, name: &str) -> bool
     text.as_str() == name
 }
 
-/// The workers of a table.
+/// The rows of `[[worker]]`: at least one, and at most 64.
 pub(crate) fn workers(alloc: Global, table: &Table) -> Result<Listed<WorkerConfig>, Fault>
     ensures { Gives (workers_of (table_view table.now)) result }
 {
@@ -167,7 +166,7 @@ pub(crate) fn workers(alloc: Global, table: &Table) -> Result<Listed<WorkerConfi
     read_rows(alloc, Key::Worker, &(), values)
 }
 
-/// The locks of a table.
+/// The rows of `[[lock]]`: none where the array is missing.
 pub(crate) fn locks(alloc: Global, table: &Table) -> Result<Listed<LockConfig>, Fault>
     ensures { Gives (locks_of (table_view table.now)) result }
 {

@@ -11,7 +11,7 @@ use std::alloc::{AllocError, Global};
 /// What a request is answered.
 #[derive(Drop)]
 pub struct Answer {
-    /// The status code.
+    /// 200, or that of `RequestRefusal::status`; 503 where memory is wanting.
     pub status: u16,
     /// The bytes of the body: compact JSON, or nothing under 503. They are a plain list, since
     /// `hyper` takes these: a type round it would be opened at once.

@@ -24,8 +24,8 @@ impl From<AllocError> for ViewersError {
     }
 }
 
-/// The viewers of all lanes, each at the place of its lane while no look has it. Contracts see the
-/// places.
+/// The viewers of all lanes, each at the place of its lane while no look has it. Contracts see a
+/// list with an entry for each lane: its viewer, or none.
 #[derive(Drop)]
 pub struct LaneViewers<Y: Yard> {
     places: Vec<Option<Viewer<Y>>>,
@@ -46,7 +46,7 @@ impl<Y: Yard> Model for LaneViewers<Y> {
         × (vec_len v.places ≤ vec_capacity v.room) };
 }
 
-/// Places the viewer of the next lane.
+/// Appends the viewer, which has to be that of the lane whose number is the length of `places`.
 fn add<Y: Yard>(places: &mut Vec<Option<Viewer<Y>>>, viewer: Viewer<Y>) -> Result<(), ViewersError>
     requires { IsPlaced places.old.items }
     ensures added { IfOk result (λ _. places.new.items ≡ places.old.items ++ Some viewer ∷ []) }

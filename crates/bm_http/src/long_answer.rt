@@ -19,7 +19,7 @@ use std::alloc::{AllocError, Global};
 use std::marker::Model;
 use thiserror::Error;
 
-/// How long the text before the lines is.
+/// The bytes that stand in the body before the lines.
 const FRONT: usize = 26;
 
 /// How many bytes of the lines' text a piece has at most.
@@ -76,7 +76,7 @@ pub enum BodyPiece {
 }
 
 impl BodyPiece {
-    /// The bytes. No viewer is needed for it.
+    /// The bytes that are sent. Escaping takes time and memory, but no viewer.
     pub fn told(self, alloc: Global) -> Result<Bytes, PieceError>
         ensures { IfOk result (λ b. b ≡ piece_text self) }
     {

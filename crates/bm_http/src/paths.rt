@@ -20,7 +20,7 @@ pub enum Page {
 /// What a path names.
 #[derive(Clone, Copy)]
 pub struct Found<'p> {
-    /// The page.
+    /// What of the log is asked for.
     pub page: Page,
     /// The id of the log, a part of the path.
     pub id: &'p str,

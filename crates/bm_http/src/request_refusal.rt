@@ -16,7 +16,7 @@ pub enum RequestRefusal {
 }
 
 impl RequestRefusal {
-    /// The status code.
+    /// The status code of HTTP: 404, 405 or 400.
     pub fn status(self) -> u16
         ensures { result ≡ status_of self }
     {

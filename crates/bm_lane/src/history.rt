@@ -38,7 +38,7 @@ impl Gain<Item, u64> for Nothing {
     ghost after = { λ names about answer. ftrue };
 }
 
-/// A step that looks.
+/// A step that finds what was added, and changes nothing.
 pub struct Look;
 
 impl Play<Item, u64> for Look {

@@ -19,7 +19,7 @@ pub enum Pass {
     Go,
     /// Leave the lane to the next turn at it.
     Skip,
-    /// End.
+    /// Return: the pool is about to end.
     Stop,
 }
 

@@ -126,7 +126,7 @@ impl<R: Wait + Drop> Publisher<R> {
         }
     }
 
-    /// Holds an item.
+    /// Holds an item, which no viewer sees before `show`.
     pub fn hold(&mut self, item: Item)
         requires { self.old.held ≡ [] }
         ensures { self.new ≡ record self.old { held = item ∷ [] } }
@@ -139,7 +139,7 @@ impl<R: Wait + Drop> Publisher<R> {
         });
     }
 
-    /// Shows what is held.
+    /// Shows what is held to each viewer that looks from now on. Out of memory nothing has changed.
     pub fn show(&mut self) -> Result<(), AllocError>
         ensures { MatchResult result (λ _. self.new ≡ record self.old {
           shown = self.old.shown ++ self.old.held;

@@ -42,7 +42,7 @@ impl<'a> Question for StateOf<'a> {
     }
 }
 
-/// Lines of a log.
+/// Asks for at most `limit` lines of the log `name` of a command, from the line `offset` on.
 #[derive(Clone, Copy)]
 pub struct LinesOf<'a> {
     pub command: u64,

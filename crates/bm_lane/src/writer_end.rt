@@ -19,7 +19,7 @@ use std::sync::{Arc, Wait};
 pub enum Drained {
     /// An item, which viewers are shown from now on.
     Took,
-    /// Nothing.
+    /// The queue had no item.
     Empty,
 }
 

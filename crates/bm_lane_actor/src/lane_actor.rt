@@ -168,7 +168,7 @@ where
         }
     }
 
-    /// Does what signals ask for.
+    /// Signals come before each request that lies in the mailbox.
     fn takes_signals(&mut self, mailbox: &Mailbox<WorkerStream<R>>) {
         if mailbox.takes(LaneSignal::Readable) {
             self.reads.told();
@@ -198,7 +198,6 @@ where
         true
     }
 
-    /// Obeys a request.
     fn obeys(&mut self, request: LaneRequest<WorkerStream<R>>) {
         match request {
             LaneRequest::Attach(link) => self.attach(link),
@@ -233,7 +232,7 @@ where
         self.gate.wake(self.place);
     }
 
-    /// Hears the worker.
+    /// Reads one message of the worker, where one is there, and tells who waits for what it brought.
     pub(crate) fn turn(&mut self) {
         let before = self.state.connection();
         let took = self.gate.took(self.place);

@@ -38,7 +38,7 @@ pub enum LaneRequest<S> {
     Settle(Sender<(), Global>),
     /// The master ends: tell a login that waits `busy`, and answer.
     PutOff(Sender<(), Global>),
-    /// Look at the signals.
+    /// Nothing: it wakes the actor, which looks at its signals first.
     Look,
 }
 

@@ -64,7 +64,7 @@ pub(crate) enum Awaited {
     Request,
     /// A request, but for a look at the link now and then: the worker has nothing to say.
     Glance,
-    /// A message of the worker.
+    /// What the worker sends next, which a read may give at once.
     Message,
     /// The next tick: the lane is cut.
     Tick,
@@ -130,7 +130,7 @@ impl<Y: Yard, S> LaneState<Y, S> {
         self.reader.lane()
     }
 
-    /// The lane's end.
+    /// Ends the state: the reader's end of the lane comes back, for whoever joins the threads.
     pub fn into_reader(self) -> ReaderEnd<Y>
     where
         S: Drop,

@@ -54,7 +54,7 @@ pub(crate) enum HandOver<S> {
     Taken,
     /// The mailbox had no room for it.
     Back(MasterLink<S>),
-    /// The actor has left.
+    /// The mailbox is shut, since its actor has left.
     Left,
 }
 

@@ -1,5 +1,7 @@
 //! A connection that has not logged in: when it spoke last, and whether it was put out.
 
+ghost use Rattle.std.specs.Prelude.{◌≡◌};
+
 use std::alloc::{AllocError, Global};
 use std::sync::Arc;
 use std::sync::atomic::{AtomicBool, AtomicU64, Ordering};
@@ -38,8 +40,10 @@ impl PendingLogin {
         Ok(Arc::new(alloc, login)?)
     }
 
-    /// Its number.
-    pub fn number(&self) -> u64 {
+    /// The number of its coming: no other one has it.
+    pub fn number(&self) -> u64
+        ensures { result ≡ self.now.number }
+    {
         self.number
     }
 

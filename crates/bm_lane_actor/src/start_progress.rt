@@ -18,7 +18,7 @@ use std::time::Clock;
 /// What a build does by the answer to one order.
 #[derive(Clone, Copy, PartialEq, Eq)]
 pub(crate) enum StartStep {
-    /// It asks again later.
+    /// The lane can't take the order now: it asks again once an item was drained, or a tick passed.
     AskAgain,
     /// The lane has started this command.
     Started(u64),

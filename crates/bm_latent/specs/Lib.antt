@@ -2,6 +2,9 @@
 pub mod Latent
 -- what a master knows of a worker, and what it does after each event;
 pub mod WorkerState
--- how a process that is to end is ended, and how ticks are counted.
+-- a worker as its master drives it, with its program;
+pub mod WorkerMachine
+-- how a process that is to end is ended, for how long a start is tried, and how ticks are counted.
 pub mod Deadline
+pub mod StartTries
 pub mod TickCounter

@@ -14,11 +14,11 @@ const KILL_AFTER_TICKS: u32 = 1_000;
 /// What is to be done with a process that is to end.
 #[derive(Clone, Copy, PartialEq, Eq)]
 pub enum EndAct {
-    /// Nothing.
+    /// Its time hasn't come, or was acted on.
     None,
-    /// Ask it to end.
+    /// Send it SIGTERM.
     Ask,
-    /// Kill it.
+    /// Send it SIGKILL.
     Kill,
 }
 

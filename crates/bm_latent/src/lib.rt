@@ -3,8 +3,9 @@
 //!
 //! [`Latent`] is the table of a latent worker (Buildbot manual, "Latent Workers"). Its process is
 //! started once a build wants it, and stopped once it has been idle for long enough.
-//! [`WorkerState`] says which worker takes builds. [`Deadline`] says when a process that is to end
-//! is killed, [`TickCounter`] how many ticks have passed.
+//! [`WorkerState`] says which worker takes builds, [`WorkerMachine`] what is done with its program.
+//! [`Deadline`] says when a process that is to end is killed, [`StartTries`] for how long a start is
+//! tried, [`TickCounter`] how many ticks have passed.
 //!
 //! Promised: each call is what `specs/` says. A body could still get away with nothing here; a
 //! driver could, which tells an event too late, twice or never.
@@ -13,13 +14,19 @@
 mod deadline;
 mod event;
 mod machine;
+mod start_tries;
 mod tick_counter;
 mod worker_event;
+mod worker_input;
+mod worker_machine;
 mod worker_state;
 
 pub use deadline::{Deadline, EndAct};
 pub use event::{Act, LatentEvent, LatentState};
 pub use machine::Latent;
+pub use start_tries::StartTries;
 pub use tick_counter::{TICK_MS, TickCounter, millis};
 pub use worker_event::{ProcessAction, WorkerAction, WorkerEvent};
+pub use worker_input::{WorkerEffect, WorkerInput};
+pub use worker_machine::WorkerMachine;
 pub use worker_state::WorkerState;

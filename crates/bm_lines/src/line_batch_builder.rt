@@ -75,7 +75,7 @@ impl LineBatchBuilder {
         Ok(())
     }
 
-    /// The batch.
+    /// Ends the building: what was added, log for log.
     pub fn into_batch(self) -> LineBatch
         ensures { result ≡ self }
     {

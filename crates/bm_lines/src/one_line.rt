@@ -7,7 +7,7 @@ use crate::letter::Letter;
 use std::alloc::{AllocError, Global};
 use std::marker::Model;
 
-/// A line, as its content.
+/// One line in the form in which a log keeps it: its letter, its text and a line end.
 #[derive(Drop)]
 pub struct OneLine {
     text: String,
@@ -43,7 +43,7 @@ impl OneLine {
     }
 }
 
-/// Writes a line.
+/// Appends a line in the form in which a log keeps it. Out of memory a part of it may stand there.
 pub fn write_line(text: &mut String, letter: Letter, part: &str) -> Result<(), AllocError>
     ensures { OnOk result (string_bytes text.new
         ≡ string_bytes text.old ++ content_of (record { letter = letter; text = part.now } ∷ [])) }

@@ -108,7 +108,6 @@ fn grow(alloc: Global, lines: &mut Arc<Content>, more: &Shared) -> Result<(), Al
     Ok(())
 }
 
-/// Appends lines.
 fn append(lines: &mut Content, more: &Shared) -> Result<(), AllocError>
     ensures ok { OnOk result (lines.new ≡ lines.old ++ shared_lines more.now) }
     ensures err { OnErr result (lines.new ≡ lines.old) }

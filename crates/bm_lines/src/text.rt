@@ -35,7 +35,7 @@ impl Text {
         self.string
     }
 
-    /// The characters.
+    /// Lends the characters, without a copy.
     pub fn as_str(&self) -> &str
         ensures { result.now ≡ self.now }
     {

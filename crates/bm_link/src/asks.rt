@@ -18,13 +18,13 @@ use tungstenite::{NoMask, WebSocket};
 /// What a master asks of a worker besides its orders.
 #[derive(Drop)]
 pub enum Ask {
-    /// To print a text.
+    /// To show its operator a text.
     Print(Text),
-    /// To answer.
+    /// To answer, so that the master knows that it lives.
     Keepalive,
-    /// To tell what it is.
+    /// To tell its version and its system.
     GetWorkerInfo,
-    /// To end.
+    /// To end once its commands have, and not to come back.
     Shutdown,
 }
 

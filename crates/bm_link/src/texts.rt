@@ -5,7 +5,6 @@ ghost use Rattle.bm_link.specs.Texts.{AreShort};
 
 use bm_lines::Text;
 
-/// The most texts of a message.
 const MOST_TEXTS: usize = 10_000;
 
 /// The most bytes that they have together.

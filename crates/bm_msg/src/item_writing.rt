@@ -22,7 +22,6 @@ pub fn stream_name(letter: Letter) -> &'static str
     }
 }
 
-/// An array of two.
 fn two(
     alloc: Global,
     first: Value<Global>,

@@ -20,7 +20,7 @@ pub enum ReadItem<'a> {
     /// A name, which may be none of a log, and a text.
     Named(&'a str, &'a str),
     Rc(Num),
-    /// Nothing that counts.
+    /// It is of a kind that this master doesn't read, and is skipped.
     Nothing,
     /// It is of another kind than its name asks for.
     Wrong,

@@ -17,7 +17,7 @@ pub const NUMBER_LIMIT: u64 = 1 << 63;
 /// The longest session, in bytes (this project's profile).
 pub(crate) const LONGEST_SESSION: usize = 64;
 
-/// What a str says.
+/// The text of a value that is a str, and nothing of any other.
 pub fn str_of<A: Allocator>(value: &Value<A>) -> Option<&str>
     ensures { option_copied result ≡ str_of (tree value.now) }
 {

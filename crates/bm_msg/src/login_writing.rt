@@ -57,7 +57,7 @@ fn next_session_key(
     }
 }
 
-/// The pairs of a login, in order.
+/// The pairs stand in the order in which they are sent.
 fn login_pairs(
     alloc: Global,
     username: &Text,

@@ -13,7 +13,7 @@ pub enum Message {
     Response(Response),
 }
 
-/// A request and its number.
+/// A request, under the number that its response will name.
 #[derive(Drop)]
 pub struct Numbered {
     pub seq: u64,

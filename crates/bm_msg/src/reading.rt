@@ -37,7 +37,6 @@ fn auth<A: Allocator>(alloc: Global, message: &Value<A>) -> Result<Option<Reques
     }))
 }
 
-/// The items of an update.
 fn items<A: Allocator>(alloc: Global, message: &Value<A>) -> Result<Option<Fields>, AllocError>
     ensures found { IfOk result (λ f. f ≡ items_at (tree message.now)) }
     ensures told { OnErr result (IsSome (items_at (tree message.now))) }

@@ -8,7 +8,7 @@ use bm_lines::Text;
 use bm_value::Value;
 use std::alloc::{AllocError, Global};
 
-/// A request, by its `op`.
+/// What one end asks of the other: each variant is one value of the key `op` (docs/PROTOCOL.md).
 #[derive(Drop)]
 pub enum Request {
     /// A worker names itself, and the session that it would resume (the session is this

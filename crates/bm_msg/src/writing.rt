@@ -200,7 +200,7 @@ pub(crate) fn written_map(alloc: Global, keys: Vec<Pair<Global>>) -> Result<Vec<
     }
 }
 
-/// The pairs of a request, in order.
+/// The pairs stand in the order in which they are sent.
 fn request_pairs(alloc: Global, message: &Numbered) -> Result<Vec<Pair<Global>>, AllocError>
     ensures { IfOk result (λ v. dict (pairs_of (map pair_tree v.items))
         ≡ tree_of (request_of message.now)) }
@@ -224,7 +224,6 @@ fn put_exception(
     Ok(())
 }
 
-/// The pairs of a response, in order.
 fn response_pairs(alloc: Global, message: &Response) -> Result<Vec<Pair<Global>>, AllocError>
     ensures { IfOk result (λ v. dict (pairs_of (map pair_tree v.items))
         ≡ tree_of (response_of message.now)) }

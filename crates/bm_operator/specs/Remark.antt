@@ -11,7 +11,7 @@ use Rattle.bm_operator.specs.declared.reasons.StartRefusal.{StartRefusal}
 use Rattle.bm_operator.specs.declared.reasons.StepLimit.{StepLimit}
 use Rattle.bm_operator.specs.declared.remark.Remark.{Remark}
 use Rattle.bm_operator.specs.declared.step_at.StepAt.{StepAt}
-use Rattle.bm_operator.specs.declared.remark.Remark.TheVariants.{LoggedIn, Resumed, Cut, Lost, Dismissed, ShutDown, Filled, LoginRefused, ConnectionRefused, MoreRefused, NotTold, AcceptingPaused, Counted, UnknownKey, MisspeltKey, InputUnknown, BuildMissing, BuildWaits, BuildStarted, BuildEnded, BuildCancelled, StepStarted, StepRefused, StepStopped, StepFailed, StepEnded, ProgramStarted, ProgramFailed, ProgramEnded}
+use Rattle.bm_operator.specs.declared.remark.Remark.TheVariants.{LoggedIn, Resumed, Cut, Lost, Dismissed, ShutDown, Filled, LoginRefused, ConnectionRefused, MoreRefused, NotTold, AcceptingPaused, Counted, UnknownKey, MisspeltKey, InputUnknown, BuildMissing, BuildWaits, BuildUnstarted, BuildStarted, BuildEnded, BuildCancelled, StepStarted, StepRefused, StepStopped, StepFailed, StepEnded, ProgramStarted, ProgramFailed, ProgramEnded}
 use Rattle.bm_operator.specs.Reasons.{limit_text, loss_text, program_text, refusal_text, start_text}
 use Rattle.bm_operator.specs.Told.{Told, of_number, of_name, of_word, of_address, of_member, line_of, object_of}
 
@@ -194,6 +194,14 @@ build_waits build worker =
       tail = codes "";
     }
 
+abbrev pub build_unstarted : ℕ → Told
+build_unstarted build =
+    record {
+      kind = codes "build_waits_for_thread";
+      fields = of_number (codes "build ") (codes "build") build ∷ [];
+      tail = codes " waits for a thread";
+    }
+
 abbrev pub build_started : ℕ → List ℕ → Told
 build_started build worker =
     record {
@@ -340,6 +348,7 @@ told (MisspeltKey place key near) = misspelt_key place.now key.now near.now
 told InputUnknown = input_unknown
 told (BuildMissing build) = build_missing build
 told (BuildWaits build worker) = build_waits build worker.now
+told (BuildUnstarted build) = build_unstarted build
 told (BuildStarted build worker) = build_started build worker.now
 told (BuildEnded build result) = build_ended build result
 told (BuildCancelled build) = build_cancelled build

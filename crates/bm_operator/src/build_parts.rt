@@ -1,7 +1,7 @@
 //! What remarks of builds and their steps say.
 
 ghost use Rattle.std.specs.Prelude.{◌≡◌, IfOk, string_bytes};
-ghost use Rattle.bm_operator.specs.Remark.{build_cancelled, build_ended, build_missing, build_started, build_waits, log_number, step_ended, step_failed, step_refused, step_started, step_stopped};
+ghost use Rattle.bm_operator.specs.Remark.{build_cancelled, build_ended, build_missing, build_started, build_unstarted, build_waits, log_number, step_ended, step_failed, step_refused, step_started, step_stopped};
 ghost use Rattle.bm_operator.specs.Told.{shaped};
 
 use crate::field::{Field, Shape, shaped};
@@ -11,7 +11,6 @@ use crate::step_at::StepAt;
 use bm_session::Results;
 use std::alloc::{AllocError, Global};
 
-// A build that isn't there.
 pub(crate) fn build_missing(alloc: Global, shape: Shape, build: u64) -> Result<String, AllocError>
     ensures { IfOk result (λ s. string_bytes s ≡ shaped shape (build_missing build)) }
 {
@@ -24,7 +23,6 @@ pub(crate) fn build_missing(alloc: Global, shape: Shape, build: u64) -> Result<S
     )
 }
 
-// A build that waits for its worker.
 pub(crate) fn build_waits(
     alloc: Global,
     shape: Shape,
@@ -45,7 +43,19 @@ pub(crate) fn build_waits(
     )
 }
 
-// A build that started.
+// A build that waits for its thread.
+pub(crate) fn build_unstarted(alloc: Global, shape: Shape, build: u64) -> Result<String, AllocError>
+    ensures { IfOk result (λ s. string_bytes s ≡ shaped shape (build_unstarted build)) }
+{
+    shaped(
+        alloc,
+        shape,
+        "build_waits_for_thread",
+        &[Field::Number("build ", "build", u128::from(build))],
+        " waits for a thread",
+    )
+}
+
 pub(crate) fn build_started(
     alloc: Global,
     shape: Shape,
@@ -66,7 +76,6 @@ pub(crate) fn build_started(
     )
 }
 
-// How a build ended.
 pub(crate) fn build_ended(
     alloc: Global,
     shape: Shape,
@@ -100,7 +109,6 @@ pub(crate) fn build_cancelled(alloc: Global, shape: Shape, build: u64) -> Result
     )
 }
 
-// A step that started.
 pub(crate) fn step_started(
     alloc: Global,
     shape: Shape,
@@ -124,7 +132,6 @@ pub(crate) fn step_started(
     )
 }
 
-// A step that was not started.
 pub(crate) fn step_refused(
     alloc: Global,
     shape: Shape,
@@ -202,7 +209,6 @@ pub(crate) fn step_failed<'a>(
     )
 }
 
-// How a step ended.
 pub(crate) fn step_ended(
     alloc: Global,
     shape: Shape,

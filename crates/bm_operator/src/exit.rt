@@ -11,9 +11,8 @@ pub const REFUSED: u8 = 2;
 
 /// The exit status of a master whose builds had these results: 0 where each of them is `SUCCESS` or
 /// `WARNINGS`, else 1. `failed` says that the master itself failed, which is 1 too. It fails where
-/// a report could not be written, a thread could not be started, or memory was wanting. The results
-/// are listed once all builds are over: a status that is counted before would have a contract on a
-/// sum of ends.
+/// a report could not be written, a thread could not be started, or memory was wanting. All results
+/// are given at once, since a status counted build by build would need a contract about sums.
 pub fn status(results: &[Results], failed: bool) -> u8
     ensures { result ≡ exit_status results.now failed }
 {
@@ -26,7 +25,7 @@ fn are_good(results: &[Results]) -> bool
     results.iter().all(|outcome| is_good(*outcome))
 }
 
-// Whether nobody has to look at a build that ended so.
+// `SUCCESS` and `WARNINGS`: nobody has to look at the build.
 fn is_good(outcome: Results) -> bool
     ensures { result ≡ is_good outcome }
 {

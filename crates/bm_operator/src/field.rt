@@ -16,12 +16,13 @@ use std::net::SocketAddr;
 #[derive(Clone, Copy)]
 pub(crate) enum Field<'a> {
     Number(&'a str, &'a str, u128),
-    /// Anybody's text.
+    /// A text from outside, as a worker's name: `one_line` writes it in the line, JSON in the
+    /// object.
     Name(&'a str, &'a str, &'a str),
-    /// A text of ours, which is on one line.
+    /// A text of this program, which has no line end and is written as it is in the line.
     Word(&'a str, &'a str, &'a str),
     Address(&'a str, &'a str, SocketAddr),
-    /// What the line doesn't have: its key in the object, and its value.
+    /// A number of the object alone, by its key and its value. The line leaves it out.
     Member(&'a str, u64),
 }
 
@@ -53,7 +54,6 @@ pub(crate) fn shaped(
     }
 }
 
-// The line of these fields.
 fn line_of(alloc: Global, fields: &[Field<'_>], tail: &str) -> Result<String, AllocError>
     ensures { IfOk result (λ s. string_bytes s
         ≡ flat_map field_text (fields_view fields.now) ++ (tail.now ++ 10 ∷ [])) }
@@ -101,7 +101,6 @@ fn object_of(alloc: Global, ms: u64, kind: &str, fields: &[Field<'_>]) -> Result
     format!(in alloc; "{{\"remark\":\"{kind}\",\"ms\":{ms}{members}}}\n")
 }
 
-// The members of these fields, each behind a comma.
 fn members_of(alloc: Global, fields: &[Field<'_>]) -> Result<String, AllocError>
     ensures { IfOk result (λ s. string_bytes s ≡ flat_map member_text (fields_view fields.now)) }
 {
@@ -127,7 +126,6 @@ fn push_member(alloc: Global, members: &mut String, field: &Field<'_>) -> Result
     }
 }
 
-// Appends a text under its key.
 fn push_quoted(alloc: Global, members: &mut String, key: &str, text: &str) -> Result<(), AllocError>
     ensures { OnOk result (string_bytes members.new
         ≡ string_bytes members.old ++ (codes ",\"" ++ (key.now ++ (codes "\":" ++ quoted text.now)))) }
@@ -136,7 +134,6 @@ fn push_quoted(alloc: Global, members: &mut String, key: &str, text: &str) -> Re
     write!(members, ",\"{key}\":{text}")
 }
 
-// Appends an address under its key.
 fn push_address(
     alloc: Global,
     members: &mut String,

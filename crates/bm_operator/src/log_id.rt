@@ -13,7 +13,8 @@ pub struct LogId {
 }
 
 impl LogId {
-    /// The number. It may take more than 64 bits; the ids that the web answers don't.
+    /// `command * lanes + lane`. It may take more than 64 bits; the web answers ids of 64 bits
+    /// alone.
     pub fn number(&self) -> u128
         ensures { result ≡ self.now.command * self.now.lanes + self.now.lane }
     {

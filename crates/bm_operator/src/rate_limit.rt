@@ -10,11 +10,11 @@ use std::marker::Model;
 #[derive(Drop)]
 pub struct RateLimit {
     most: u32,
-    /// The second of the last thing.
+    /// The second in which the last thing happened.
     second: u64,
     /// How many were let through in that second.
     allowed: u32,
-    /// How many were not since they were last taken.
+    /// How many were left out since that count was last taken.
     left_out: u64,
 }
 
@@ -69,7 +69,7 @@ impl RateLimit {
         self.left_out = self.left_out.saturating_add(1);
     }
 
-    /// A thing happens in this second.
+    /// Counts anew where this second is another one than that of the last thing.
     fn begin(&mut self, second: u64)
         ensures { self.new ≡ limit_at self.old second }
     {
@@ -104,7 +104,7 @@ impl RateLimit {
         count
     }
 
-    /// Whether some were not let through that are to be taken.
+    /// Whether there is a count of things left out that wasn't taken yet.
     pub fn is_left_out(&self) -> bool
         ensures { result ≡ is_left_out self.now }
     {

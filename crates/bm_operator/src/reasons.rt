@@ -27,7 +27,7 @@ pub enum LossCause {
 }
 
 impl LossCause {
-    /// Its text.
+    /// CAUSE of `worker NAME cut, CAUSE` and of `worker NAME lost, CAUSE`.
     pub fn text(self) -> &'static str
         ensures { result.now ≡ loss_text self }
     {
@@ -64,7 +64,7 @@ pub enum LoginRefusal {
     Stream,
     /// No login came in time.
     Late,
-    /// As many connections as may be have not logged in yet.
+    /// The most connections that may wait for a login do so already.
     Crowded,
     /// No thread could be started for it.
     NoThread,
@@ -75,7 +75,7 @@ pub enum LoginRefusal {
 }
 
 impl LoginRefusal {
-    /// Its text.
+    /// WHY of `login refused, WHY, ..` and of `connection refused, WHY, ..`.
     pub fn text(self) -> &'static str
         ensures { result.now ≡ refusal_text self }
     {
@@ -113,7 +113,7 @@ pub enum StartRefusal {
 }
 
 impl StartRefusal {
-    /// Its text.
+    /// WHY of `build I step not started, WHY: STEP`.
     pub fn text(self) -> &'static str
         ensures { result.now ≡ start_text self }
     {
@@ -139,7 +139,7 @@ pub enum StepLimit {
 }
 
 impl StepLimit {
-    /// Its text.
+    /// LIMIT of `build I step stopped, LIMIT, log ID: STEP`.
     pub fn text(self) -> &'static str
         ensures { result.now ≡ limit_text self }
     {
@@ -165,7 +165,7 @@ pub enum ProgramRefusal {
 }
 
 impl ProgramRefusal {
-    /// Its text.
+    /// WHY of `program of NAME not started, WHY`.
     pub fn text(self) -> &'static str
         ensures { result.now ≡ program_text self }
     {

@@ -10,7 +10,7 @@ use bm_lines::Text;
 use std::alloc::{AllocError, Global};
 use std::marker::Model;
 
-/// Lets few refused connections be told in each second, and one of a name. A worker whose login is
+/// Lets a few refused connections be told in each second, one of each name. A worker whose login is
 /// refused comes again and again, and would hide all others.
 #[derive(Drop)]
 pub struct RefusalLimit {
@@ -38,8 +38,8 @@ impl RefusalLimit {
         }
     }
 
-    /// A connection is refused in this second, by whose login it had this name: whether that is told.
-    /// Where it isn't, it is counted, up to 2^64-1.
+    /// A connection is refused in this second, and its login gave this name. The answer is whether
+    /// it is told. Where it isn't, it is counted, up to 2^64-1.
     pub fn tells(&mut self, second: u64, name: &Option<Text>) -> bool
         ensures result { result ≡ is_told self.old second name.now }
         ensures limit { self.new ≡ refusals_after self.old second name.now }
@@ -83,7 +83,7 @@ impl RefusalLimit {
         self.limit.take_left_out(second)
     }
 
-    /// Whether some were not told that are to be counted.
+    /// Whether there is a count of refused connections that wasn't taken yet.
     pub fn is_left_out(&self) -> bool
         ensures { result ≡ is_left_out self.now.limit }
     {

@@ -54,7 +54,8 @@ pub enum Remark<'a> {
         from: SocketAddr,
         why: LoginRefusal,
     },
-    /// So many more were not than are told one by one: `N more connections refused`.
+    /// So many more connections were refused than are told one by one: `N more connections
+    /// refused`.
     MoreRefused {
         count: u64,
     },
@@ -92,6 +93,11 @@ pub enum Remark<'a> {
     BuildWaits {
         build: u64,
         worker: &'a str,
+    },
+    /// A build could start, but the system refuses its thread, or memory for it. It is tried again
+    /// each tick for a minute: `build I waits for a thread`.
+    BuildUnstarted {
+        build: u64,
     },
     /// A build started on a worker: `build I started on NAME`.
     BuildStarted {

@@ -9,7 +9,6 @@ use crate::reasons::LoginRefusal;
 use std::alloc::{AllocError, Global};
 use std::net::SocketAddr;
 
-// A login that was refused.
 pub(crate) fn login_refused(
     alloc: Global,
     shape: Shape,
@@ -32,7 +31,6 @@ pub(crate) fn login_refused(
     )
 }
 
-// A connection that was refused.
 pub(crate) fn connection_refused(
     alloc: Global,
     shape: Shape,
@@ -53,7 +51,6 @@ pub(crate) fn connection_refused(
     )
 }
 
-// More connections were refused.
 pub(crate) fn more_refused(alloc: Global, shape: Shape, count: u64) -> Result<String, AllocError>
     ensures { IfOk result (λ s. string_bytes s ≡ shaped shape (more_refused count)) }
 {
@@ -66,7 +63,6 @@ pub(crate) fn more_refused(alloc: Global, shape: Shape, count: u64) -> Result<St
     )
 }
 
-// Remarks that could not be told.
 pub(crate) fn not_told(alloc: Global, shape: Shape, count: u64) -> Result<String, AllocError>
     ensures { IfOk result (λ s. string_bytes s ≡ shaped shape (not_told count)) }
 {
@@ -124,7 +120,6 @@ fn plural(count: u64, one: &'static str, many: &'static str) -> &'static str
     if count == 1 { one } else { many }
 }
 
-// A key that nobody reads.
 pub(crate) fn unknown_key<'a>(
     alloc: Global,
     shape: Shape,

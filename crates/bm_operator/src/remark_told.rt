@@ -5,8 +5,8 @@ ghost use Rattle.bm_operator.specs.Remark.{remark_line, remark_object, told};
 ghost use Rattle.bm_operator.specs.Told.{shaped};
 
 use crate::build_parts::{
-    build_cancelled, build_ended, build_missing, build_started, build_waits, step_ended,
-    step_failed, step_refused, step_started, step_stopped,
+    build_cancelled, build_ended, build_missing, build_started, build_unstarted, build_waits,
+    step_ended, step_failed, step_refused, step_started, step_stopped,
 };
 use crate::field::Shape;
 use crate::remark::Remark;
@@ -72,6 +72,7 @@ impl Remark<'_> {
             Remark::InputUnknown => input_unknown(a, shape),
             Remark::BuildMissing { build } => build_missing(a, shape, build),
             Remark::BuildWaits { build, worker } => build_waits(a, shape, build, worker),
+            Remark::BuildUnstarted { build } => build_unstarted(a, shape, build),
             Remark::BuildStarted { build, worker } => build_started(a, shape, build, worker),
             Remark::BuildEnded { build, result } => build_ended(a, shape, build, result),
             Remark::BuildCancelled { build } => build_cancelled(a, shape, build),

@@ -12,9 +12,9 @@ const WAIT_MS: u64 = 1_000;
 /// in milliseconds.
 #[derive(Drop)]
 pub struct WaitNotice {
-    /// Since when something waits, where it does.
+    /// Since when something waits, in milliseconds of the clock. None while nothing does.
     since: Option<u64>,
-    /// Whether that was told.
+    /// Whether this wait was told.
     is_told: bool,
 }
 

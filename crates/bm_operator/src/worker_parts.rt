@@ -8,7 +8,6 @@ use crate::field::{Field, Shape, shaped};
 use crate::reasons::{LossCause, ProgramRefusal};
 use std::alloc::{AllocError, Global};
 
-// A worker logged in.
 pub(crate) fn logged_in(alloc: Global, shape: Shape, worker: &str) -> Result<String, AllocError>
     ensures { IfOk result (λ s. string_bytes s ≡ shaped shape (logged_in worker.now)) }
 {
@@ -21,7 +20,6 @@ pub(crate) fn logged_in(alloc: Global, shape: Shape, worker: &str) -> Result<Str
     )
 }
 
-// A worker is back.
 pub(crate) fn resumed(alloc: Global, shape: Shape, worker: &str) -> Result<String, AllocError>
     ensures { IfOk result (λ s. string_bytes s ≡ shaped shape (resumed worker.now)) }
 {
@@ -34,7 +32,6 @@ pub(crate) fn resumed(alloc: Global, shape: Shape, worker: &str) -> Result<Strin
     )
 }
 
-// A worker's connection was cut.
 pub(crate) fn worker_cut(
     alloc: Global,
     shape: Shape,
@@ -115,7 +112,6 @@ pub(crate) fn filled(alloc: Global, shape: Shape, worker: &str) -> Result<String
     )
 }
 
-// The program of a worker was started.
 pub(crate) fn program_started(
     alloc: Global,
     shape: Shape,
@@ -132,7 +128,6 @@ pub(crate) fn program_started(
     )
 }
 
-// The program of a worker was not started.
 pub(crate) fn program_failed(
     alloc: Global,
     shape: Shape,
@@ -153,7 +148,6 @@ pub(crate) fn program_failed(
     )
 }
 
-// The program of a worker ended.
 pub(crate) fn program_ended(alloc: Global, shape: Shape, worker: &str) -> Result<String, AllocError>
     ensures { IfOk result (λ s. string_bytes s ≡ shaped shape (program_ended worker.now)) }
 {

@@ -135,7 +135,6 @@ impl Outbox {
         Ok(())
     }
 
-    // Puts texts of a command behind the others.
     fn push_all(&mut self, command: u64, texts: Vec<Said>) -> Result<(), AllocError>
         ensures { OnOk result (self.new ≡ self.old ++ waiting_texts command texts.items) }
     {
@@ -213,7 +212,6 @@ impl Outbox {
     }
 }
 
-/// Tells an entry by the worker's core.
 fn tell_entry(
     alloc: Global,
     worker: &mut Worker,
@@ -258,7 +256,6 @@ fn header_texts(alloc: Global, command: u64, line: &str) -> Result<Vec<Said>, Al
     Ok(all)
 }
 
-/// What is said of a command's exit code.
 fn exit_texts(alloc: Global, command: u64, code: i64) -> Result<Vec<Said>, AllocError>
     ensures { IfOk result (λ v. IsHeader (exit_line code) v.items) }
 {
@@ -267,7 +264,6 @@ fn exit_texts(alloc: Global, command: u64, code: i64) -> Result<Vec<Said>, Alloc
     Ok(texts)
 }
 
-/// What is said of a command that can't be started for this reason.
 fn fault_text(alloc: Global, why: StartFault) -> Result<Said, AllocError>
     ensures letter { IfOk result (λ said. said.letter ≡ H) }
     ensures text { IfOk result (λ said. said.text ≡ fault_line why) }

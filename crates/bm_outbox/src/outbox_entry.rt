@@ -6,17 +6,17 @@ ghost use Rattle.bm_outbox.specs.OutboxEntries.{command_of};
 use crate::ending::Ending;
 use crate::said::Said;
 
-/// What is told of a command in one step.
+/// What one step tells of a command.
 #[derive(Drop)]
 pub enum OutboxEntry {
-    /// A text of it.
+    /// A part of what it printed, or a header line.
     Text { command: u64, said: Said },
-    /// Its end.
+    /// Its exit code, or why it has none. All its texts stand before it.
     End { command: u64, ending: Ending },
 }
 
 impl OutboxEntry {
-    /// The number of the command.
+    /// The command's number on its lane, as the master gave it.
     pub fn command(&self) -> u64
         ensures { result ≡ command_of self.now }
     {

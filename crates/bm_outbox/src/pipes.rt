@@ -105,14 +105,14 @@ pub struct ExitCode {
 }
 
 impl ExitCode {
-    /// The command that ended with it.
+    /// The number of the command whose pipes gave it.
     pub fn command(&self) -> u64
         ensures { result ≡ self.now.command }
     {
         self.command
     }
 
-    /// The number.
+    /// The exit code of the process; -1 where it has none.
     pub fn get(&self) -> i64
         ensures { result ≡ self.now.code }
     {

@@ -44,7 +44,7 @@ impl StartFault {
         }
     }
 
-    /// Its text.
+    /// What stands behind `cannot start: ` in the last header line of the log.
     pub fn reason(self) -> &'static str
         ensures { result.now ≡ reason_of self }
     {

@@ -44,7 +44,6 @@ pub(crate) fn held_text(alloc: Global) -> Result<Said, AllocError>
     header(alloc, "pipe closed: held open for 60 seconds\n")
 }
 
-/// A line as a header.
 fn header(alloc: Global, line: &str) -> Result<Said, AllocError>
     requires { length line.now ≤ 65536 }
     ensures letter { IfOk result (λ said. said.letter ≡ H) }

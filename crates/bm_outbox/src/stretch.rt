@@ -10,9 +10,9 @@ use memchr::memrchr;
 const LONGEST: usize = 16_384;
 
 /// How many bytes are shown at once: those up to the last line end of the first 16,384. All 16,384
-/// are shown where no line ends in them. None where no text ends in the bytes. U+FFFD never reaches
-/// across a line end, so they are shown in one pass. An `Assembler` would make texts that have to
-/// be joined again.
+/// are shown where no line ends in them. None where no text ends in the bytes. One pass suffices,
+/// since U+FFFD never stands for bytes on both sides of a line end. An `Assembler` would make texts
+/// that have to be joined again.
 pub(crate) fn stretch_end(bytes: &[u8]) -> Option<usize>
     ensures { MatchOption result (IsUnended bytes.now) (IsStretch bytes.now) }
 {

@@ -60,7 +60,7 @@ impl Model for Tries {
 impl Tries {
     ghost use Rattle.std.specs.Prelude.{true, false, Some, None};
 
-    /// None was made, and no login was answered.
+    /// No try was made, and no login was answered.
     pub fn new() -> Tries
         ensures { result ≡ record {
           made = 0;
@@ -123,7 +123,8 @@ impl Tries {
         Some(FIRST_PAUSE_MS)
     }
 
-    /// The connection that stood, if one did, is there no more.
+    /// Forgets the connection that stood. Where it lasted for a try's share, the count starts
+    /// afresh.
     fn leave(&mut self, now_ms: u64)
         ensures { self.new ≡ after_connection now_ms self.old }
     {

@@ -15,9 +15,9 @@ pub enum Ready {
 }
 
 /// The place of the command that is told of next. It is the first whose end is to be told, or else
-/// the first that has a text. The one that was told of is to go behind all others each time. Then
-/// each command waits for one text of each of the others at the most. In the order in which things
-/// come, one that prints without end would hold back every other end.
+/// the first that has a text. The caller then puts that command behind all others. So each command
+/// waits for one text of each of the others at the most. In the order of coming, a command that
+/// prints without end would hold back every other end.
 #[tactic(auto, using(crate::proofs::Turns::turn_within))]
 pub fn next_turn(commands: &[Ready]) -> Option<usize>
     ensures turn { result ≡ next_turn commands.now }

@@ -42,8 +42,8 @@ impl Entries {
         self.vec.as_slice()
     }
 
-    /// Makes room for one entry more, so that the next `begin` succeeds. Called before a command is
-    /// started, it leaves no command that runs and has no entry. Want of memory changes nothing.
+    /// Makes room for one entry more, so that the next `begin` succeeds. It is called before each
+    /// start: so every running command has an entry. Want of memory changes nothing.
     pub fn reserve(&mut self) -> Result<(), AllocError>
         ensures told { self.new.told ≡ self.old.told }
         ensures room { OnOk result (0 < self.new.room) }

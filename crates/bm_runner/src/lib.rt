@@ -1,8 +1,8 @@
 //! The runner of a build's steps, one after the other, over a port to what carries out commands.
 //!
-//! Promised: the report follows from what the port told, an entry for each step that runs and none
-//! for another. A body could still hand the port another step's command, or interrupt a command too
-//! soon, too late or never: only tests see that. It could also want memory before the first start.
+//! Promised: the report follows from what the port told, and each started step has its one entry. A
+//! body could still hand the port another step's command. It could interrupt a command too soon,
+//! too late or never: only tests see that. It could also want memory before the first start.
 #![tactic(auto)]
 
 mod entries;

@@ -22,9 +22,9 @@ fn find_alike(steps: &[StepPlan], always_run: bool) -> Option<usize>
     steps.iter().position(|step| is_alike(always_run, step))
 }
 
-/// The place of the step that a port is given, of whose build so many are over or left out. A step
-/// that is left out doesn't always run, and behind it none does that doesn't. So it is the first of
-/// those to come that always runs, where it does, and else the first that doesn't.
+/// The place of the step that a port is given, where `behind` steps of the build were run or left
+/// out. Once one step is left out, only steps that always run are still run. So it is the first
+/// step to come that always runs, where this one does, and else the first that doesn't.
 pub fn place_of(steps: &[StepPlan], behind: usize, always_run: bool) -> Option<usize>
     ensures { result ≡ place_of steps.now behind always_run }
 {

@@ -11,7 +11,7 @@ use crate::event::Body;
 use crate::results::Results;
 use bm_value::Num;
 
-/// An open command.
+/// A command that was started and of which the worker hasn't told the end.
 #[derive(Clone, Copy)]
 pub struct Open {
     pub command: u64,

@@ -62,7 +62,7 @@ impl fmt::Display for Verdict {
 /// What the master sends after an event.
 #[derive(Clone, Copy, PartialEq, Eq)]
 pub enum Reply {
-    /// Nothing.
+    /// The event wants no answer.
     Silent,
     /// The answer to the request with this number.
     Answer(u64, Verdict),

@@ -20,7 +20,7 @@ pub enum Results {
 }
 
 impl Results {
-    /// The name in capitals.
+    /// The name as Buildbot's manual writes it, in capitals.
     pub fn name(self) -> &'static str
         ensures { result.now ≡ result_name self }
     {

@@ -161,7 +161,6 @@ impl Table {
         }
     }
 
-    /// Takes a fresh request.
     fn take_request(&mut self, number: u64, body: &Body)
         requires known { IsTableUp self.old }
         requires room { 0 < table_room self.old }

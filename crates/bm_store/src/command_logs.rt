@@ -52,7 +52,6 @@ fn find<'a>(logs: &'a [NamedLog], name: &str) -> Option<&'a NamedLog>
     logs.iter().find(|log| log.name().is(name))
 }
 
-/// The log at a place.
 fn log_at(logs: &[NamedLog], place: usize) -> Option<&NamedLog>
     ensures { option_copied result ≡ slice_get logs.now place }
 {

@@ -45,7 +45,7 @@ impl NamedLog {
         })
     }
 
-    /// The name of the log.
+    /// The name under which updates and viewers ask for it.
     pub fn name(&self) -> &LogName
         ensures { result.now ≡ self.now.name }
     {

@@ -16,7 +16,7 @@ use std::alloc::{AllocError, Global};
 /// bytes of its first block that were told before.
 #[derive(Drop)]
 pub struct Portion {
-    /// The portion.
+    /// The text of the asked lines, behind `skip` bytes that were told before.
     pub content: Text,
     /// How many of the asked lines, from the first on, the rest begins behind.
     pub lines: u64,

@@ -68,7 +68,6 @@ impl<'a, A: Allocator + Copy> Reader<'a, A> {
         Ok(u64::from_be_bytes([b[0], b[1], b[2], b[3], b[4], b[5], b[6], b[7]]))
     }
 
-    /// An unsigned number.
     fn number(&mut self, wide: Wide) -> Result<u64, DecodeError>
         ensures { Gives (λ n. (n, self.new.rest.now)) result
             (number_at (width wide) self.old.rest.now) }

@@ -34,7 +34,7 @@ impl<A: Allocator> ValueText<A> {
         self.string
     }
 
-    /// The text.
+    /// Lends the text, without a copy.
     pub fn as_str(&self) -> &str
         ensures { result.now ≡ self.now }
     {

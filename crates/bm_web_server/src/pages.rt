@@ -143,7 +143,8 @@ fn long<R: Wait + Copy, S: Handler>(
         service,
         rest,
         seen,
-        has_told: false,
+        told_bytes: 0,
+        owes_turn: false,
     };
     let mut response = Response::new(pages.alloc, PageBody::Long(unsent));
     let json = HeaderValue::from_static("application/json");

@@ -13,7 +13,7 @@ use thiserror::Error;
 pub enum WorkAct {
     /// Start the command.
     Run { command: u64, argv: Argv },
-    /// Interrupt the command.
+    /// Stop the command with this number.
     Interrupt(u64),
     /// Show the text.
     Print(Text),

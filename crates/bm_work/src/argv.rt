@@ -100,7 +100,6 @@ fn strs(alloc: Global, items: &Items<Global>) -> Result<Option<Argv>, AllocError
     Ok(Some(Argv { words }))
 }
 
-/// The text of a str.
 fn as_str(value: &Value<Global>) -> Option<&str>
     ensures { option_copied result ≡ str_of (tree value.now) }
 {

@@ -84,7 +84,6 @@ pub(crate) fn said(
     })
 }
 
-/// The update with one item.
 #[tactic(auto, using(crate::proofs::Sizes::sizes))]
 fn update(alloc: Global, seq: u64, command: u64, field: Field) -> Result<Sent, AllocError>
     requires number { seq < 2 ^ 63 }

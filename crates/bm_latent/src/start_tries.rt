@@ -1,15 +1,16 @@
-//! How often the thread of a build is tried to be started.
+//! For how long a start is tried that the system refuses for want of threads, processes or memory.
 
 ghost use Rattle.std.specs.Prelude.{◌≡◌};
-ghost use Rattle.bm_build_queue.specs.StartTries.{is_given_up, tries_after};
+ghost use Rattle.bm_latent.specs.StartTries.{is_given_up, tries_after};
 
 use std::marker::Model;
 
-/// For how many ticks of 10 milliseconds it is tried again: a minute. A machine that is short of
-/// threads or memory for a moment so costs no build.
+/// For how many ticks of 10 milliseconds a start is tried again: a minute. A machine that is short
+/// of threads, processes or memory for a moment so costs no build.
 const MOST_TICKS: u32 = 6_000;
 
-/// Counts the ticks for which the thread of a build is tried to be started. Contracts see them.
+/// Counts the ticks for which a start is tried: of a build's thread, or of a worker's program.
+/// Contracts see them.
 #[derive(Drop)]
 pub struct StartTries {
     ticks: u32,
@@ -24,7 +25,7 @@ impl Model for StartTries {
 }
 
 impl StartTries {
-    /// It was tried for the first time.
+    /// The start was refused for the first time, and no tick has passed.
     pub fn new() -> StartTries
         ensures { result ≡ 0 }
     {
@@ -38,8 +39,7 @@ impl StartTries {
         self.ticks = self.ticks.saturating_add(1);
     }
 
-    /// Whether it isn't tried again. A build that is cancelled meanwhile is over, as one is that
-    /// waits.
+    /// Whether it isn't tried again. What is cancelled meanwhile is over at once.
     pub fn is_given_up(&self, is_cancelled: bool) -> bool
         ensures { result ≡ is_given_up self.now is_cancelled }
     {

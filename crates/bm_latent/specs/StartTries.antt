@@ -1,4 +1,4 @@
--- How often the thread of a build is tried to be started.
+-- For how long a start is tried that the system refuses.
 use Rattle.std.specs.Prelude.{ℕ, ◌+◌, ◌-◌, ◌^◌, Bool, min, nat_le, ◌||◌}
 
 -- so many ticks are tried at most: a minute
@@ -9,6 +9,6 @@ most_ticks = 6000
 abbrev pub tries_after : ℕ → ℕ
 tries_after ticks = min (ticks + 1) (2 ^ 32 - 1)
 
--- it isn't tried again: it was for a minute, or its build is cancelled
+-- it isn't tried again: it was for a minute, or it is cancelled
 abbrev pub is_given_up : ℕ → Bool → Bool
 is_given_up ticks is_cancelled = is_cancelled || nat_le most_ticks ticks
