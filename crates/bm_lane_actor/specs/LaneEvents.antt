@@ -28,6 +28,14 @@ event_after Up Down cause = Some (event.Lost cause)
 event_after Cut Down cause = Some (event.Lost cause)
 event_after _ _ cause = None
 
+-- What is told of a link that has taken up a lane which stood so before: that a cut session is lost
+-- where it doesn't go on, and the login.
+abbrev pub greeting : ConnectionState → Bool → Option LaneEvent × LaneEvent
+greeting before true = (None, event.Resumed)
+greeting Cut false = (Some (event.Lost loss.Replaced), event.Attached)
+greeting Up false = (None, event.Attached)
+greeting Down false = (None, event.Attached)
+
 -- why a lane whose link failed so is cut or given up
 abbrev pub loss_of : LinkFault → LossCause
 loss_of fault.Stream = loss.Stream

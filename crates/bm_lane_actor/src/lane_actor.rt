@@ -7,10 +7,10 @@ use crate::byte_count::ByteCounts;
 use crate::connection_state::ConnectionState;
 use crate::drain_gate::DrainGate;
 use crate::lane_event::{EventSink, event_after, loss_of};
+use crate::lane_policy::{LaneInput, LanePolicy};
 use crate::lane_request::{LaneRequest, LaneSignal};
 use crate::lane_state::{Awaited, LaneState};
 use crate::mailbox::{Mailbox, NextRequest};
-use crate::peer_timer::{PeerTimer, glance_ms};
 use crate::read_watch::ReadWatch;
 use crate::stop_orders::StopOrders;
 use crate::stream::WorkerStream;
@@ -41,9 +41,10 @@ pub(crate) struct LaneActor<'a, Y: Yard, T, R: Wait + Clock + Drop> {
     pub(crate) arena: Bump,
     /// Since when the timer counts. None where the clock failed: it then counts nothing.
     pub(crate) began: Option<Instant>,
-    /// How long the worker has been silent.
-    pub(crate) peer: PeerTimer,
-    /// A link that has logged in while the lane is up, until its worker lives or is given up.
+    /// What is to be done about the worker's connection, and about a link that waits.
+    pub(crate) policy: LanePolicy,
+    /// A link that has logged in while the lane is up, until its worker lives or is given up: as
+    /// the policy says, there is one or none.
     pub(crate) waiting: Option<MasterLink<WorkerStream<R>>>,
     pub(crate) gate: &'a DrainGate<R>,
     /// The number of the lane.
@@ -58,8 +59,6 @@ pub(crate) struct LaneActor<'a, Y: Yard, T, R: Wait + Clock + Drop> {
     pub(crate) stops: StopOrders,
     /// The ticks of a lane that is cut, from the cut on.
     pub(crate) ticks: Option<TickCounter>,
-    /// Why a cut lane is given up.
-    pub(crate) why: LossCause,
 }
 
 /// An arena for a lane's messages.
@@ -98,7 +97,7 @@ where
         state,
         arena: arena_of(alloc),
         began: Instant::now(rt).ok(),
-        peer: PeerTimer::new(0, 0),
+        policy: LanePolicy::new(),
         waiting: None,
         gate,
         place: mailbox.lane() as usize,
@@ -107,7 +106,6 @@ where
         reads: ReadWatch::new(),
         stops: StopOrders::new(alloc),
         ticks: None,
-        why: LossCause::Expired,
     };
     for _ in rt.forever() {
         if !actor.goes_on(mailbox) {
@@ -115,7 +113,7 @@ where
         }
     }
     mailbox.shut();
-    actor.put_off_waiting();
+    actor.follows(LaneInput::PutOff);
     actor.leave()
 }
 
@@ -143,10 +141,9 @@ where
         self.takes(next)
     }
 
-    /// How long it waits for a request at most: until something is to be done about a silent worker.
+    /// How long it waits for a request at most.
     fn glance(&self) -> Duration {
-        let is_up = matches!(self.state.connection(), ConnectionState::Up);
-        Duration::from_millis(glance_ms(is_up, self.rest(), self.waiting.is_some()))
+        Duration::from_millis(self.policy.rest_ms(self.is_up(), self.now()))
     }
 
     /// Counts the ticks of a lane that is cut: one that isn't awaited any more is given up.
@@ -174,17 +171,17 @@ where
             self.reads.told();
         }
         if mailbox.takes(LaneSignal::ShutDown) {
-            self.why = LossCause::Dismissed;
+            self.follows(LaneInput::ShutDown);
             self.state.shut_down(self.alloc);
             self.reads.told();
             self.expire();
         }
         if mailbox.takes(LaneSignal::Ended) {
-            self.why = LossCause::Ended;
+            let is_up = self.is_up();
+            self.follows(LaneInput::Ended { is_up });
             self.state.dismiss();
             self.reads.told();
             self.expire();
-            self.ask_for_life();
         }
     }
 
@@ -213,7 +210,7 @@ where
                 let _ = answer.send(self.rt, ());
             }
             LaneRequest::PutOff(answer) => {
-                self.put_off_waiting();
+                self.follows(LaneInput::PutOff);
                 let _ = answer.send(self.rt, ());
             }
             LaneRequest::Look => {}
@@ -283,14 +280,14 @@ where
     fn tick(&mut self) {
         let before = self.state.connection();
         self.state.tick(self.rt);
-        self.note(before, self.why);
+        self.note(before, self.policy.why());
     }
 
     /// A cut lane whose worker is awaited no more is given up.
     fn expire(&mut self) {
         let before = self.state.connection();
         self.state.expire(self.rt);
-        self.note(before, self.why);
+        self.note(before, self.policy.why());
     }
 
     /// Tells the worker that the master ends, gives the session up, and hands the lane's end back.

@@ -2,9 +2,8 @@
 
 use crate::connection_state::ConnectionState;
 use crate::lane_actor::LaneActor;
-use crate::lane_event::{EventSink, LaneEvent};
-use crate::login_fates::{LoginFate, WaitingFate, login_fate, waiting_fate};
-use crate::peer_timer::{PeerAction, PeerTimer};
+use crate::lane_event::{EventSink, LaneEvent, greeting};
+use crate::lane_policy::{LaneActs, LaneInput, LinkAct, SecondAct};
 use crate::stream::WorkerStream;
 use bm_lane::Yard;
 use bm_latent::millis;
@@ -31,59 +30,39 @@ where
         }
     }
 
-    /// The time in milliseconds, for the timer.
-    fn now(&self) -> u64 {
+    /// The time in milliseconds, for the policy.
+    pub(crate) fn now(&self) -> u64 {
         self.age().unwrap_or(0)
     }
 
-    /// For how many milliseconds nothing is to be done about the worker, if nothing comes from it.
-    pub(crate) fn rest(&self) -> u64 {
-        self.peer.rest(self.now())
+    /// Whether the lane has a link.
+    pub(crate) fn is_up(&self) -> bool {
+        self.state.connection() == ConnectionState::Up
     }
 
-    /// What is to be done about the worker now.
-    fn peer_action(&mut self) -> PeerAction {
-        let (came, now) = (self.came(), self.now());
-        match self.state.connection() {
-            ConnectionState::Up => self.peer.look(came, now),
-            ConnectionState::Cut | ConnectionState::Down => PeerAction::Nothing,
-        }
+    /// An input comes to the policy: what follows is done.
+    pub(crate) fn follows(&mut self, input: LaneInput) {
+        let now = self.now();
+        let acts = self.policy.step(input, now);
+        self.does(acts);
     }
 
-    /// Asks a silent worker for a sign of life. Where it is taken for dead, and nothing of it waits
-    /// to be read, its link fails at once. Then another link waits no longer. One whose peer has left
-    /// is let go.
-    pub(crate) fn watch(&mut self) {
-        let mut action = self.peer_action();
-        if action == PeerAction::GiveUp {
-            self.turn();
-            action = self.peer_action();
+    /// Does what is to be done with the lane's link, and with the one that waits.
+    fn does(&mut self, acts: LaneActs) {
+        match acts.link {
+            LinkAct::Nothing | LinkAct::Read => {}
+            LinkAct::Ping => self.ask(),
+            LinkAct::Fail => self.fail(),
         }
-        match action {
-            PeerAction::Nothing => {}
-            PeerAction::Ask => self.ask(),
-            PeerAction::GiveUp => {
-                if let Some(stream) = self.state.stream() {
-                    stream.give_up();
+        match acts.second {
+            SecondAct::Wait | SecondAct::Replace | SecondAct::Displace => {}
+            SecondAct::Admit => {
+                if let Some(link) = self.waiting.take() {
+                    self.admit(link);
                 }
-                self.turn();
             }
-        }
-        let is_wanted = action == PeerAction::Nothing && self.peer.is_wanted();
-        let is_awaited = is_wanted && self.state.connection() == ConnectionState::Up;
-        self.look_at_waiting(is_awaited);
-    }
-
-    /// Goes on with a link that waits. `is_awaited`: it isn't known yet whether the worker of the
-    /// lane's link lives.
-    fn look_at_waiting(&mut self, is_awaited: bool) {
-        let Some(link) = self.waiting.take() else {
-            return;
-        };
-        match waiting_fate(is_awaited, link.get_ref().has_left()) {
-            WaitingFate::Admit => self.admit(link),
-            WaitingFate::Wait => self.waiting = Some(link),
-            WaitingFate::Drop => {}
+            SecondAct::Drop => self.waiting = None,
+            SecondAct::PutOff => self.put_off_waiting(),
         }
     }
 
@@ -93,45 +72,71 @@ where
         self.reads.told();
     }
 
-    /// It is to be known soon whether the worker of the lane's link lives: it is asked for a sign of
-    /// life, and has little time for that. The connection of a dead machine would else look alive
-    /// for a minute, for which builds or another login wait.
-    pub(crate) fn ask_for_life(&mut self) {
-        if self.state.connection() == ConnectionState::Up {
-            self.ask();
-            let now = self.now();
-            self.peer.want(now);
+    /// The lane's link fails.
+    fn fail(&mut self) {
+        if let Some(stream) = self.state.stream() {
+            stream.give_up();
         }
+        self.turn();
     }
 
-    /// A link comes. Where the lane is up it is looked first whether that still holds. Then its
-    /// worker is asked for a sign of life, and the link waits for that. A second link of the lane's
-    /// own worker, which has left those before, waits in the place of the first.
+    /// What the policy says of the worker, and of the link that waits. `is_read`: the lane's link
+    /// was read until nothing came.
+    fn look(&mut self, is_read: bool) -> LaneActs {
+        let has_left = match &self.waiting {
+            Some(link) => link.get_ref().has_left(),
+            None => false,
+        };
+        let now = self.now();
+        let input = LaneInput::Look {
+            is_up: self.is_up(),
+            came: self.came(),
+            is_read,
+            has_left,
+        };
+        self.policy.step(input, now)
+    }
+
+    /// Does what is due about a silent worker, and goes on with a link that waits.
+    pub(crate) fn watch(&mut self) {
+        let mut acts = self.look(false);
+        if acts.link == LinkAct::Read {
+            self.turn();
+            acts = self.look(true);
+        }
+        self.does(acts);
+    }
+
+    /// A link comes. Where the lane is up it is looked first whether that still holds.
     pub(crate) fn attach(&mut self, link: MasterLink<WorkerStream<R>>) {
-        if self.state.connection() == ConnectionState::Up {
+        if self.is_up() {
             self.turn();
             self.watch();
         }
-        let is_up = self.state.connection() == ConnectionState::Up;
-        match login_fate(is_up, self.waiting.is_some(), self.state.names_kept(&link)) {
-            LoginFate::Admit => self.admit(link),
-            LoginFate::Wait => {
-                self.ask_for_life();
+        let is_first_own = match &self.waiting {
+            Some(first) => self.state.names_kept(first),
+            None => false,
+        };
+        let now = self.now();
+        let input = LaneInput::Login {
+            is_up: self.is_up(),
+            is_own: self.state.names_kept(&link),
+            is_first_own,
+        };
+        let acts = self.policy.step(input, now);
+        if acts.link == LinkAct::Ping {
+            self.ask();
+        }
+        match acts.second {
+            SecondAct::Wait | SecondAct::Replace => self.waiting = Some(link),
+            SecondAct::Displace => {
+                if let Some(first) = self.waiting.take() {
+                    self.admit(first);
+                }
                 self.waiting = Some(link);
             }
-            LoginFate::TakePlace => self.take_place(link),
+            SecondAct::Admit | SecondAct::Drop | SecondAct::PutOff => self.admit(link),
         }
-    }
-
-    /// A link of the lane's own worker waits in the place of the one that does. Another worker's is
-    /// told that the lane is up.
-    fn take_place(&mut self, link: MasterLink<WorkerStream<R>>) {
-        if let Some(first) = self.waiting.take() {
-            if !self.state.names_kept(&first) {
-                self.admit(first);
-            }
-        }
-        self.waiting = Some(link);
     }
 
     /// A link takes the lane up, or is told why not.
@@ -152,23 +157,20 @@ where
     /// A link has taken the lane up, which was in the state `before`. Its builds are called once
     /// that was told.
     fn welcome(&mut self, attached: Attached, before: ConnectionState) {
-        self.why = LossCause::Expired;
-        self.peer = PeerTimer::new(self.came(), self.now());
-        if attached == Attached::Resumed {
-            self.events.tell(LaneEvent::Resumed);
-        } else {
-            if before == ConnectionState::Cut {
-                self.events.tell(LaneEvent::Lost(LossCause::Replaced));
-            }
-            self.events.tell(LaneEvent::Attached);
+        let (came, now) = (self.came(), self.now());
+        self.policy.step(LaneInput::Attached { came }, now);
+        let (loss, login) = greeting(before, attached == Attached::Resumed);
+        if let Some(loss) = loss {
+            self.events.tell(loss);
         }
+        self.events.tell(login);
         self.gate.call_builds(self.place);
         self.gate.wake(self.place);
     }
 
     /// A link that waits is told `busy`, since the master ends. It would else see an end without a
     /// word, and a text of its own would be one more exception of the protocol.
-    pub(crate) fn put_off_waiting(&mut self) {
+    fn put_off_waiting(&mut self) {
         let Some(link) = self.waiting.take() else {
             return;
         };

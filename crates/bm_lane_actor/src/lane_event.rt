@@ -3,7 +3,7 @@
 
 ghost use Rattle.std.specs.Prelude.{◌≡◌, option_map};
 ghost use Rattle.bm_operator.specs.Remark.{told};
-ghost use Rattle.bm_lane_actor.specs.LaneEvents.{connection_of, declines, event_after, event_of, event_told, fills, loss_of};
+ghost use Rattle.bm_lane_actor.specs.LaneEvents.{connection_of, declines, event_after, event_of, event_told, fills, greeting, loss_of};
 
 use crate::connection_state::ConnectionState;
 use crate::login_refusal::refusal_of;
@@ -67,6 +67,23 @@ pub(crate) fn event_after(
             cause,
         )),
         _ => None,
+    }
+}
+
+/// What is told of a link that has taken up a lane which stood so before: a session that it ends, if
+/// any, and the login. `is_resumed`: the session goes on.
+pub(crate) fn greeting(before: ConnectionState, is_resumed: bool) -> (Option<LaneEvent>, LaneEvent)
+    ensures { result ≡ greeting before is_resumed }
+{
+    match (before, is_resumed) {
+        (_, true) => (None, LaneEvent::Resumed),
+        (ConnectionState::Cut, false) => {
+            (
+                Some(LaneEvent::Lost(LossCause::Replaced)),
+                LaneEvent::Attached,
+            )
+        }
+        (ConnectionState::Up | ConnectionState::Down, false) => (None, LaneEvent::Attached),
     }
 }
 

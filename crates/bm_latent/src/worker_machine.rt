@@ -37,7 +37,7 @@ pub struct WorkerMachine {
 }
 
 impl Model for WorkerMachine {
-    ghost use Rattle.std.specs.Prelude.{◌≡◌, ◌≤◌, IfSome, true};
+    ghost use Rattle.std.specs.Prelude.{◌≡◌, ◌≤◌, IfSome, true, false};
     ghost use Rattle.bm_latent.specs.WorkerMachine.{MachineView};
 
     ghost Value = { MachineView };
@@ -53,7 +53,8 @@ impl Model for WorkerMachine {
       over = m.is_over;
     } };
 
-    ghost invariant = { λ m. IfSome m.deadline (λ ticks. 200 ≤ ticks → m.is_asked ≡ true) };
+    ghost invariant = { λ m. IfSome m.deadline (λ ticks. 200 ≤ ticks → m.is_asked ≡ true)
+        × (m.is_starting ≡ true → m.is_running ≡ false) };
 }
 
 // What happens to a program, and a tick, have inputs of their own.
@@ -146,6 +147,7 @@ impl WorkerMachine {
     fn hear(&mut self, event: WorkerEvent) -> WorkerAction
         ensures machine { self.new ≡ heard self.old event }
         ensures action { result ≡ answer self.old event }
+        ensures one { result.process ≡ process_act.Start → self.new.running ≡ false }
     {
         let mut action = self.state.hear(event);
         if action.process == ProcessAction::Start && (self.is_running || self.is_starting) {
@@ -168,6 +170,8 @@ impl WorkerMachine {
     fn happens(&mut self, event: WorkerEvent) -> WorkerEffect
         ensures machine { self.new ≡ machine_after self.old (input.Happened event) }
         ensures effect { result ≡ effect_of self.old (input.Happened event) }
+        ensures one { result.action.process ≡ process_act.Start → self.new.running ≡ false }
+        ensures asked { result.ends ≡ end_act.Kill → self.old.asked ≡ true }
     {
         if !is_of_lane(event) {
             return does(self.nothing());
@@ -184,6 +188,8 @@ impl WorkerMachine {
     fn begins(&mut self) -> WorkerEffect
         ensures machine { self.new ≡ machine_after self.old input.Started }
         ensures effect { result ≡ effect_of self.old input.Started }
+        ensures one { result.action.process ≡ process_act.Start → self.new.running ≡ false }
+        ensures asked { result.ends ≡ end_act.Kill → self.old.asked ≡ true }
     {
         if !self.is_starting {
             return does(self.nothing());
@@ -203,6 +209,7 @@ impl WorkerMachine {
     fn gives_start_up(&mut self) -> WorkerAction
         ensures machine { self.new ≡ heard (unstarted self.old) (fault self.old) }
         ensures action { result ≡ answer (unstarted self.old) (fault self.old) }
+        ensures one { result.process ≡ process_act.Start → self.new.running ≡ false }
     {
         self.is_starting = false;
         if self.state.is_ready() {
@@ -215,6 +222,8 @@ impl WorkerMachine {
     fn refused(&mut self, may_pass: bool) -> WorkerEffect
         ensures machine { self.new ≡ machine_after self.old (input.Refused may_pass) }
         ensures effect { result ≡ effect_of self.old (input.Refused may_pass) }
+        ensures one { result.action.process ≡ process_act.Start → self.new.running ≡ false }
+        ensures asked { result.ends ≡ end_act.Kill → self.old.asked ≡ true }
     {
         if !self.is_starting || may_pass && !self.tries.is_given_up(false) {
             return does(self.nothing());
@@ -229,6 +238,8 @@ impl WorkerMachine {
     fn stops(&mut self) -> WorkerEffect
         ensures machine { self.new ≡ machine_after self.old input.Ended }
         ensures effect { result ≡ effect_of self.old input.Ended }
+        ensures one { result.action.process ≡ process_act.Start → self.new.running ≡ false }
+        ensures asked { result.ends ≡ end_act.Kill → self.old.asked ≡ true }
     {
         if !self.is_running {
             return does(self.nothing());
@@ -246,6 +257,8 @@ impl WorkerMachine {
     fn ticks(&mut self, is_wanted: bool, has_build: bool) -> WorkerEffect
         ensures machine { self.new ≡ machine_after self.old (input.Tick is_wanted has_build) }
         ensures effect { result ≡ effect_of self.old (input.Tick is_wanted has_build) }
+        ensures one { result.action.process ≡ process_act.Start → self.new.running ≡ false }
+        ensures asked { result.ends ≡ end_act.Kill → self.old.asked ≡ true }
     {
         if self.state.is_needless(is_wanted) {
             self.must_end();
@@ -269,6 +282,7 @@ impl WorkerMachine {
     fn tick_program(&mut self) -> EndAct
         ensures machine { self.new ≡ ticked self.old }
         ensures ends { result ≡ act_at (after_tick self.old.deadline) }
+        ensures asked { result ≡ end_act.Kill → self.old.asked ≡ true }
     {
         if self.is_starting {
             self.tries.tick();
@@ -285,6 +299,7 @@ impl WorkerMachine {
         ensures action { result ≡ (if is_wanted
             then record { ready = is_ready self.old.known; process = process_act.Start; gives_up = false }
             else answer (unstarted self.old) (fault self.old)) }
+        ensures one { result.process ≡ process_act.Start → self.new.running ≡ false }
     {
         if !is_wanted {
             return self.gives_start_up();
@@ -299,6 +314,8 @@ impl WorkerMachine {
     fn ends(&mut self) -> WorkerEffect
         ensures machine { self.new ≡ machine_after self.old input.Over }
         ensures effect { result ≡ effect_of self.old input.Over }
+        ensures one { result.action.process ≡ process_act.Start → self.new.running ≡ false }
+        ensures asked { result.ends ≡ end_act.Kill → self.old.asked ≡ true }
     {
         self.must_end();
         let mut action = self.nothing();

@@ -44,7 +44,11 @@ where
     // Starts a build, or ends one that isn't tried any more. The answer is whether the next one may
     // be started now.
     fn start_one<E>(&mut self, scope: &Scope<'s, E>, build: UnstartedBuild<Y>) -> bool {
-        let UnstartedBuild { assignment, tries } = build;
+        let UnstartedBuild {
+            assignment,
+            tries,
+            is_told,
+        } = build;
         let (number, worker) = (assignment.number, assignment.worker);
         if tries.is_given_up(self.is_cancelled(number)) {
             self.gives_up(assignment);
@@ -56,7 +60,14 @@ where
                 true
             }
             Err(assignment) => {
-                self.unstarted = Some(UnstartedBuild { assignment, tries });
+                if !is_told {
+                    self.remark(&Remark::BuildUnstarted { build: number });
+                }
+                self.unstarted = Some(UnstartedBuild {
+                    assignment,
+                    tries,
+                    is_told: true,
+                });
                 false
             }
         }

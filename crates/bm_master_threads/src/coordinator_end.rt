@@ -89,7 +89,7 @@ where
             MasterEvent::Lane(worker, event) => {
                 let is_dismissed = self.is_dismissed(worker);
                 if is_dismissed || declines(event) {
-                    self.tell_lane(worker, event);
+                    self.hear_lane(worker, event);
                 }
             }
             _ => {}

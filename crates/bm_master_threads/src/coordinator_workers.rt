@@ -3,10 +3,10 @@
 use crate::coordinator::Coordinator;
 use crate::events::EventReceiver;
 use crate::host::MasterHost;
-use crate::worker_process::ProgramStart;
+use crate::worker_process::StartFailure;
 use bm_lane::Yard;
 use bm_lane_actor::{LaneEvent, LaneSignal, declines, event_of, fills, remark_of};
-use bm_latent::{ProcessAction, TICK_MS, WorkerAction, WorkerEvent};
+use bm_latent::{ProcessAction, TICK_MS, WorkerEffect, WorkerEvent, WorkerInput};
 use bm_operator::Remark;
 use bm_session::Results;
 use std::io::Write;
@@ -22,33 +22,60 @@ where
     R: MasterHost + 's,
     O: Write + Drop,
 {
-    // Something happened to a worker: what follows is done.
-    fn happens(&mut self, at: usize, event: WorkerEvent) {
-        let Some(worker) = self.workers.get_mut(at) else {
-            return;
-        };
-        let action = worker.hear(event);
-        self.act(at, action);
+    // An input comes to a worker's machine: what follows is done.
+    fn hears(&mut self, at: usize, input: WorkerInput) {
+        if let Some(effect) = self.step(at, input)
+            && self.does(at, &effect)
+        {
+            self.start_program(at);
+        }
     }
 
-    // Does what is to be done for a worker.
-    fn act(&mut self, at: usize, action: WorkerAction) {
-        let mut action = action;
-        for _ in 0..2 {
-            self.queue.set_ready(at, action.ready);
-            if action.gives_up {
-                self.is_stale = true;
-                self.give_up(at);
-            }
-            match action.process {
-                ProcessAction::None => return,
-                ProcessAction::Shutdown => return self.dismiss(at),
-                ProcessAction::Start => match self.start_process(at) {
-                    Some(next) => action = next,
-                    None => return,
-                },
+    // What follows from an input to a worker's machine.
+    fn step(&mut self, at: usize, input: WorkerInput) -> Option<WorkerEffect> {
+        let worker = self.workers.get_mut(at)?;
+        Some(worker.step(&self.shared.rt, self.shared.alloc, input))
+    }
+
+    // Does what follows, but for a start of its program: the answer is whether that is to come.
+    fn does(&mut self, at: usize, effect: &WorkerEffect) -> bool {
+        let action = effect.action;
+        self.queue.set_ready(at, action.ready);
+        if action.gives_up {
+            self.is_stale = true;
+            self.give_up(at);
+        }
+        match action.process {
+            ProcessAction::None => false,
+            ProcessAction::Start => true,
+            ProcessAction::Shutdown => {
+                self.dismiss(at);
+                false
             }
         }
+    }
+
+    // Starts the worker's program, and tells its machine what came of that. No other start follows
+    // from the answer.
+    fn start_program(&mut self, at: usize) {
+        let worker = self.name(at);
+        let Some(entry) = self.workers.get_mut(at) else {
+            return;
+        };
+        let (input, remark) = match entry.start(&self.shared.rt, self.shared.alloc) {
+            Ok(()) => (WorkerInput::Started, Remark::ProgramStarted { worker }),
+            Err(StartFailure { why, may_pass }) => {
+                let remark = Remark::ProgramFailed { worker, why };
+                (WorkerInput::Refused { may_pass }, remark)
+            }
+        };
+        let Some(effect) = self.step(at, input) else {
+            return;
+        };
+        if effect.fails || input == WorkerInput::Started {
+            self.remark(&remark);
+        }
+        self.does(at, &effect);
     }
 
     // Each build that waits for the worker is given up.
@@ -65,54 +92,19 @@ where
     }
 
     // Has the worker told to shut down.
-    fn dismiss(&mut self, at: usize) {
+    fn dismiss(&self, at: usize) {
         if let Some(lane) = self.shared.lanes.get(at) {
             lane.signal(&self.shared.rt, LaneSignal::ShutDown);
             let name = self.name(at);
             self.remark(&Remark::Dismissed { worker: name });
         }
-        if let Some(worker) = self.workers.get_mut(at) {
-            worker.dismiss();
-        }
     }
 
-    // Starts the worker's process, and answers what then is to be done. Nothing is where it is to be
-    // tried again.
-    fn start_process(&mut self, at: usize) -> Option<WorkerAction> {
-        let name = self.name(at);
-        let worker = self.workers.get_mut(at)?;
-        match worker.start(&self.shared.rt, self.shared.alloc) {
-            ProgramStart::Started => {
-                let action = worker.hear(WorkerEvent::Started);
-                self.remark(&Remark::ProgramStarted { worker: name });
-                Some(action)
-            }
-            ProgramStart::Later => None,
-            ProgramStart::Refused(why) => {
-                let action = worker.fails();
-                self.remark(&Remark::ProgramFailed { worker: name, why });
-                Some(action)
-            }
-        }
-    }
-
-    // Tries again to start the worker's process, where that is to be. Nothing is told where no build
-    // waits for it any more.
-    fn start_again(&mut self, at: usize) {
-        let is_wanted = self.queue.is_wanted(at);
-        let Some(worker) = self.workers.get_mut(at) else {
-            return;
-        };
-        if !worker.is_unstarted() {
-            return;
-        }
-        let action = if is_wanted {
-            self.start_process(at)
-        } else {
-            Some(worker.fails())
-        };
-        if let Some(action) = action {
-            self.act(at, action);
+    // Whether the worker's process has ended, told once.
+    fn has_ended(&mut self, at: usize) -> bool {
+        match self.workers.get_mut(at) {
+            Some(worker) => worker.has_ended(),
+            None => false,
         }
     }
 
@@ -123,29 +115,24 @@ where
         if let Some(lane) = self.shared.lanes.get(at) {
             lane.signal(&self.shared.rt, LaneSignal::Ended);
         }
-        self.happens(at, WorkerEvent::Stopped);
-    }
-
-    // A tick has passed for the process of a worker. The answer is whether it has ended.
-    fn tick_process(&mut self, at: usize) -> bool {
-        let is_wanted = self.queue.is_wanted(at);
-        let Some(worker) = self.workers.get_mut(at) else {
-            return false;
-        };
-        worker.is_wanted(is_wanted);
-        worker.tick(&self.shared.rt, self.shared.alloc);
-        worker.has_ended()
+        self.hears(at, WorkerInput::Ended);
     }
 
     /// A tick has passed.
     pub fn tick(&mut self) {
         for at in 0..self.workers.len() {
-            if self.tick_process(at) {
+            if self.has_ended(at) {
                 self.stopped(at);
             }
-            self.start_again(at);
+            let is_wanted = self.queue.is_wanted(at);
             let has_build = self.queue.has_build(at);
-            self.happens(at, WorkerEvent::Tick { has_build });
+            self.hears(
+                at,
+                WorkerInput::Tick {
+                    is_wanted,
+                    has_build,
+                },
+            );
         }
         self.tick_unstarted();
         self.want();
@@ -155,7 +142,7 @@ where
     pub fn want(&mut self) {
         for at in 0..self.workers.len() {
             if self.queue.is_wanted(at) {
-                self.happens(at, WorkerEvent::Wanted);
+                self.hears(at, WorkerInput::Happened(WorkerEvent::Wanted));
             }
         }
     }
@@ -177,44 +164,45 @@ where
         if let Some(remark) = remark_of(event, is_dismissed, self.name(at)) {
             self.remark(&remark);
         }
-        if matches!(event, LaneEvent::Attached | LaneEvent::Lost(_))
-            && let Some(worker) = self.workers.get_mut(at)
-        {
-            worker.goes_or_comes();
-        }
     }
 
     /// The actor of a worker's lane tells what happened to it.
     pub fn hear_lane(&mut self, at: usize, event: LaneEvent) {
         self.tell_lane(at, event);
         if let Some(event) = event_of(event) {
-            self.happens(at, event);
+            self.hears(at, WorkerInput::Happened(event));
         }
         if fills(event) {
-            self.happens(at, WorkerEvent::Filled);
+            self.hears(at, WorkerInput::Happened(WorkerEvent::Filled));
         }
+    }
+
+    // A tick has passed, and no build is left.
+    fn last_tick(&mut self, at: usize) {
+        if self.has_ended(at) {
+            self.step(at, WorkerInput::Ended);
+        }
+        self.step(
+            at,
+            WorkerInput::Tick {
+                is_wanted: false,
+                has_build: false,
+            },
+        );
     }
 
     /// Has the processes of workers ended, and ends those that don't in time.
     pub fn end_processes(&mut self, events: &EventReceiver<Y>) {
-        let shared = self.shared;
         for at in 0..self.workers.len() {
-            let is_running = match self.workers.get(at) {
-                Some(worker) => worker.is_running(),
-                None => false,
-            };
-            if is_running {
-                self.dismiss(at);
-            }
+            self.hears(at, WorkerInput::Over);
         }
         for _ in 0..LAST_TICKS {
             if !self.workers.iter().any(|worker| worker.is_running()) {
                 return self.hear_gone(events);
             }
-            thread::sleep(&shared.rt, Duration::from_millis(TICK_MS));
-            for worker in self.workers.iter_mut() {
-                worker.tick(&shared.rt, shared.alloc);
-                worker.has_ended();
+            thread::sleep(&self.shared.rt, Duration::from_millis(TICK_MS));
+            for at in 0..self.workers.len() {
+                self.last_tick(at);
             }
         }
         for worker in self.workers.iter_mut() {

@@ -1,7 +1,8 @@
 //! A build that has its slot, and no thread yet.
 
-use bm_build_queue::{Assignment, StartTries};
+use bm_build_queue::Assignment;
 use bm_lane::Yard;
+use bm_latent::StartTries;
 
 /// A build whose thread could not be started just now.
 #[derive(Drop)]
@@ -9,6 +10,8 @@ pub struct UnstartedBuild<Y: Yard> {
     pub assignment: Assignment<Y>,
     /// For how long it is tried.
     pub tries: StartTries,
+    /// Whether the operator was told that it waits.
+    pub is_told: bool,
 }
 
 impl<Y: Yard> UnstartedBuild<Y> {
@@ -17,6 +20,7 @@ impl<Y: Yard> UnstartedBuild<Y> {
         UnstartedBuild {
             assignment,
             tries: StartTries::new(),
+            is_told: false,
         }
     }
 }

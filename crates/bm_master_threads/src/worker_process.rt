@@ -1,11 +1,10 @@
-//! The process of a worker that is started on demand.
+//! The program that starts a worker on demand, and its process.
 
 ghost use Rattle.std.specs.Prelude.{◌≡◌};
 ghost use Rattle.bm_master_threads.specs.Programs.{may_pass};
 
 use bm_board::Words;
-use bm_build_queue::StartTries;
-use bm_latent::{Deadline, EndAct};
+use bm_latent::EndAct;
 use bm_operator::ProgramRefusal;
 use std::alloc::Global;
 use std::io::ErrorKind;
@@ -49,39 +48,42 @@ fn may_pass(kind: ErrorKind) -> bool
     matches!(kind, ErrorKind::WouldBlock | ErrorKind::OutOfMemory)
 }
 
-/// What came of a try to start a program.
+/// Why a program isn't started just now. Nothing runs that did not run before.
 #[derive(Clone, Copy, PartialEq, Eq)]
-pub enum ProgramStart {
-    Started,
-    /// It is to be tried again, at the next tick.
-    Later,
-    /// Nothing runs that did not run before, and it isn't tried again.
-    Refused(ProgramRefusal),
+pub struct StartFailure {
+    pub why: ProgramRefusal,
+    /// Whether it may be started a moment later.
+    pub may_pass: bool,
 }
 
-/// The program that starts a worker, and its process where one was started and hasn't ended.
+/// The program that starts a worker, and its process where one was started and hasn't ended. When
+/// it is started, asked and killed the worker's machine decides.
 #[derive(Drop)]
 pub struct WorkerProcess {
     words: Words,
     child: Option<Child>,
-    /// How long the process has that is to end.
-    deadline: Deadline,
-    /// Whether the process was asked to end, or killed.
-    is_asked: bool,
-    /// For how long its start is tried, where it is to be tried again.
-    tries: Option<StartTries>,
 }
 
 impl WorkerProcess {
     /// No process was started.
     pub fn new(words: Words) -> WorkerProcess {
-        WorkerProcess {
-            words,
-            child: None,
-            deadline: Deadline::new(),
-            is_asked: false,
-            tries: None,
+        WorkerProcess { words, child: None }
+    }
+
+    // The command of its words.
+    fn command(&self, alloc: Global) -> Result<Command, ProgramRefusal> {
+        let Some((program, rest)) = self.words.as_slice().split_first() else {
+            return Err(ProgramRefusal::NotFound);
+        };
+        let Ok(mut command) = Command::new(alloc, program.as_str()) else {
+            return Err(ProgramRefusal::Memory);
+        };
+        for word in rest {
+            if command.arg(word.as_str()).is_err() {
+                return Err(ProgramRefusal::Memory);
+            }
         }
+        Ok(command)
     }
 
     /// Starts the process. It has an empty input, and what it prints is dropped; its errors go
@@ -90,56 +92,27 @@ impl WorkerProcess {
         &mut self,
         rt: &R,
         alloc: Global,
-    ) -> ProgramStart {
-        let Some((program, rest)) = self.words.as_slice().split_first() else {
-            return ProgramStart::Refused(ProgramRefusal::NotFound);
-        };
-        let Ok(mut command) = Command::new(alloc, program.as_str()) else {
-            return ProgramStart::Refused(ProgramRefusal::Memory);
-        };
-        for word in rest {
-            if command.arg(word.as_str()).is_err() {
-                return ProgramStart::Refused(ProgramRefusal::Memory);
+    ) -> Result<(), StartFailure> {
+        let mut command = match self.command(alloc) {
+            Ok(command) => command,
+            Err(why) => {
+                let may_pass = why == ProgramRefusal::Memory;
+                return Err(StartFailure { why, may_pass });
             }
-        }
+        };
         command.stdin(Stdio::null());
         command.stdout(Stdio::null());
         command.stderr(Stdio::inherit());
         match command.spawn(rt) {
             Ok(child) => {
                 self.child = Some(child);
-                self.deadline.stop();
-                self.is_asked = false;
-                self.tries = None;
-                ProgramStart::Started
+                Ok(())
             }
-            Err(error) => self.refused(error.kind()),
+            Err(error) => Err(StartFailure {
+                why: refusal_of(error.kind()),
+                may_pass: may_pass(error.kind()),
+            }),
         }
-    }
-
-    // The system has refused its start so: it is tried for a minute where that may pass.
-    fn refused(&mut self, kind: ErrorKind) -> ProgramStart {
-        let tries = self.tries.take().unwrap_or(StartTries::new());
-        if may_pass(kind) && !tries.is_given_up(false) {
-            self.tries = Some(tries);
-            return ProgramStart::Later;
-        }
-        ProgramStart::Refused(refusal_of(kind))
-    }
-
-    /// Whether its start is to be tried again.
-    pub fn is_unstarted(&self) -> bool {
-        self.tries.is_some()
-    }
-
-    /// Its start isn't tried again.
-    pub fn forget_start(&mut self) {
-        self.tries = None;
-    }
-
-    /// Whether a process was started whose end was not seen.
-    pub fn is_running(&self) -> bool {
-        self.child.is_some()
     }
 
     /// Whether the process has ended, told once.
@@ -151,41 +124,26 @@ impl WorkerProcess {
             return false;
         }
         self.child = None;
-        self.deadline.stop();
         true
     }
 
-    /// The process is to end: it has some time for that before it is asked to, and then killed.
-    pub fn must_end(&mut self) {
-        if self.child.is_some() {
-            self.deadline.begin();
-        }
-    }
-
-    /// A tick has passed for a process that is to end, or to start.
-    pub fn tick<R: Processes<Started = SystemProcess>>(&mut self, rt: &R, alloc: Global) {
-        if let Some(tries) = &mut self.tries {
-            tries.tick();
-        }
+    /// Asks the process to end, or kills it.
+    pub fn end<R: Processes<Started = SystemProcess>>(
+        &mut self,
+        rt: &R,
+        alloc: Global,
+        act: EndAct,
+    ) {
         let Some(child) = &mut self.child else {
             return;
         };
-        match self.deadline.tick() {
+        match act {
             EndAct::None => {}
-            EndAct::Ask => {
-                self.is_asked = true;
-                ask(rt, alloc, child.id());
-            }
+            EndAct::Ask => ask(rt, alloc, child.id()),
             EndAct::Kill => {
-                self.is_asked = true;
                 let _ = child.kill();
             }
         }
-    }
-
-    /// Whether the last process was asked to end, or killed.
-    pub fn is_asked(&self) -> bool {
-        self.is_asked
     }
 
     /// Ends a process that is still there, and waits for its end.
