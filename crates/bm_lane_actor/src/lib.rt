@@ -4,7 +4,8 @@
 //! link. Requests and links come to it by a [`Mailbox`], and it answers each until it is told to
 //! leave. It waits at its mailbox alone: who waits for all sockets tells it of arrivals. [`log_in`]
 //! brings a new connection there, [`LanePort`] a build. [`DrainGate`] lets the pool of writers
-//! sleep, and calls builds. What the actor decides is in [`LaneState`].
+//! sleep, and calls builds. What an actor decides is in [`LaneState`] and [`LanePolicy`], what a port
+//! decides in `CancelPolicy` and [`StepMeter`].
 //!
 //! Promised: what each call of it does to lane, link and timers, and that the orders without an
 //! answer are those sent again. The loops round it have no clauses: a body could still wait too
@@ -12,6 +13,7 @@
 #![tactic(auto)]
 
 mod byte_count;
+mod cancel_policy;
 mod connection_state;
 mod drain_gate;
 mod lane_actor;
@@ -33,6 +35,7 @@ mod peer_timer;
 mod pending_login;
 mod port;
 mod port_log;
+mod port_tick;
 mod read_watch;
 mod resume_timer;
 mod seen_flag;

@@ -8,18 +8,19 @@ ghost use Rattle.bm_lane_actor.specs.Ports.{Begins, Looks, Polls, Sees, StartsAs
 ghost use Rattle.bm_lane_actor.specs.StepMeter.{fresh};
 
 use crate::byte_count::ByteCount;
+use crate::cancel_policy::{CancelActs, CancelInput, CancelPolicy};
 use crate::drain_gate::DrainGate;
 use crate::lane_request::{CancelFlag, LaneRequest};
 use crate::mailbox::LaneHandle;
-use crate::orders::{interrupt, is_left_out, start, wait_until_told};
+use crate::orders::{interrupt, start, wait_until_told};
 use crate::port_log::{header_in, is_lost, polled};
+use crate::port_tick::left_of_tick;
 use crate::seen_flag::SeenFlag;
 use crate::start_progress::StartProgress;
 use crate::step_meter::StepMeter;
 use crate::watch::Watch;
 use bm_board::StepPlan;
 use bm_lane::{Viewer, Yard};
-use bm_latent::TICK_MS;
 use bm_lines::{STDIO, Text};
 use bm_operator::StartRefusal;
 use bm_runner::{Entries, Polled, Port};
@@ -28,21 +29,11 @@ use std::alloc::Global;
 use std::marker::Model;
 use std::sync::atomic::{AtomicU64, Ordering};
 use std::sync::{Arc, Wait};
-use std::thread;
-use std::time::{Clock, Duration, Instant};
+use std::time::{Clock, Instant};
 
 /// The number of no command: that of a step whose build was cancelled before it was started. As a
 /// third answer of `start` every port would have to know it.
 const NO_COMMAND: u64 = u64::MAX;
-
-/// Whether the lane's actor has the order to interrupt a command.
-#[derive(Clone, Copy, PartialEq, Eq)]
-enum Interruption {
-    NotWanted,
-    /// It is to be handed over: memory was wanting for that.
-    Wanted,
-    HandedOver,
-}
 
 /// The port of a build. It asks how its command does once a tick, and at once where it has ended.
 /// It waits with a start until the lane is up or was given up, with an interruption for nothing. It
@@ -63,14 +54,12 @@ pub struct LanePort<'a, Y: Yard, S, R: Wait + Clock + Drop, W> {
     cancelled: SeenFlag<'a>,
     /// How far the start of the last step has come.
     progress: StartProgress,
-    /// Whether a cancel came before a step that always runs: it waits for the next one that
-    /// doesn't. The step would else be interrupted.
-    is_held: bool,
+    /// What is done about cancels, and what is interrupted.
+    cancels: CancelPolicy,
     /// The limits of the last step that was started.
     meter: StepMeter,
     /// What the updates of its command carried.
     bytes: Option<ByteCount>,
-    interruption: Interruption,
     watch: W,
     entries: Entries,
     refused: bool,
@@ -92,24 +81,6 @@ impl<'a, Y: Yard, S, R: Wait + Clock + Drop, W> Model for LanePort<'a, Y, S, R, 
     } };
 
     ghost invariant = { λ p. p.viewer.lane ≡ p.handle };
-}
-
-/// What is left of a tick that began then, if it isn't over. Where the clock fails it is waited for
-/// here.
-fn left_of_tick<R: Wait + Clock>(rt: &R, began: &Option<Instant>) -> Option<Duration> {
-    let tick = Duration::from_millis(TICK_MS);
-    let passed = match began {
-        Some(began) => began.elapsed(rt).ok(),
-        None => None,
-    };
-    match passed {
-        Some(passed) if passed < tick => tick.checked_sub(passed),
-        Some(_) => None,
-        None => {
-            thread::sleep(rt, tick);
-            None
-        }
-    }
 }
 
 impl<'a, Y: Yard, S: Drop, R: Wait + Clock + Drop, W: Watch + Drop> LanePort<'a, Y, S, R, W> {
@@ -135,10 +106,9 @@ impl<'a, Y: Yard, S: Drop, R: Wait + Clock + Drop, W: Watch + Drop> LanePort<'a,
             calls: 0,
             cancelled: SeenFlag::new(cancelled),
             progress: StartProgress::new(),
-            is_held: false,
+            cancels: CancelPolicy::new(),
             meter: StepMeter::new(0, 0, 0),
             bytes: None,
-            interruption: Interruption::NotWanted,
             watch,
             entries: Entries::new(alloc),
             refused: false,
@@ -192,10 +162,10 @@ impl<'a, Y: Yard, S: Drop, R: Wait + Clock + Drop, W: Watch + Drop> Port
         self.wait(k);
         let said = self.see(k);
         self.entries.note(k, said);
-        if said == Polled::Cancel {
-            self.watch.cancelled();
-        }
         if let Polled::Ended(outcome) = said {
+            self.follows(CancelInput::Ended {
+                by_cancel: outcome == Results::Cancelled,
+            });
             self.handle.tell(self.rt, LaneRequest::Seen(k));
             if is_lost(outcome) {
                 wait_until_told(self.rt, self.alloc, &self.handle);
@@ -207,7 +177,7 @@ impl<'a, Y: Yard, S: Drop, R: Wait + Clock + Drop, W: Watch + Drop> Port
     }
 
     fn interrupt(&mut self, k: u64) {
-        self.stop(k);
+        self.orders(k, CancelInput::Asked);
     }
 }
 
@@ -224,7 +194,8 @@ impl<'a, Y: Yard, S: Drop, R: Wait + Clock + Drop, W: Watch + Drop> LanePort<'a,
         if self.entries.reserve().is_err() {
             return Err(self.progress.refuse(StartRefusal::Memory));
         }
-        if is_left_out(self.is_held, step.always_run) {
+        if self.cancels.leaves_out(step.always_run) {
+            self.follows(CancelInput::LeftOut);
             return Err(self.progress.refuse(StartRefusal::Cancelled));
         }
         let Ok(bytes) = Arc::new(self.alloc, AtomicU64::new(0)) else {
@@ -234,15 +205,17 @@ impl<'a, Y: Yard, S: Drop, R: Wait + Clock + Drop, W: Watch + Drop> LanePort<'a,
         let progress = &mut self.progress;
         let command = match start(rt, alloc, gate, &self.handle, step, flag, &bytes, progress) {
             Ok(command) => command,
-            Err(why) => return Err(why),
+            Err(why) => {
+                if why == StartRefusal::Cancelled {
+                    self.follows(CancelInput::Refused);
+                }
+                return Err(why);
+            }
         };
         self.meter = StepMeter::new(step.max_bytes, step.timeout_ticks, step.silent_ticks);
         self.bytes = Some(bytes);
-        self.interruption = Interruption::NotWanted;
-        if step.always_run && self.cancelled.take() {
-            self.is_held = true;
-            self.watch.cancelled();
-        }
+        let is_set = step.always_run && self.cancelled.take();
+        self.follows(CancelInput::Started { is_set });
         match self.entries.begin(command) {
             Ok(()) => {}
             Err(_) => unreachable!(),
@@ -270,19 +243,30 @@ impl<'a, Y: Yard, S: Drop, R: Wait + Clock + Drop, W: Watch + Drop> LanePort<'a,
         self.calls = calls;
     }
 
-    /// Has the command interrupted, but once. Where memory is wanting for that, the next tick tries
-    /// again. The runner may ask again, after its last poll.
-    fn stop(&mut self, k: u64)
+    /// An input comes to the policy of cancels: what follows is told, and a cancel that is used up
+    /// is taken back. The answer is what else is to be done.
+    fn follows(&mut self, input: CancelInput) -> CancelActs
         ensures { self.new ≡ self.old }
     {
-        if self.interruption == Interruption::HandedOver {
-            return;
+        let acts = self.cancels.step(input);
+        if acts.tells {
+            self.watch.cancelled();
         }
-        self.interruption = if interrupt(self.rt, self.alloc, &self.handle, k) {
-            Interruption::HandedOver
-        } else {
-            Interruption::Wanted
-        };
+        if acts.uses_up {
+            self.cancelled.take();
+        }
+        acts
+    }
+
+    /// As `follows`, where the command may have to be interrupted.
+    fn orders(&mut self, k: u64, input: CancelInput)
+        ensures { self.new ≡ self.old }
+    {
+        let acts = self.follows(input);
+        if acts.interrupts {
+            let is_kept = interrupt(self.rt, self.alloc, &self.handle, k);
+            self.follows(CancelInput::Ordered { is_kept });
+        }
     }
 
     /// Does at once what need not wait for the end of a tick: a cancel is told and obeyed. The tick
@@ -290,10 +274,15 @@ impl<'a, Y: Yard, S: Drop, R: Wait + Clock + Drop, W: Watch + Drop> LanePort<'a,
     fn obey(&mut self, k: u64, seen: Polled)
         ensures { self.new ≡ self.old }
     {
-        if seen == Polled::Cancel {
-            self.watch.cancelled();
-            self.stop(k);
-        }
+        let is_cancelled = seen == Polled::Cancel;
+        let is_over = false;
+        self.orders(
+            k,
+            CancelInput::Runs {
+                is_cancelled,
+                is_over,
+            },
+        );
     }
 
     /// Waits until the command is seen to have ended, or a tick is over. Once the gate has called
@@ -377,14 +366,19 @@ impl<'a, Y: Yard, S: Drop, R: Wait + Clock + Drop, W: Watch + Drop> LanePort<'a,
         if let Polled::Ended(outcome) = seen {
             return Polled::Ended(self.meter.outcome(outcome));
         }
-        let is_cancel = seen == Polled::Cancel;
-        let reached = self.meter.tick(bytes, is_cancel);
+        let is_cancelled = seen == Polled::Cancel;
+        let reached = self.meter.tick(bytes, is_cancelled);
         if let Some(limit) = reached {
             self.watch.stopped(k, limit);
         }
-        if reached.is_some() || self.interruption == Interruption::Wanted {
-            self.stop(k);
-        }
+        let is_over = reached.is_some();
+        self.orders(
+            k,
+            CancelInput::Runs {
+                is_cancelled,
+                is_over,
+            },
+        );
         if self.meter.is_given_up() {
             Polled::Ended(self.meter.given_up_result())
         } else {

@@ -10,14 +10,14 @@ pub trait Watch {
     /// The step was started as this command of its lane.
     fn started(&mut self, step: &StepPlan, command: u64);
 
-    /// The build obeys a cancel: from now on no step is started but those that always run. It may
-    /// be told more than once.
+    /// The build obeys a cancel: from now on no step is started but those that always run. It is told
+    /// once of each.
     fn cancelled(&mut self);
 
     /// The command has reached a limit of its step, and is interrupted.
     fn stopped(&mut self, command: u64, limit: StepLimit);
 
-    /// The step was not started. Where its build was cancelled before, that cancel is carried out.
+    /// The step was not started.
     fn refused(&mut self, step: &StepPlan, why: StartRefusal);
 
     /// The command ended so. `said` is what its worker said last of one that ended EXCEPTION,

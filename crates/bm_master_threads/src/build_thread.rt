@@ -14,7 +14,6 @@ use bm_session::Results;
 use crossbeam_channel::bounded;
 use std::alloc::Global;
 use std::sync::Wait;
-use std::sync::atomic::Ordering;
 use std::thread::{Scope, Threads};
 use std::time::Clock;
 
@@ -64,9 +63,6 @@ struct StepReporter<'s, Y: Yard, R: Wait + Clock> {
     name: Option<Text>,
     /// Whether its command has reached a limit.
     is_stopped: bool,
-    /// Whether the cancel that the flag holds was told.
-    is_told: bool,
-    cancelled: &'s CancelFlag,
 }
 
 impl<'s, Y: Yard, R: Wait + Clock> StepReporter<'s, Y, R> {
@@ -76,7 +72,6 @@ impl<'s, Y: Yard, R: Wait + Clock> StepReporter<'s, Y, R> {
         events: EventSender<Y>,
         build: u64,
         steps: &'s [StepPlan],
-        cancelled: &'s CancelFlag,
     ) -> StepReporter<'s, Y, R> {
         StepReporter {
             rt,
@@ -87,8 +82,6 @@ impl<'s, Y: Yard, R: Wait + Clock> StepReporter<'s, Y, R> {
             place: 0,
             name: None,
             is_stopped: false,
-            is_told: false,
-            cancelled,
         }
     }
 
@@ -99,12 +92,6 @@ impl<'s, Y: Yard, R: Wait + Clock> StepReporter<'s, Y, R> {
             self.behind = place.saturating_add(1);
         }
         self.name = step.name.copy().ok();
-    }
-
-    // The cancel has ended its step: the next is another one.
-    fn obeyed(&mut self) {
-        self.is_told = false;
-        self.cancelled.store(false, Ordering::SeqCst);
     }
 
     // Tells what happened to the step.
@@ -134,11 +121,8 @@ impl<'s, Y: Yard, R: Wait + Clock> Watch for StepReporter<'s, Y, R> {
     }
 
     fn cancelled(&mut self) {
-        if !self.is_told {
-            self.is_told = true;
-            self.events
-                .tell(self.rt, MasterEvent::Cancelling(self.build));
-        }
+        self.events
+            .tell(self.rt, MasterEvent::Cancelling(self.build));
     }
 
     fn stopped(&mut self, command: u64, limit: StepLimit) {
@@ -147,19 +131,11 @@ impl<'s, Y: Yard, R: Wait + Clock> Watch for StepReporter<'s, Y, R> {
     }
 
     fn refused(&mut self, step: &StepPlan, why: StartRefusal) {
-        if why == StartRefusal::Cancelled {
-            self.cancelled();
-            self.obeyed();
-        }
         self.reaches(step);
         self.tell(StepEvent::Refused(why), None);
     }
 
-    // A cancel ends one step: those that always run are run after it.
     fn ended(&mut self, command: u64, outcome: Results, said: Option<Text>) {
-        if outcome == Results::Cancelled {
-            self.obeyed();
-        }
         if outcome == Results::Exception && !self.is_stopped {
             self.tell(StepEvent::Failed(command), said);
         }
@@ -188,7 +164,7 @@ where
         viewer,
         lane,
     } = task;
-    let reporter = StepReporter::new(rt, steps, number, build.steps.as_slice(), cancelled);
+    let reporter = StepReporter::new(rt, steps, number, build.steps.as_slice());
     let mut port = LanePort::over(rt, alloc, viewer, lane, gate, cancelled, reporter);
     let result = match run_build(alloc, build, &mut port, TURNS) {
         Ok(report) => Some(report.result),

@@ -3,6 +3,7 @@ ghost use Rattle.std.specs.Prelude.{◌≡◌, IfSome};
 ghost use Rattle.bm_build_queue.specs.BuildQueue.{AreResults};
 ghost use Rattle.std.specs.Thread.{IsSend, IsSync};
 
+use crate::coordinator_flow::{NextWait, next_wait};
 use crate::events::{EventReceiver, MasterEvent};
 use crate::held_builds::HeldBuilds;
 use crate::host::MasterHost;
@@ -135,17 +136,15 @@ where
         self.is_stale = true;
     }
 
-    // The next event, or none within a tick where ticks count.
+    // The next event, if it comes in time.
     fn next_event(&self, events: &EventReceiver<Y>) -> Option<MasterEvent<Y>> {
         let rt = &self.shared.rt;
-        if self.is_stale {
-            events.look(rt)
-        } else if self.is_timed() {
-            events.wait_for(rt, Duration::from_millis(TICK_MS))
-        } else if self.refusals.is_left_out() || self.is_waited_for() {
-            events.wait_for(rt, Duration::from_secs(COUNTED_SECONDS))
-        } else {
-            events.wait(rt)
+        let is_counted = self.refusals.is_left_out() || self.is_waited_for();
+        match next_wait(self.is_stale, self.is_timed(), is_counted) {
+            NextWait::Look => events.look(rt),
+            NextWait::Tick => events.wait_for(rt, Duration::from_millis(TICK_MS)),
+            NextWait::Second => events.wait_for(rt, Duration::from_secs(COUNTED_SECONDS)),
+            NextWait::Event => events.wait(rt),
         }
     }
 

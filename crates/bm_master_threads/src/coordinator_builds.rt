@@ -1,5 +1,6 @@
 //! What the coordinator does about builds, from their start to their results.
 
+use crate::build_start::{BuildStart, StartFate};
 use crate::build_thread::start_build;
 use crate::coordinator::Coordinator;
 use crate::events::FinishedBuild;
@@ -44,15 +45,19 @@ where
     // Starts a build, or ends one that isn't tried any more. The answer is whether the next one may
     // be started now.
     fn start_one<E>(&mut self, scope: &Scope<'s, E>, build: UnstartedBuild<Y>) -> bool {
-        let UnstartedBuild {
-            assignment,
-            tries,
-            is_told,
-        } = build;
+        let UnstartedBuild { assignment, start } = build;
         let (number, worker) = (assignment.number, assignment.worker);
-        if tries.is_given_up(self.is_cancelled(number)) {
-            self.gives_up(assignment);
-            return true;
+        match start.fate(self.is_cancelled(number)) {
+            StartFate::Try => {}
+            StartFate::Cancelled => {
+                self.ends(number, Results::Retry, assignment.viewer);
+                return true;
+            }
+            StartFate::Failed => {
+                self.has_failed = true;
+                self.ends(number, Results::Retry, assignment.viewer);
+                return true;
+            }
         }
         match start_build(scope, self.shared, assignment) {
             Ok(()) => {
@@ -60,17 +65,21 @@ where
                 true
             }
             Err(assignment) => {
-                if !is_told {
-                    self.remark(&Remark::BuildUnstarted { build: number });
-                }
-                self.unstarted = Some(UnstartedBuild {
-                    assignment,
-                    tries,
-                    is_told: true,
-                });
+                self.waits_for_thread(assignment, start);
                 false
             }
         }
+    }
+
+    // The thread of a build could not be started: it is tried again at the next tick.
+    fn waits_for_thread(&mut self, assignment: Assignment<Y>, start: BuildStart) {
+        let mut start = start;
+        if start.refused() {
+            self.remark(&Remark::BuildUnstarted {
+                build: assignment.number,
+            });
+        }
+        self.unstarted = Some(UnstartedBuild { assignment, start });
     }
 
     // Whether a running build is to be cancelled.
@@ -81,18 +90,10 @@ where
         }
     }
 
-    // A build ends that never began: CANCELLED where it was cancelled, else RETRY.
-    fn gives_up(&mut self, assignment: Assignment<Y>) {
-        if !self.is_cancelled(assignment.number) {
-            self.has_failed = true;
-        }
-        self.ends(assignment.number, Results::Retry, assignment.viewer);
-    }
-
     /// A tick has passed for the build whose thread is tried to be started.
     pub fn tick_unstarted(&mut self) {
         if let Some(build) = &mut self.unstarted {
-            build.tries.tick();
+            build.start.tick();
         }
     }
 

@@ -11,10 +11,12 @@
 #![tactic(auto)]
 
 mod acceptor;
+mod build_start;
 mod build_thread;
 mod coordinator;
 mod coordinator_builds;
 mod coordinator_end;
+mod coordinator_flow;
 mod coordinator_remarks;
 mod coordinator_waits;
 mod coordinator_workers;

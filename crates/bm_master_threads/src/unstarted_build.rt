@@ -1,17 +1,15 @@
 //! A build that has its slot, and no thread yet.
 
+use crate::build_start::BuildStart;
 use bm_build_queue::Assignment;
 use bm_lane::Yard;
-use bm_latent::StartTries;
 
 /// A build whose thread could not be started just now.
 #[derive(Drop)]
 pub struct UnstartedBuild<Y: Yard> {
     pub assignment: Assignment<Y>,
-    /// For how long it is tried.
-    pub tries: StartTries,
-    /// Whether the operator was told that it waits.
-    pub is_told: bool,
+    /// How far the start of its thread has come.
+    pub start: BuildStart,
 }
 
 impl<Y: Yard> UnstartedBuild<Y> {
@@ -19,8 +17,7 @@ impl<Y: Yard> UnstartedBuild<Y> {
     pub fn new(assignment: Assignment<Y>) -> UnstartedBuild<Y> {
         UnstartedBuild {
             assignment,
-            tries: StartTries::new(),
-            is_told: false,
+            start: BuildStart::new(),
         }
     }
 }
