@@ -3,8 +3,8 @@
 ghost use Rattle.std.specs.Prelude.{◌≡◌};
 ghost use Rattle.bm_lane_actor.specs.ConnectionState.{keeps_link};
 
-/// How a lane is connected: a connection is attached to it, it was cut and its session may be
-/// resumed, or it has no session.
+/// How a lane is connected. A connection is attached to it, or it was cut and its session may be
+/// resumed. Or it has no session.
 #[derive(Clone, Copy, PartialEq, Eq)]
 pub enum ConnectionState {
     Up,

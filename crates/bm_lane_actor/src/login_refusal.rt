@@ -28,8 +28,8 @@ pub fn refusal_of(fault: LinkFault) -> LoginRefusal
     }
 }
 
-/// The same before a login. A failed stream may have been the master's end, that of a connection
-/// whose place was given to another one, or a login's that came too late.
+/// The same before a login. A failed stream may have been the master's end, or a login's that came
+/// too late. It may be that of a connection whose place was given to another one.
 pub fn refusal_in(fault: LinkFault, is_over: bool, is_put_out: bool, is_late: bool) -> LoginRefusal
     ensures { result ≡ refusal_in is_over is_put_out is_late fault }
 {

@@ -16,8 +16,8 @@ pub enum OrderOutcome {
     Interrupted,
     /// Nothing was done: the build was cancelled before the lane took the order.
     Cancelled,
-    /// Nothing was done, and it may be tried again: the lane is cut and may be resumed, or it is
-    /// busy, or has no room for one more open command, or memory is wanting.
+    /// Nothing was done, and it may be tried again. The lane is cut and may be resumed, is busy, or
+    /// has no room for one more open command. Or memory is wanting.
     Later,
     /// The lane was given up, or refuses the order.
     Refused,

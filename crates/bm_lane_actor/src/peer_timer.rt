@@ -32,8 +32,8 @@ pub enum PeerAction {
     GiveUp,
 }
 
-/// How long a worker has been silent. Whoever asks tells a count of what came from it, which grows
-/// by each sign of life, and the time in milliseconds since some moment.
+/// How long a worker has been silent. Whoever asks gives the time in milliseconds since some
+/// moment, and a count that grows by each sign of life.
 #[derive(Drop)]
 pub struct PeerTimer {
     count: u64,

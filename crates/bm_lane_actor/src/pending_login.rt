@@ -10,7 +10,7 @@ use std::sync::atomic::{AtomicBool, AtomicU64, Ordering};
 /// connections said, so no clock orders them.
 #[derive(Drop)]
 pub struct PendingLogin {
-    /// No other one has it.
+    /// How much all such connections had said when it came: no other one has this number.
     number: u64,
     /// The number of what it said last.
     heard: AtomicU64,

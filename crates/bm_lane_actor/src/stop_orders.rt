@@ -15,7 +15,7 @@ pub(crate) struct StopOrders {
 }
 
 impl StopOrders {
-    /// No order.
+    /// No order is kept.
     pub fn new(alloc: Global) -> StopOrders
         ensures { result.commands.items ≡ [] }
     {

@@ -25,7 +25,7 @@ impl Model for StartTries {
 }
 
 impl StartTries {
-    /// The start was refused for the first time, and no tick has passed.
+    /// No tick has passed since the first try, if there was one.
     pub fn new() -> StartTries
         ensures { result ≡ 0 }
     {
