@@ -56,8 +56,8 @@ second_of waiting.Admit = second.Admit
 second_of waiting.Wait = second.Wait
 second_of waiting.Drop = second.Drop
 
--- What becomes of the link that waits. It does while the lane's worker was asked for a sign of life,
--- and neither gave one nor is taken for dead.
+-- What becomes of the link that waits. It does while the lane's worker was asked for a sign of
+-- life, and neither gave one nor is taken for dead.
 abbrev pub second_at : Bool → LinkAct → Bool → PolicyView → SecondAct
 second_at up l left p =
     if not p.waits || is_read l

@@ -9,8 +9,8 @@ pub mod StepMeter
 -- LanePolicy: what is done about the worker's connection, and about a link that waits for the lane.
 pub mod LanePolicy
 -- LaneEvents: what is told of a lane, and what follows. Login: what a connection is once it has
--- logged in. LoginFates: what becomes of it at a lane that is up. LoginRefusals: why another one was
--- not taken up.
+-- logged in. LoginFates: what becomes of it at a lane that is up. LoginRefusals: why another one
+-- was not taken up.
 pub mod LaneEvents
 pub mod Login
 pub mod LoginFates

@@ -6,8 +6,8 @@ use Rattle.bm_lane_actor.specs.declared.login_fates.WaitingFate.{WaitingFate}
 use Rattle.bm_lane_actor.specs.declared.login_fates.WaitingFate.TheVariants as waiting
 
 -- The lane is up; another login waits; the login names the session of the lane. Where the lane
--- isn't up it is admitted. Where nobody waits it does. Only the lane's own worker takes the place of
--- one that waits; whoever else comes then is told that the lane is up.
+-- isn't up it is admitted. Where nobody waits it does. Only the lane's own worker takes the place
+-- of one that waits; whoever else comes then is told that the lane is up.
 abbrev pub login_fate : Bool → Bool → Bool → LoginFate
 login_fate false waits own = fate.Admit
 login_fate true false own = fate.Wait

@@ -22,8 +22,8 @@ refusal_of (link.Lane (lane.Session session.AlreadyUp)) = why.AlreadyUp
 refusal_of (link.Lane (lane.Session session.Full)) = why.Full
 refusal_of f = why.Memory
 
--- The same before a login. A failed stream may have been the master's end, or its place was given to
--- another connection, or it came too late.
+-- The same before a login. A failed stream may have been the master's end, or its place was given
+-- to another connection, or it came too late.
 abbrev pub refusal_in : Bool → Bool → Bool → LinkFault → LoginRefusal
 refusal_in true is_put_out is_late link.Stream = why.Closing
 refusal_in false true is_late link.Stream = why.Crowded

@@ -5,9 +5,9 @@ use Rattle.bm_session.specs.declared.results.Results.TheVariants.{Retry, Excepti
 use Rattle.bm_operator.specs.declared.reasons.StepLimit.{StepLimit}
 use Rattle.bm_operator.specs.declared.reasons.StepLimit.TheVariants.{Bytes, Ticks, Silence}
 
--- The limits of a step, of which 0 is none; the ticks until it reached one, or since; how many bytes
--- its updates had carried, and for how many ticks they carried nothing; and which limit it has
--- reached. Then the ticks since a cancel of its build was seen.
+-- The limits of a step, of which 0 is none; the ticks until it reached one, or since; how many
+-- bytes its updates had carried, and for how many ticks they carried nothing; and which limit it
+-- has reached. Then the ticks since a cancel of its build was seen.
 pub record MeterView : Type 0 where
   pub max_bytes : ℕ
   pub timeout_ticks : ℕ

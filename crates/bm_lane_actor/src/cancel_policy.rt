@@ -1,4 +1,5 @@
-//! What a build does about cancels of it: which step one ends, what is told, and what is interrupted.
+//! What a build does about cancels of it: which step one ends, what is told, and what is
+//! interrupted.
 
 ghost use Rattle.std.specs.Prelude.{◌≡◌};
 ghost use Rattle.bm_lane_actor.specs.Ports.{is_left_out};
@@ -16,8 +17,8 @@ pub(crate) enum CancelInput {
     LeftOut,
     /// The lane refused a step, since the build's flag was set.
     Refused,
-    /// The step's command runs. `is_cancelled`: the build's flag is set. `is_over`: it has reached a
-    /// limit of its step.
+    /// The step's command runs. `is_cancelled`: the build's flag is set. `is_over`: it has reached
+    /// a limit of its step.
     Runs { is_cancelled: bool, is_over: bool },
     /// Its interruption was asked for once more, by the build's runner.
     Asked,

@@ -229,7 +229,8 @@ where
         self.gate.wake(self.place);
     }
 
-    /// Reads one message of the worker, where one is there, and tells who waits for what it brought.
+    /// Reads one message of the worker, where one is there, and tells who waits for what it
+    /// brought.
     pub(crate) fn turn(&mut self) {
         let before = self.state.connection();
         let took = self.gate.took(self.place);

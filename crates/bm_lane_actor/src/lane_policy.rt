@@ -1,4 +1,5 @@
-//! What a lane's actor does about its worker's connection, and about a link that waits for the lane.
+//! What a lane's actor does about its worker's connection, and about a link that waits for the
+//! lane.
 
 ghost use Rattle.std.specs.Prelude.{◌≡◌, if◌then◌else◌, false};
 ghost use Rattle.bm_lane_actor.specs.declared.lane_policy.LinkAct.TheVariants as link;

@@ -4,8 +4,8 @@
 //! link. Requests and links come to it by a [`Mailbox`], and it answers each until it is told to
 //! leave. It waits at its mailbox alone: who waits for all sockets tells it of arrivals. [`log_in`]
 //! brings a new connection there, [`LanePort`] a build. [`DrainGate`] lets the pool of writers
-//! sleep, and calls builds. What an actor decides is in [`LaneState`] and [`LanePolicy`], what a port
-//! decides in `CancelPolicy` and [`StepMeter`].
+//! sleep, and calls builds. What an actor decides is in [`LaneState`] and [`LanePolicy`], what a
+//! port decides in `CancelPolicy` and [`StepMeter`].
 //!
 //! Promised: what each call of it does to lane, link and timers, and that the orders without an
 //! answer are those sent again. The loops round it have no clauses: a body could still wait too

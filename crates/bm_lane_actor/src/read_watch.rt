@@ -27,9 +27,10 @@ pub(crate) fn is_drained(last: LastRead) -> bool
     }
 }
 
-/// Whether arrivals are told to whoever waits for all sockets, behind a read and that of before. They
-/// are told from a read that met nothing on, since the actor may sleep then. Two reads in a row that
-/// gave something show an actor that doesn't sleep: telling it would only wake the other thread.
+/// Whether arrivals are told to whoever waits for all sockets, behind a read and that of before.
+/// They are told from a read that met nothing on, since the actor may sleep then. Two reads in a
+/// row that gave something show an actor that doesn't sleep: telling it would only wake the other
+/// thread.
 pub(crate) fn is_told_after(before: LastRead, last: LastRead, is_told: bool) -> bool
     ensures { result ≡ is_told_after before last is_told }
 {

@@ -129,8 +129,8 @@ impl<R: Clock> WorkerStream<R> {
     }
 
     /// The worker has logged in: the time for that no longer counts, and from now on no call waits
-    /// in the system. Whoever waits at the registry is told of each arrival, under the number of the
-    /// worker's lane.
+    /// in the system. Whoever waits at the registry is told of each arrival, under the number of
+    /// the worker's lane.
     pub(crate) fn set_logged_in(&self, lane: usize) -> io::Result<()> {
         self.stream.set_nonblocking(true)?;
         self.lane.store(lane as u64, Ordering::SeqCst);
@@ -284,8 +284,8 @@ impl<R: Clock> WorkerStream<R> {
 }
 
 impl<R: Wait + Clock> WorkerStream<R> {
-    /// Writes, and counts how long it took. Where there is no room it pauses for a moment. Where the
-    /// clock fails no time is left.
+    /// Writes, and counts how long it took. Where there is no room it pauses for a moment. Where
+    /// the clock fails no time is left.
     fn write_once(&mut self, buf: &[u8]) -> io::Result<usize>
         ensures { WritesAtMost result buf.now }
     {

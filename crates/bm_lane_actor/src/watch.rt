@@ -10,8 +10,8 @@ pub trait Watch {
     /// The step was started as this command of its lane.
     fn started(&mut self, step: &StepPlan, command: u64);
 
-    /// The build obeys a cancel: from now on no step is started but those that always run. It is told
-    /// once of each.
+    /// The build obeys a cancel: from now on no step is started but those that always run. It is
+    /// told once of each.
     fn cancelled(&mut self);
 
     /// The command has reached a limit of its step, and is interrupted.

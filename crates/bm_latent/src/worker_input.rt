@@ -16,8 +16,8 @@ pub enum WorkerInput {
     Refused { may_pass: bool },
     /// Its program has ended.
     Ended,
-    /// A tick has passed. `is_wanted` says whether a build waits for the worker, `has_build` whether
-    /// one ran on it, or was not released.
+    /// A tick has passed. `is_wanted` says whether a build waits for the worker, `has_build`
+    /// whether one ran on it, or was not released.
     Tick { is_wanted: bool, has_build: bool },
     /// The master ends, since no build is left.
     Over,

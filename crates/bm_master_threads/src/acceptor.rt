@@ -14,7 +14,8 @@ use std::thread::{Scope, Threads};
 use std::time::{Clock, Duration, Instant};
 use std::{io, thread};
 
-/// How long the acceptor waits after a connection that could not be accepted, before it tries again.
+/// How long the acceptor waits after a connection that could not be accepted, before it tries
+/// again.
 const PAUSE_MS: u64 = 20;
 
 // Tells the coordinator of a connection that is not taken up, and gave no name.

@@ -20,8 +20,8 @@ where
     R: MasterHost + 's,
     O: Write + Drop,
 {
-    /// Starts each build that can be started. Where the thread of one can't be, it is tried again at
-    /// the next tick, before all others.
+    /// Starts each build that can be started. Where the thread of one can't be, it is tried again
+    /// at the next tick, before all others.
     pub fn start_builds<E>(&mut self, scope: &Scope<'s, E>) {
         self.want();
         for _ in 0..self.queue.builds() {

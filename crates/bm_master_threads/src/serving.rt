@@ -39,8 +39,8 @@ fn refuse<F: Write>(faults: &mut F, key: &str, at: SocketAddr, why: &io::Error) 
 /// can't be written where the master listens, no build is run.
 ///
 /// A line `cancel I` of the input cancels build I. On `output` stands `listening ADDR ADDR` first,
-/// for workers and for the web. Once every build is over, `build I RESULT` stands there for each. At
-/// the end it is `lane NAME COMMANDS LINES` for each worker. On `faults` stand remarks for an
+/// for workers and for the web. Once every build is over, `build I RESULT` stands there for each.
+/// At the end it is `lane NAME COMMANDS LINES` for each worker. On `faults` stand remarks for an
 /// operator, first of what the master has, and of the keys that nobody reads.
 pub fn serve<R, I, O, F>(
     rt: &R,

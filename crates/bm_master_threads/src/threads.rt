@@ -5,7 +5,8 @@
 //! | first | the web's socket | with the coordinator, which it joins |
 //! | pool | nothing: it drains the shared writers' ends | once the gate is stopped |
 //! | actor, one a lane | the lane's state and its mailbox | once its mailbox is told `Leave` |
-//! | acceptor | the workers' listener; it waits for all their sockets | woken once `is_over` is set |
+//! | acceptor | the workers' listener; it waits for all their sockets | woken once `is_over` is set
+//! |
 //! | coordinator | builds, workers, output and remarks | once all builds and the input have ended |
 //! | input | standard input | with it |
 //!
