@@ -13,7 +13,7 @@ use std::alloc::{AllocError, Global};
 use std::sync::{Mutex, Wait};
 use thiserror::Error;
 
-/// How often a lane is settled where memory is wanting.
+/// How often it is tried to settle a lane where memory is wanting.
 const TRIES: usize = 3;
 
 /// Why a lane could not be settled.

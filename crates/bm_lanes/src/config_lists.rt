@@ -7,7 +7,6 @@ use bm_config::{LockConfig, WorkerConfig};
 use bm_link::User;
 use std::alloc::{AllocError, Global};
 
-/// The most slots that a worker has.
 pub(crate) const MOST_SLOTS: u8 = 4;
 
 /// How many slots each worker has. None where memory is wanting, or a number is out of its limits.

@@ -22,7 +22,7 @@ pub struct DealtLanes<Y: Yard, W: Wait + Drop, S> {
     pub web_viewers: Vec<Viewer<Y>>,
 }
 
-// Whether there was room for one more at the end, which is there then.
+// Appends the value. False where there is no room; then it is dropped.
 pub(crate) fn is_pushed<T: Drop>(list: &mut Vec<T>, one: T) -> bool
     ensures { result ≡ true → list.new.items ≡ list.old.items ++ one ∷ [] }
 {
@@ -43,10 +43,9 @@ fn is_in_order<Y: Yard>(viewers: &[Viewer<Y>]) -> bool
     true
 }
 
-/// Deals the ends of new lanes out. None where memory is wanting. None also where a lane isn't
-/// new, or an end is missing, of another lane or not at its lane's place, which never comes. The
-/// clause says which viewers are the builds' (`AreDealt`): one that leaves the web's open would be
-/// longer.
+/// Per lane: the reader's end to its actor, the writer's end to the pool, the last viewer to the
+/// web, the others to builds. None where memory is wanting. None also where a lane isn't new, whole
+/// and at its place, which never comes. `AreDealt` says which viewers are the builds'.
 pub fn deal<Y: Yard, W: Wait + Drop, S: Drop>(
     alloc: Global,
     workers: &[WorkerConfig],
@@ -86,7 +85,7 @@ impl<Y: Yard, W: Wait + Drop, S: Drop> DealtLanes<Y, W, S> {
         }
     }
 
-    // Adds the ends of a lane. The answer is whether that could be done.
+    // False where memory is wanting, or the lane isn't new and whole.
     fn add(&mut self, alloc: Global, resume_ticks: u32, ends: Ends<Y, W>) -> bool
         ensures { result ≡ true → DealsToo ends self.old self.new }
     {

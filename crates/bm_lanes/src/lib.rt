@@ -7,7 +7,7 @@
 //! Promised: how many viewers a lane is opened with, and who has which of its ends, in the lanes'
 //! order. A settled lane's logs, and what is told of it, are those of all that was heard.
 //!
-//! Of writers' ends `deal` says only how many there are, since they lie under locks: a body could
+//! `deal` says of writers' ends only how many there are, since they lie under locks. A body could
 //! still give one the place of another.
 #![tactic(auto)]
 

@@ -9,7 +9,6 @@ use bm_lane::{Blank, open};
 use std::alloc::Global;
 use std::sync::Wait;
 
-/// The most items that wait in a lane's queue.
 const MOST_ITEMS: u32 = 65_536;
 
 /// A blank for the lane of a worker with so many slots.

@@ -18,7 +18,7 @@ use std::{io, thread};
 /// again.
 const PAUSE_MS: u64 = 20;
 
-// Tells the coordinator of a connection that is not taken up, and gave no name.
+// Tells the coordinator of a connection that gave no name and isn't taken up.
 fn refuse<Y: Yard, R: Wait + Clock + Drop>(
     shared: &SharedState<Y, R>,
     from: SocketAddr,
@@ -95,8 +95,8 @@ where
     }
 }
 
-// Accepts all connections that wait, and serves each in a thread of its own. The answer is whether
-// one could not be accepted, and is to be tried again after a pause.
+// Accepts all connections that wait, and serves each in a thread of its own. True where one could
+// not be accepted, and is to be tried again after a pause.
 fn accept_all<'s, E, Y, R>(
     scope: &Scope<'s, E>,
     shared: &'s SharedState<Y, R>,
@@ -126,7 +126,7 @@ where
     unreachable!()
 }
 
-// Tells each lane on whose connections something came. The answer is whether connections wait.
+// Tells each lane on whose connections something came. True where connections wait to be accepted.
 fn tell_lanes<Y: Yard, R: Wait + Clock + Drop>(
     shared: &SharedState<Y, R>,
     sockets: &SocketEvents,

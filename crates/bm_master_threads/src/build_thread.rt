@@ -17,7 +17,8 @@ use std::sync::Wait;
 use std::thread::{Scope, Threads};
 use std::time::Clock;
 
-/// How often a command is asked for its end before it is interrupted.
+/// How often a command is asked for its end before it is interrupted: once a tick, for a year and
+/// more.
 const TURNS: u64 = 1 << 32;
 
 /// What the thread of a build owns: the build's number, and by what its worker's lane is seen and
@@ -85,7 +86,7 @@ impl<'s, Y: Yard, R: Wait + Clock> StepReporter<'s, Y, R> {
         }
     }
 
-    // This step is the next.
+    // Notes that this step is the next.
     fn reaches(&mut self, step: &StepPlan) {
         if let Some(place) = place_of(self.steps, self.behind, step.always_run) {
             self.place = place;

@@ -47,7 +47,7 @@ pub struct CoordinatorLeft<Y: Yard, O> {
     /// The viewers of the builds, by their lanes.
     pub pools: Vec<ViewerPool<Y>>,
     pub output: O,
-    /// How the builds ended. None where one has not, or memory was wanting.
+    /// The results by the builds' numbers. None where a build has none, or memory was wanting.
     pub results: Option<Vec<Results>>,
     /// Whether a line could not be written, or a build could not be run.
     pub has_failed: bool,
@@ -74,7 +74,8 @@ pub struct Coordinator<'s, Y: Yard, R: Wait + Clock + Drop, O> {
     pub began: Option<Instant>,
     /// The ticks since then.
     pub ticks: TickCounter,
-    /// Whether builds may be wanted or started that were not before.
+    /// Whether the queue is to be looked at, since builds may be wanted or started that were not
+    /// before.
     pub is_stale: bool,
     /// Whether standard input has ended.
     pub is_closed: bool,
@@ -96,7 +97,7 @@ where
         }
     }
 
-    // How many ticks have ended since the last call, up to a most.
+    // How many ticks have ended since the last call, `most` at the most.
     fn ended_ticks(&mut self) -> u64 {
         let now = match self.age() {
             Some(age) => Some(millis(age)),
@@ -110,15 +111,15 @@ where
         self.queue.is_short() || self.unstarted.is_some()
     }
 
-    // Whether ticks count.
+    // Whether something waits for ticks, so that the coordinator wakes at each.
     fn is_timed(&self) -> bool {
         self.is_short()
             || !self.held.is_empty()
             || self.workers.iter().any(|worker| worker.is_timed())
     }
 
-    // Does what follows from an event. Builds may then be wanted or started that were not before,
-    // but for what is only remarked.
+    // Does what follows from an event. Each event has the queue looked at, but Step, Refused,
+    // Cancelling, Paused and Misread.
     fn hear(&mut self, event: MasterEvent<Y>) {
         match event {
             MasterEvent::Step(step) => return self.hear_step(&step),
@@ -186,7 +187,6 @@ where
         self.tell_all_left_out();
     }
 
-    // What is left.
     fn leave(self) -> CoordinatorLeft<Y, O>
         ensures results { IfSome result.results (λ all. AreResults self.entry.queue.board all.items) }
         ensures failed { result.has_failed ≡ self.entry.has_failed }

@@ -42,8 +42,8 @@ where
         }
     }
 
-    // Starts a build, or ends one that isn't tried any more. The answer is whether the next one may
-    // be started now.
+    // Starts a build, or ends one that isn't tried any more. True where the next one may be started
+    // now.
     fn start_one<E>(&mut self, scope: &Scope<'s, E>, build: UnstartedBuild<Y>) -> bool {
         let UnstartedBuild { assignment, start } = build;
         let (number, worker) = (assignment.number, assignment.worker);
@@ -82,7 +82,6 @@ where
         self.unstarted = Some(UnstartedBuild { assignment, start });
     }
 
-    // Whether a running build is to be cancelled.
     fn is_cancelled(&self, number: u64) -> bool {
         match self.shared.cancels.get(number as usize) {
             Some(cancel) => cancel.flag.load(Ordering::SeqCst),
@@ -97,7 +96,7 @@ where
         }
     }
 
-    // A build has begun on the worker at this place.
+    // Notes that a build has begun on the worker at this place, and tells it.
     fn begins(&mut self, number: u64, worker: usize) {
         let worker = self.name(worker);
         self.remark(&Remark::BuildStarted {

@@ -58,7 +58,7 @@ where
         }
     }
 
-    // Has the lanes put their logins off, and waits for each that could be asked.
+    // Asks each lane to put its logins off, and waits until those that could be asked have done so.
     fn ask_lanes(&self) {
         let shared = self.shared;
         let rt = &shared.rt;

@@ -18,14 +18,14 @@ where
     R: MasterHost + 's,
     O: Write + Drop,
 {
-    /// Tells the operator.
+    /// Hands the remark to the thread that writes it. Without such a thread it is dropped.
     pub fn remark(&self, remark: &Remark<'_>) {
         if let Some(remarks) = &self.remarks {
             remarks.tell(&self.shared.rt, remark);
         }
     }
 
-    /// The name of a worker.
+    /// The name of the worker at this place, empty where there is none.
     pub fn name(&self, worker: usize) -> &'s str {
         match self.shared.config.workers.as_slice().get(worker) {
             Some(worker) => worker.name.as_str(),
@@ -33,7 +33,6 @@ where
         }
     }
 
-    // The place of a build's worker.
     fn worker_of(&self, build: u64) -> u64 {
         match self.shared.config.builds.as_slice().get(build as usize) {
             Some(build) => build.worker as u64,

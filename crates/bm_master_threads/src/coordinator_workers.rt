@@ -108,7 +108,6 @@ where
         }
     }
 
-    // The worker's process has ended.
     fn stopped(&mut self, at: usize) {
         let name = self.name(at);
         self.remark(&Remark::ProgramEnded { worker: name });
@@ -118,7 +117,7 @@ where
         self.hears(at, WorkerInput::Ended);
     }
 
-    /// A tick has passed.
+    /// Counts a tick for each worker and its process.
     pub fn tick(&mut self) {
         for at in 0..self.workers.len() {
             if self.has_ended(at) {

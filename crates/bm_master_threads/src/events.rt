@@ -18,7 +18,7 @@ const PAUSE_MS: u64 = 10;
 /// A build that has ended: its number, its result and the viewer, which its thread hands back.
 #[derive(Drop)]
 pub struct FinishedBuild<Y: Yard> {
-    /// The build's number.
+    /// The build's number, by its place in the configuration.
     pub number: u64,
     /// Its result. None where memory was wanting before its first step.
     pub result: Option<Results>,
@@ -97,7 +97,7 @@ pub fn open_events<Y: Yard>(
 }
 
 impl<Y: Yard> EventSender<Y> {
-    /// Another sender of the same channel.
+    /// Another sender of the same channel, for another thread.
     pub fn copy(&self) -> Result<EventSender<Y>, AllocError> {
         Ok(EventSender {
             sender: self.sender.clone()?,
@@ -120,17 +120,17 @@ impl<Y: Yard> EventSender<Y> {
 }
 
 impl<Y: Yard> EventReceiver<Y> {
-    /// The next event, however long it takes.
+    /// Waits for the next event without an end. None once nobody can send any more.
     pub fn wait<R: Wait>(&self, rt: &R) -> Option<MasterEvent<Y>> {
         self.receiver.recv(rt).ok()
     }
 
-    /// The next event, if it comes within this time.
+    /// None where no event comes within this time.
     pub fn wait_for<R: Wait + Clock>(&self, rt: &R, most: Duration) -> Option<MasterEvent<Y>> {
         self.receiver.recv_timeout(rt, most).ok()
     }
 
-    /// The next event, if there is one.
+    /// None where no event lies ready.
     pub fn look<R: Wait>(&self, rt: &R) -> Option<MasterEvent<Y>> {
         self.receiver.try_recv(rt).ok()
     }

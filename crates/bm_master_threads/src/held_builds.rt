@@ -46,8 +46,9 @@ impl<Y: Yard> HeldBuilds<Y> {
         self.held.iter().all(|place| place.is_none())
     }
 
-    /// A build has started this command of its worker's lane. Where memory is wanting no slot is
-    /// held for it: a start that finds no room on the lane is tried again all the same.
+    /// A build has started this command of its worker's lane. Where memory is wanting the slot
+    /// isn't held for the command. A start that then finds no room on the lane is tried again all
+    /// the same.
     pub fn note(&mut self, build: u64, command: u64) {
         let _ = self.started.push(StartedCommand { build, command });
     }

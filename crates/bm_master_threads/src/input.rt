@@ -11,8 +11,8 @@ use std::sync::Wait;
 use std::thread::{Scope, Threads};
 use std::time::{Clock, Instant};
 
-/// How many bytes of a line are kept. Of a longer one nothing is kept: a line that asks for
-/// something is shorter, but for one with thousands of zeros before its number.
+/// How many bytes of a line are kept, and nothing of a longer one. A line that asks for something
+/// is shorter, unless thousands of zeros stand before its number.
 const MOST_LINE: usize = 4096;
 
 /// How many lines that ask for nothing are told in a second. Events have room without a bound, and
@@ -40,12 +40,12 @@ impl InputLine {
         }
     }
 
-    // Whether nothing of it was read.
     fn is_empty(&self) -> bool {
         self.is_whole && self.bytes.is_empty()
     }
 
-    // Begins the next line. The answer is the build that this one cancels, if it cancels one.
+    // Begins the next line. The number of the build that this line cancels, or None where it asks
+    // for nothing.
     fn end(&mut self) -> Option<u64> {
         let cancelled = if self.is_whole {
             read_cancel(self.bytes.as_slice())
@@ -67,7 +67,7 @@ struct MisreadLimit {
 }
 
 impl MisreadLimit {
-    // Another such line was read: whether that is told.
+    // Another line that asks for nothing was read. True where that is told.
     fn allows<R: Clock>(&mut self, rt: &R) -> bool {
         let second = match self.began {
             Some(began) => match began.elapsed(rt) {

@@ -4,7 +4,7 @@
 //! joins it, `coordinator.rt` decides, `ending.rt` settles the lanes.
 //!
 //! Promised: the exit status is that of `bm_operator` for how the builds ended and whether anything
-//! failed; a build runs on its own worker's lane. Everything here is safe, and may wait.
+//! failed. A build runs on its own worker's lane. Everything here is safe, and may wait.
 //!
 //! A body could still start a thread too few, end one too early, or drop an event. The threads'
 //! work is put together here, and only tested.

@@ -36,7 +36,7 @@ impl RemarkStyle {
         }
     }
 
-    // How many milliseconds have passed since the beginning.
+    // The milliseconds since the master began; 0 where the clock fails.
     fn age_ms<R: Clock>(&self, rt: &R) -> u64 {
         match self.began {
             Some(began) => match began.elapsed(rt) {
@@ -54,9 +54,9 @@ impl RemarkStyle {
 pub struct Remarks {
     style: RemarkStyle,
     lines: Sender<String, Global>,
-    /// Disconnected once the thread has ended.
+    /// Nothing comes here: it is disconnected once the thread has ended.
     end: Receiver<(), Global>,
-    /// How many were not told, since that was told.
+    /// How many remarks found no room since that was last told.
     untold: Arc<AtomicU64, Global>,
 }
 

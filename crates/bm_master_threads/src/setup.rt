@@ -32,8 +32,8 @@ pub struct MasterStreams<I, O> {
 }
 
 impl<I, O> MasterStreams<I, O> {
-    /// Where it listens, for workers and for the web. From now on nobody waits in an `accept` of
-    /// workers.
+    /// The addresses of both listeners, workers' first. From now on an `accept` of workers doesn't
+    /// wait. None where the system doesn't tell them.
     pub fn listen(&self) -> Option<(SocketAddr, SocketAddr)> {
         self.workers.set_nonblocking(true).ok()?;
         let workers = self.workers.local_addr().ok()?;

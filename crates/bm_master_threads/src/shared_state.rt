@@ -104,7 +104,7 @@ impl<Y: Yard, R: Wait + Clock + Copy + Drop> SharedState<Y, R> {
 }
 
 impl<Y: Yard, R: Wait + Clock + Drop> SharedState<Y, R> {
-    /// The build of this number, and by what it is cancelled.
+    /// The build of this number, and by what it is cancelled. None where there is no such build.
     pub fn build(&self, number: u64) -> Option<(&Build, &BuildCancel)> {
         let build = self.config.builds.as_slice().get(number as usize)?;
         Some((build, self.cancels.get(number as usize)?))

@@ -13,7 +13,7 @@ pub struct UnstartedBuild<Y: Yard> {
 }
 
 impl<Y: Yard> UnstartedBuild<Y> {
-    /// A build of which no start was tried yet.
+    /// A build that has waited for no tick yet.
     pub fn new(assignment: Assignment<Y>) -> UnstartedBuild<Y> {
         UnstartedBuild {
             assignment,

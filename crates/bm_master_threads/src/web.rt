@@ -24,7 +24,7 @@ const IDLE_SECONDS: u64 = 30;
 /// How long a client of the web may take nothing of what is sent to it.
 const STALLED_SECONDS: u64 = 30;
 
-/// How long it waits before it looks whether to serve again.
+/// How long lies between two tries to serve.
 const PAUSE_MS: u64 = 20;
 
 /// What the web goes by.
@@ -35,14 +35,14 @@ struct StopSignal {
     going_on: Option<oneshot::Sender<()>>,
 }
 
-/// How the coordinator ends the web.
+/// Where the coordinator ends the web. It holds what ends the serving that goes on.
 #[derive(Drop)]
 pub struct WebStop {
     signal: Mutex<StopSignal>,
 }
 
 impl WebStop {
-    /// That of a web which was not ended, and which nobody serves yet.
+    /// Nobody serves yet, and nobody has ended it.
     pub fn new() -> WebStop {
         WebStop {
             signal: Mutex::new(StopSignal {

@@ -57,7 +57,7 @@ impl WorkerEntry {
         effect
     }
 
-    /// Starts its process.
+    /// Starts its process. `NotFound` where no program of it was configured.
     pub fn start<R: Processes<Started = SystemProcess>>(
         &mut self,
         rt: &R,
@@ -72,7 +72,8 @@ impl WorkerEntry {
         }
     }
 
-    /// Whether ticks are to be told.
+    /// Whether something of it waits for ticks: what is known of it, its process, or a start that
+    /// is tried again.
     pub fn is_timed(&self) -> bool {
         self.machine.is_timed()
     }
@@ -95,7 +96,7 @@ impl WorkerEntry {
         self.machine.is_dismissed()
     }
 
-    /// A build waits for it now, or none does: whether that is to be told, since it isn't there.
+    /// Notes whether a build waits for it now. True once a wait has lasted for a second, told once.
     pub fn has_waited(&mut self, now_ms: u64, has_wait: bool) -> bool {
         let waits = has_wait && !self.machine.is_ready();
         self.waits.look(now_ms, waits)

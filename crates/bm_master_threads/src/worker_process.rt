@@ -31,7 +31,6 @@ fn ask<R: Processes<Started = SystemProcess>>(rt: &R, alloc: Global, id: u32) {
     }
 }
 
-// Why a program isn't started where the system says this.
 fn refusal_of(kind: ErrorKind) -> ProgramRefusal {
     match kind {
         ErrorKind::NotFound => ProgramRefusal::NotFound,
@@ -41,7 +40,7 @@ fn refusal_of(kind: ErrorKind) -> ProgramRefusal {
     }
 }
 
-// Whether a program may be started a moment later: what is wanting may come back.
+// Whether a later try may succeed.
 fn may_pass(kind: ErrorKind) -> bool
     ensures { result ≡ may_pass kind }
 {

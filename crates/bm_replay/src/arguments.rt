@@ -20,12 +20,12 @@ pub struct Capacity {
 }
 
 impl Capacity {
-    /// That of a replay whose words say nothing.
+    /// The capacity of a replay whose words name none.
     const DEFAULT: u32 = 4;
 
     const MOST: u64 = 65_536;
 
-    /// The capacity that a word writes as a number.
+    /// None where the word is no number from 1 to 65,536.
     fn read(word: &str) -> Option<Capacity> {
         let items = read_number(word)?;
         if items == 0 || items > Capacity::MOST {
@@ -66,7 +66,7 @@ pub fn read_arguments(words: &[String]) -> Option<MasterArguments<'_>> {
 }
 
 /// Tells the usage, and answers the exit status of words that ask for nothing that the program
-/// does, also where the usage can't be told.
+/// does. The status is the same where the usage can't be told.
 pub fn tell_usage<F: Write + Drop>(faults: F) -> u8
     ensures status { result ≡ 2 }
 {

@@ -41,9 +41,9 @@ impl From<AllocError> for Halt {
 /// row by row.
 ///
 /// The result is the exit status. It is 0 at the script's end, and 1 after a line of another form,
-/// which is told on `faults`. It is 1 also after a read or a write that failed, too long an input
-/// or want of memory, of which nothing is told. After a read that failed or too long an input
-/// nothing stands on `output`, and else the answers of the lines before.
+/// which is told on `faults`. It is 1 also after a failed read or write, too long an input or want
+/// of memory. Of these nothing is told. After a read that failed or too long an input nothing
+/// stands on `output`, and else the answers of the lines before.
 pub fn replay_run<R: Read + Drop, W: Write + Drop, F: Write + Drop>(
     alloc: Global,
     capacity: u32,
@@ -84,7 +84,7 @@ fn replay<R: Read + Drop, W: Write + Drop>(
     ended
 }
 
-/// A lane whose steps come from a script.
+/// The lane that a script's steps are done on.
 #[derive(Drop)]
 struct Lane {
     alloc: Global,
@@ -109,7 +109,7 @@ impl Lane {
         })
     }
 
-    /// Answers the lines of a script, up to one of another form.
+    /// Answers the lines of a script, up to its end or to one of another form.
     fn answer_lines<W: Write>(&mut self, lines: &[u8], output: &mut W) -> Result<(), Halt> {
         let mut left = Some(lines);
         'lines: while let Some(text) = left {
@@ -120,7 +120,6 @@ impl Lane {
         Ok(())
     }
 
-    /// Answers the next line.
     fn answer_line<W: Write>(&mut self, line: &[u8], output: &mut W) -> Result<(), Halt> {
         self.number = self.number.saturating_add(1);
         match read_line(line) {

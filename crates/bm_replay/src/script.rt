@@ -14,7 +14,7 @@ use std::io::Read;
 /// The most bytes of an input that is read whole before its first line counts.
 pub const MOST_BYTES: usize = 67_108_864;
 
-/// At the most so many bytes come with one read.
+/// The most bytes of one read.
 const PIECE: usize = 65_536;
 
 /// What a line of a script asks that is neither a message nor a drain.
@@ -123,7 +123,7 @@ fn read_request(line: &[u8]) -> Option<ReplayRequest<'_>> {
     }
 }
 
-/// Reads a line whose words are a text.
+/// Reads a line that is UTF-8. None where it asks for nothing.
 fn read_words(line: &[u8]) -> Option<ReplayRequest<'_>> {
     let (word, rest) = std::str::from_utf8(line).ok()?.split_once(' ')?;
     match word {

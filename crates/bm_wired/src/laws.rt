@@ -16,19 +16,20 @@ ghost use Rattle.bm_wired.specs.CanBeHeard.{OrdersCanBeHeard, AsksCanBeHeard, An
 ghost use Rattle.bm_wired.specs.ReadLogins.{LoginsAreRead, LoginAnswersAreRead};
 ghost use Rattle.bm_wired.specs.ReadLogins.{LoginRefusalsAreRead};
 
-/// Whatever a lane, its link and a worker do over a connection from a session's begin on, there is
-/// a schedule that reaches the same trace, the same number of shown items and the same reports. So
-/// each log is a beginning of what the worker reported of its command.
+/// Whatever a lane, its link and a worker do over a connection from a session's begin on, some
+/// schedule does it too. It reaches the same trace, the same number of shown items and the same
+/// reports. So each log is a beginning of what the worker reported of its command.
 pub fn wired_is_schedule()
     ensures schedule { WiredIsSchedule }
     ensures logged { WiredIsLogged }
 {}
 
-/// The same holds over connections that are cut at any moment, with whatever is under way, and over
-/// sessions that are resumed, given up, and begun anew. Whatever the two ends do, there is a
-/// schedule that reaches the same trace and the same number of shown items, and reports the same.
-/// So each log is a beginning of what was reported of its command, over all sessions. It is all of
-/// that, and viewers see it, for a command of the lane's session, where that is the session of the
+/// The same holds over connections that are cut at any moment, with whatever is under way. It holds
+/// over sessions that are resumed, given up, and begun anew. Whatever the two ends do, some
+/// schedule reaches the same trace and the same number of shown items, and reports the same. So
+/// each log is a beginning of what was reported of its command, over all sessions. Viewers see all
+/// that was reported of a command of the lane's session under three premises. That is the session
+/// of the worker's core, nothing is unanswered, and all is shown.
 /// worker's core, nothing is unanswered, and all is shown.
 pub fn cuts_are_logged()
     ensures schedule { CutsAreSchedules }

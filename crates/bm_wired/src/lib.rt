@@ -1,10 +1,10 @@
-//! The law that joins the master's end of a session with the worker's: what a lane and a worker's
+//! The law that joins the master's end of a session with the worker's. What a lane and a worker's
 //! core reach over a connection, a schedule of `bm_replay` reaches too.
 //!
-//! A run is of whole messages. Each of its moves is stated by what the call that makes it ensures:
-//! a turn of the master's link, an order, a question, what is told next, a turn of the worker's
-//! link, a drain and a look. Two things stand as premises of a move, since no clause says them:
-//! that a drained item is one that was put, and that texts are UTF-8. One law is of a session whose
+//! A run is of whole messages. Each of its moves is stated by what the call that makes it ensures.
+//! At the master these are a turn, an order, a question, a drain and a look. At the worker they are
+//! a turn, and what is told next. Two things stand as premises of a move, since no clause says
+//! them. A drained item is one that was put, and texts are UTF-8. One law is of a session whose
 //! connection isn't cut. Another is of connections that are cut at any moment, and of sessions that
 //! are resumed, given up and begun anew. It takes for granted that a session which is resumed is
 //! that of the worker's core, or that the core is still new. Of either there is a run in which a

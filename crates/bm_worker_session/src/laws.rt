@@ -6,7 +6,7 @@ use std::io::{Read, Write};
 
 /// A link was handed requests so far, and may have others still to send again. Together they are
 /// what had no answer when the link came to be, and then all requests since, in order. A link
-/// begins so, and each call that sends without a fault, and each turn, keeps it so. What is told
+/// begins so. Each call that sends without a fault keeps it so, and so does each turn. What is told
 /// has no answer then, whether the link failed or not. The law is over steps, which a caller
 /// chains: a history inside the session would take proofs by hand.
 pub fn sent_requests_are_the_stream<S: Read + Write>()

@@ -46,7 +46,7 @@ fn hand_over_progress<S: Read + Write + Drop, K: MaskKeys + Drop>(
     }
 }
 
-/// What is answered where all that there was to be sent was sent, or where it wasn't.
+/// `Link` where something wasn't sent; else true, since there was something.
 pub(crate) fn outcome(is_sent: bool) -> Result<bool, SessionFault>
     ensures { result ≡ answer_of_sending is_sent }
 {

@@ -65,8 +65,8 @@ impl<S: Read + Write + Drop, K: MaskKeys + Drop> WorkerSession<S, K> {
     }
 
     /// Logs in by a new link, and goes on by it as the master answers. The worker asks to resume
-    /// `session`; a session that begins by this login has the text `next`, or where that is None
-    /// the text of `session`.
+    /// `session`. A session that begins by this login has the text `next`, or that of `session`
+    /// where there is no `next`.
     ///
     /// A resumed session's requests without an answer are to be sent again by the link, and what
     /// waits waits on. Another session begins anew, with no step between that could fail: so no
@@ -187,7 +187,7 @@ impl<S: Read + Write + Drop, K: MaskKeys + Drop> WorkerSession<S, K> {
         self.link.take()
     }
 
-    /// Whether a close frame of the master was read by the link that is up.
+    /// Whether the link that is up has read a close frame of the master. False where none is up.
     pub fn is_closed(&self) -> bool
         ensures { result ≡ is_closed self.now.link }
     {
@@ -204,7 +204,7 @@ impl<S: Read + Write + Drop, K: MaskKeys + Drop> WorkerSession<S, K> {
         self.core.has_unanswered()
     }
 
-    /// How many bytes the requests without an answer have together.
+    /// The sum of the bytes of all requests without an answer, as they are sent.
     pub fn unanswered_bytes(&self) -> usize
         ensures { result ≡ min (bytes_of (unanswered_requests self.now.core)) (2 ^ 64 - 1) }
     {
@@ -212,7 +212,6 @@ impl<S: Read + Write + Drop, K: MaskKeys + Drop> WorkerSession<S, K> {
     }
 }
 
-/// Whether a login that was answered so resumed the session.
 fn is_resumed(attached: Attached) -> bool
     ensures { result ≡ is_resumed attached }
 {

@@ -1,8 +1,8 @@
 //! The build master: serves the workers, builds and logs of a configuration, or replays the
 //! recorded events of a worker's lane.
 //!
-//! Promised: it is safe. All else that is promised stands in the libraries: what a configuration
-//! says in `bm_config`, what a replay answers in `bm_replay`, the threads in `bm_master_threads`.
+//! Promised: it is safe. All else is promised by libraries: what a configuration says by
+//! `bm_config`, what a replay answers by `bm_replay`, the threads by `bm_master_threads`.
 //!
 //! A body could still take one command line for another: what is read of it is only tested.
 #![tactic(auto)]

@@ -120,12 +120,11 @@ fn refuse_spot<F: Write>(alloc: Global, spot: Spot, faults: &mut F) -> io::Resul
     }
 }
 
-/// Runs the master of the configuration in a file, over these streams, and answers the exit
-/// status. It is 2 where the configuration is refused, with the first key at fault told on
-/// `faults`, and in a second line where it stands and what was expected there. For a text that is
-/// no TOML `syntax` is told in its place, and `file` for a file that can't be read. The system's
-/// parts are listed: under `MasterHost` alone the toolchain refuses the proof, for want of types
-/// that only it names.
+/// Runs the master of the configuration in a file, over these streams, and answers the exit status.
+/// It is 2 where the configuration is refused. Then `faults` has the first key at fault, and in a
+/// second line where it stands and what was expected there. For a text that is no TOML `syntax` is
+/// told in its place, and `file` for a file that can't be read. The system's parts are listed:
+/// under `MasterHost` alone the toolchain refuses the proof, for want of types that only it names.
 pub fn serve_file<R, I, O, F>(rt: &R, path: &str, input: I, output: O, faults: F) -> u8
 where
     R: Wait

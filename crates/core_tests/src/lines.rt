@@ -214,7 +214,6 @@ fn has(batch: &LineBatch, wants: &[(&str, &str)]) -> bool {
     batch.parts().len() == wants.len()
 }
 
-/// The batch of the items.
 fn batch_of(alloc: Global, items: &[Item]) -> Option<LineBatch> {
     let mut batch = LineBatch::new(alloc);
     for item in items {

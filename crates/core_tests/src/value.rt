@@ -24,7 +24,6 @@ fn written<A: Allocator, B: Allocator>(
     Ok(out)
 }
 
-/// Whether the value is written as these bytes.
 fn is_written<A: Allocator, B: Allocator>(alloc: B, value: &Value<A>, bytes: &[u8]) -> bool {
     match written(alloc, value) {
         Ok(out) => then_drop(out.as_slice() == bytes, out),

@@ -205,7 +205,6 @@ fn status_tells_a_bad_end(rt: HostRuntime) {
     }
 }
 
-/// Whether a remark is that line.
 fn says(alloc: Global, remark: Remark<'_>, line: &str) -> bool {
     let mut output = Vec::new(alloc);
     remark.write(alloc, &mut output).is_ok() && output.as_slice() == line.as_bytes()

@@ -209,7 +209,6 @@ fn log_of(alloc: Global, session: &Session, name: &str) -> Result<Option<Block>,
     }
 }
 
-/// Whether the text of the block is this one.
 fn is_text(block: &Block, wanted: Option<&str>) -> bool {
     wanted == Some(block.content())
 }

@@ -260,7 +260,6 @@ fn try_run(alloc: Global, rows: &[Row]) -> Option<Vec<Answer>> {
     World::run(alloc, steps, 1).ok()
 }
 
-/// Whether the answers are those of the rows.
 fn are_said(rows: &[Row], answers: &[Answer]) -> bool {
     for (row, answer) in rows.iter().zip(answers) {
         if !row.1.is(answer) {

@@ -185,7 +185,6 @@ fn each_refused_request_of_a_copy_is_want_of_memory(rt: HostRuntime) -> Result<(
     Ok(())
 }
 
-/// Whether the text is copied.
 fn text_is_copied<A: Allocator + Copy>(text: &ValueText<A>, want: &str) -> bool {
     match text.copy() {
         Ok(copy) => then_drop(copy.as_str() == want, copy),
@@ -193,7 +192,6 @@ fn text_is_copied<A: Allocator + Copy>(text: &ValueText<A>, want: &str) -> bool 
     }
 }
 
-/// Whether the bytes are copied.
 fn bytes_are_copied<A: Allocator + Copy>(bytes: &Bytes<A>, want: &[u8]) -> bool {
     match bytes.copy() {
         Ok(copy) => then_drop(copy.as_slice() == want, copy),

@@ -200,7 +200,7 @@ impl Links {
         }
     }
 
-    /// The answer to a call.
+    /// Makes the call, and answers what came of it.
     pub fn call<Y: Yard, R: Wait>(
         &mut self,
         rt: &R,

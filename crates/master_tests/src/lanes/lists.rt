@@ -75,7 +75,6 @@ fn are_users_again(alloc: Global, workers: &[WorkerConfig]) -> bool {
     }
 }
 
-/// Whether these are the words.
 fn are_words(words: &[Text], want: &[&str]) -> bool {
     for (word, text) in words.iter().zip(want) {
         if word.as_str() != *text {

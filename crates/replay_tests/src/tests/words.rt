@@ -39,7 +39,6 @@ fn replays(alloc: Global, words: &[&str], capacity: u32) -> bool {
     }
 }
 
-/// The usage.
 const USAGE: &[u8] = b"usage: buildmaster replay [CAPACITY] or buildmaster serve FILE\n";
 
 fn tells_the_usage(alloc: Global) -> bool {

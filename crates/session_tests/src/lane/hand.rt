@@ -221,7 +221,7 @@ fn again<Y: Yard, R: Wait>(
     }
 }
 
-/// The ends of a lane.
+/// The ends of a new lane with this number. None where memory is wanting, at the second try too.
 pub fn ends_of<Y: Yard, W: Wait + Drop>(
     alloc: Global,
     blank: Blank<W>,

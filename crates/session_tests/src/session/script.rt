@@ -141,7 +141,7 @@ fn spelt(alloc: Global, bytes: &[u8]) -> Result<Event, AllocError> {
     event
 }
 
-/// The event.
+/// The event of the script, made anew at each call.
 pub fn event(alloc: Global, script: Script) -> Result<Event, AllocError> {
     match script {
         Script::Up => Ok(Event::Up),

@@ -104,7 +104,6 @@ fn numbers_out_of_order_are_one_range(rt: HostRuntime) -> Result<(), AllocError>
     Ok(())
 }
 
-/// Whether the session says this to the event.
 fn says(session: &mut Session, event: Event, wanted: Result<Reply, Refusal>) -> bool {
     reply_to(session, event) == wanted
 }

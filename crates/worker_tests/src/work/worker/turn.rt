@@ -203,7 +203,7 @@ fn bad_args(worker: &mut Worker, seq: u32) -> Result<Given, WorkRefusal> {
     }
 }
 
-/// Says a text.
+/// Says a text of the command, which is no longer than one update takes.
 pub fn say(
     worker: &mut Worker,
     command: u64,
