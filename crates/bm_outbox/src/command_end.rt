@@ -4,7 +4,7 @@ use crate::pipes::ExitCode;
 use crate::stopping::{Leftover, StopCause};
 
 /// How a command ended that was started.
-#[derive(Drop)]
+#[derive(Clone, Copy)]
 pub enum CommandEnd {
     /// By itself: its pipes gave this exit code.
     Code(ExitCode),

@@ -111,7 +111,7 @@ impl PipeTexts {
 }
 
 /// The end of a pipe of a command: one whose last text was taken gives it, and nothing else does.
-#[derive(Drop)]
+#[derive(Clone, Copy)]
 pub struct PipeEnd {
     command: u64,
     letter: Letter,

@@ -98,7 +98,7 @@ impl Pipes {
 
 /// An exit code that may be told of a command: its pipes give it once both have come to their ends,
 /// or are waited for no more, and nothing else does.
-#[derive(Drop)]
+#[derive(Clone, Copy)]
 pub struct ExitCode {
     command: u64,
     code: i64,

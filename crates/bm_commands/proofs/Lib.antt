@@ -1,0 +1,6 @@
+-- Changing: a loop that changes each row, and one that goes over them. Counted: what an input takes
+-- of what may still be told. Lawful and Fair: the laws.
+mod Changing
+pub mod Counted
+pub mod Lawful
+pub mod Fair

@@ -1,0 +1,172 @@
+//! What a look at a command's process says of it.
+
+ghost use Rattle.std.specs.Prelude.{◌≡◌};
+ghost use Rattle.bm_commands.specs.Rows.{after_look, coded, end_effect, glanced, held_after, is_blocked, looked, owed_looked, paused, running_looked, stop_looked, swept};
+
+use crate::row::GLANCE_MS;
+use crate::values::{ChildState, Effect, Phase, Row, Seen};
+use bm_outbox::{CommandEnd, StopCause, Sweep, held_ms, stop_end};
+
+/// The pause before the next look at a process that is to end: 1, 2, .. 64 milliseconds. While a
+/// command is being ended, 4 of them at the most.
+fn after_look(is_stopping: bool, pause_ms: u64) -> u64
+    ensures { result ≡ after_look is_stopping pause_ms }
+{
+    if pause_ms == 0 {
+        1
+    } else if is_stopping {
+        if pause_ms < 4 { 2 * pause_ms } else { 4 }
+    } else if pause_ms < 64 {
+        2 * pause_ms
+    } else {
+        64
+    }
+}
+
+/// Nothing has changed, and it is looked at again.
+fn paused(is_stopping: bool, now: u64, row: Row) -> Row
+    ensures { result ≡ paused is_stopping now row }
+{
+    Row {
+        looked_ms: now,
+        pause_ms: after_look(is_stopping, row.pause_ms),
+        ..row
+    }
+}
+
+/// Whether what its pipes gave can't be told.
+fn is_blocked(row: Row) -> bool
+    ensures { result ≡ is_blocked row }
+{
+    row.texts > 0 && !row.has_heard
+}
+
+/// For how long its pipes were held open by now.
+fn held_after(now: u64, row: Row) -> u64
+    ensures { result ≡ held_after now row }
+{
+    match row.held_ms {
+        Some(before) => held_ms(before, now.saturating_sub(row.looked_ms), is_blocked(row)),
+        None => 0,
+    }
+}
+
+/// Its process has ended although its pipes are open. How it ended is known once they were held
+/// open for too long.
+fn glanced(now: u64, code: Option<i32>, row: Row) -> Row
+    ensures { result ≡ glanced now code row }
+{
+    let held = held_after(now, row);
+    let mut pipes = row.pipes;
+    let phase = if pipes.give_up(held) {
+        Phase::Over(CommandEnd::Held(pipes.exit_code(code)))
+    } else {
+        Phase::Runs
+    };
+    Row {
+        pipes,
+        has_heard: false,
+        held_ms: Some(held),
+        looked_ms: now,
+        pause_ms: GLANCE_MS,
+        phase,
+        ..row
+    }
+}
+
+/// A command that runs was looked at. Its exit code is known once both its pipes were read.
+fn running_looked(now: u64, child: ChildState, row: Row) -> Row
+    ensures { result ≡ running_looked now child row }
+{
+    match child {
+        ChildState::Runs if row.pipes.are_over() => paused(false, now, row),
+        ChildState::Runs => {
+            Row {
+                looked_ms: now,
+                pause_ms: GLANCE_MS,
+                ..row
+            }
+        }
+        ChildState::Ended(code) if row.pipes.are_over() => {
+            Row {
+                phase: Phase::Over(CommandEnd::Code(row.pipes.exit_code(code))),
+                ..row
+            }
+        }
+        ChildState::Ended(code) => glanced(now, code, row),
+    }
+}
+
+/// What is known of the processes of a command that is ended. Its own is asked for its end first,
+/// so that none stays as a zombie; only one that a kill doesn't end isn't awaited.
+fn swept(seen: Seen) -> Sweep
+    ensures { result ≡ swept seen }
+{
+    match (seen.sweep, seen.child) {
+        (Sweep::Left, _) => Sweep::Left,
+        (sweep, ChildState::Ended(_)) => sweep,
+        (_, ChildState::Runs) => Sweep::Going,
+    }
+}
+
+/// A command that is being ended was looked at. What its pipes still gave isn't told behind its
+/// end.
+fn stop_looked(why: StopCause, since: u64, now: u64, seen: Seen, row: Row) -> Row
+    ensures { result ≡ stop_looked why since now seen row }
+{
+    let is_silent = row.texts == 0 && row.pipes.are_over();
+    match stop_end(swept(seen), now.saturating_sub(since), is_silent) {
+        Some(left) => {
+            Row {
+                texts: 0,
+                phase: Phase::Over(CommandEnd::Stopped(why, left)),
+                ..row
+            }
+        }
+        None => paused(true, now, row),
+    }
+}
+
+/// A command that was killed, of which nobody is told, was looked at.
+fn owed_looked(now: u64, seen: Seen, row: Row) -> Row
+    ensures { result ≡ owed_looked now seen row }
+{
+    match (seen.child, seen.sweep) {
+        (ChildState::Runs, _) | (_, Sweep::Going) => paused(false, now, row),
+        _ => {
+            Row {
+                phase: Phase::Gone,
+                ..row
+            }
+        }
+    }
+}
+
+/// Its process and its sweep were looked at.
+pub(crate) fn looked(now: u64, seen: Seen, row: Row) -> Row
+    ensures { result ≡ looked now seen row }
+{
+    match row.phase {
+        Phase::Runs => running_looked(now, seen.child, row),
+        Phase::Stopping(why, since) => stop_looked(why, since, now, seen, row),
+        Phase::Owed => owed_looked(now, seen, row),
+        Phase::Over(_) | Phase::Lost | Phase::Gone => row,
+    }
+}
+
+/// What is told of a command whose end is known. An exit code is told of the command whose pipes
+/// gave it.
+pub(crate) fn end_effect(row: Row) -> Effect
+    ensures { result ≡ end_effect row }
+{
+    match row.phase {
+        Phase::Over(end) => {
+            let command = match end {
+                CommandEnd::Code(code) | CommandEnd::Held(code) => code.command(),
+                CommandEnd::Stopped(_, _) => row.pipes.command(),
+            };
+            Effect::TellEnd(row.process, command, end)
+        }
+        _ => Effect::Nothing,
+    }
+}
