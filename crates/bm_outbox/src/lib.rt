@@ -5,10 +5,10 @@
 //! a loop of `bm_worker_threads`, which tests show.
 //!
 //! Promised: what waits is told in order, under the next numbers. What is said of a pipe is its
-//! text, in order, with the same lines. An exit code is told only by an [`ExitCode`], which only
-//! [`Pipes`] give that noted the ends of both pipes of its command, or gave them up after a minute.
-//! A body could still want memory. A driver could end a pipe that it has not read to its end, or
-//! count a minute wrongly.
+//! text, in order, with the same lines. An exit code is told only by an [`ExitCode`]. Only
+//! [`Pipes`] give it, once they have noted the ends of both pipes of its command, or gave them up
+//! after a minute. A body could still want memory. A driver could end a pipe that it has not read
+//! to its end, or count a minute wrongly.
 #![tactic(auto)]
 
 mod command_end;
@@ -27,7 +27,6 @@ mod stop_lines;
 mod stopping;
 mod stretch;
 mod tries;
-mod turn;
 mod words;
 
 pub use command_end::CommandEnd;
@@ -43,4 +42,3 @@ pub use session::begin;
 pub use start_fault::StartFault;
 pub use stopping::{Leftover, StopCause, Sweep, stop_end};
 pub use tries::{ConnectFault, Tries};
-pub use turn::{Ready, next_turn};

@@ -57,9 +57,9 @@ impl Pipes {
         }
     }
 
-    /// Pipes that were held open for so many milliseconds behind the end of their command's process
-    /// may be waited for no more: they count as ended then. The answer is whether that is so. What
-    /// held them may write on, and is not heard.
+    /// Pipes may be waited for no more once they were held open for so many milliseconds behind the
+    /// end of their command's process. They count as ended then. The answer is whether that is so.
+    /// What held them may write on, and is not heard.
     pub fn give_up(&mut self, held_ms: u64) -> bool
         ensures told { result ≡ are_held held_ms self.old }
         ensures pipes { self.new ≡ after_wait held_ms self.old }
@@ -120,8 +120,8 @@ impl ExitCode {
     }
 }
 
-/// For how many milliseconds pipes were held open behind the end of their command's process, where
-/// so many had counted before and so many have passed since the last glance. A glance counts for
+/// For how many milliseconds pipes were held open behind the end of their command's process. So
+/// many had counted before, and so many have passed since the last glance. A glance counts for
 /// nothing while what the pipes gave can't be told: what they still hold is the command's own then.
 pub fn held_ms(before_ms: u64, passed_ms: u64, is_blocked: bool) -> u64
     ensures { result ≡ held_ms before_ms passed_ms is_blocked }

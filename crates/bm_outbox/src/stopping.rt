@@ -89,9 +89,9 @@ impl Leftover {
     }
 }
 
-/// Whether the end of a command is told so many milliseconds after its worker began to end it, and
-/// what is said of its processes then. None where it isn't told yet: it stands behind what the
-/// pipes still give within 200 milliseconds, and behind the sweep.
+/// Whether the end of a command is told so many milliseconds after its worker began to end it. The
+/// answer is what is said of its processes then. None where it isn't told yet: it stands behind
+/// what the pipes still give within 200 milliseconds, and behind the sweep.
 pub fn stop_end(sweep: Sweep, stopped_ms: u64, is_silent: bool) -> Option<Leftover>
     ensures { result ≡ stop_end sweep stopped_ms is_silent }
 {

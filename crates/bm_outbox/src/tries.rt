@@ -79,7 +79,7 @@ impl Tries {
         }
     }
 
-    /// A login was answered by a session, where the worker's clock shows so many milliseconds: from
+    /// A login was answered by a session, where the worker's clock shows so many milliseconds. From
     /// now on each try lasts for its share of a minute.
     pub fn answered(&mut self, now_ms: u64)
         ensures { self.new ≡ record self.old { is_known = true; answered_ms = Some now_ms } }
