@@ -281,14 +281,16 @@ where
     fn tick(&mut self) {
         let before = self.state.connection();
         self.state.tick(self.rt);
-        self.note(before, self.policy.why());
+        let why = self.policy.why();
+        self.note(before, why);
     }
 
     /// A cut lane whose worker is awaited no more is given up.
     fn expire(&mut self) {
         let before = self.state.connection();
         self.state.expire(self.rt);
-        self.note(before, self.policy.why());
+        let why = self.policy.why();
+        self.note(before, why);
     }
 
     /// Tells the worker that the master ends, gives the session up, and hands the lane's end back.

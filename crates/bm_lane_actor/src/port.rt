@@ -214,12 +214,12 @@ impl<'a, Y: Yard, S: Drop, R: Wait + Clock + Drop, W: Watch + Drop> LanePort<'a,
         };
         self.meter = StepMeter::new(step.max_bytes, step.timeout_ticks, step.silent_ticks);
         self.bytes = Some(bytes);
-        let is_set = step.always_run && self.cancelled.take();
-        self.follows(CancelInput::Started { is_set });
         match self.entries.begin(command) {
             Ok(()) => {}
             Err(_) => unreachable!(),
         }
+        let is_set = step.always_run && self.cancelled.take();
+        self.follows(CancelInput::Started { is_set });
         self.watch.started(step, command);
         Ok(command)
     }
