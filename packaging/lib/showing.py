@@ -1,6 +1,7 @@
 """What is shown of a run: a line for each build that moves on a terminal, and else a line for each
 thing that happens."""
 
+import os
 import sys
 import threading
 
@@ -13,20 +14,31 @@ UP = "\033[{}A"
 
 
 class Board:
-    """Standard output and standard error. Lines may come from several threads."""
+    """Standard output and standard error. Lines may come from several threads. Where nobody takes
+    them any more the run goes on, for the sake of its logs."""
 
     def __init__(self, is_quiet):
         self.is_quiet = is_quiet
         self.is_terminal = sys.stdout.isatty() and not is_quiet
+        self.is_unheard = False
         self.drawn = 0
         self.rows = []
         self.lock = threading.RLock()
+
+    def put(self, text, stream):
+        """Writes text. A stream that takes none is told nothing from then on."""
+        try:
+            stream.write(text)
+            stream.flush()
+        except OSError:
+            self.is_unheard = True
+            os.dup2(os.open(os.devnull, os.O_WRONLY), stream.fileno())
 
     def say(self, text):
         """Prints text."""
         with self.lock:
             self.wipe()
-            print(text, flush=True)
+            self.put(f"{text}\n", sys.stdout)
             self.draw()
 
     def tell(self, text, is_fault):
@@ -35,10 +47,10 @@ class Board:
         with self.lock:
             if is_fault:
                 self.wipe()
-                print(text, file=sys.stderr, flush=True)
+                self.put(f"{text}\n", sys.stderr)
                 self.draw()
             elif not self.is_quiet and not self.is_terminal:
-                print(text, flush=True)
+                self.put(f"{text}\n", sys.stdout)
 
     def show(self, builds):
         """Shows a line for each build that runs."""
@@ -51,25 +63,23 @@ class Board:
             rows.append(f"and {len(running) - MOST_SHOWN} more")
         with self.lock:
             self.wipe()
-            self.rows = [row[:100] for row in rows + [f"{over} builds over"]]
+            self.rows = [row[:100] for row in rows + [f"{over} of {len(builds)} builds over"]]
             self.draw()
 
     def wipe(self):
         if self.drawn:
-            sys.stdout.write("\r" + UP.format(self.drawn) + CLEAR)
+            self.put("\r" + UP.format(self.drawn) + CLEAR, sys.stdout)
             self.drawn = 0
 
     def draw(self):
         if self.is_terminal and self.rows:
-            sys.stdout.write("".join(f"{row}\n" for row in self.rows))
-            sys.stdout.flush()
+            self.put("".join(f"{row}\n" for row in self.rows), sys.stdout)
             self.drawn = len(self.rows)
 
     def end(self):
         with self.lock:
             self.wipe()
             self.rows = []
-            sys.stdout.flush()
 
 
 def summary(builds):
