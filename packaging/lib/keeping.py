@@ -12,7 +12,7 @@ from chunks import MOST_LINES, Gone, Server, plain
 LAST_LINES = 40
 # Seconds between two looks at logs that don't grow.
 PAUSE = 0.1
-# Seconds in which the log of a step that has ended has to be whole.
+# Seconds for which the log of a step that has ended may give nothing before it is whole.
 LAST_SECONDS = 20
 # Seconds after which a server that doesn't answer is gone.
 MOST_ABSENT = 3
@@ -39,6 +39,7 @@ class Log:
     def __init__(self, remark):
         self.id, self.build, self.place, self.step = remark["log"], remark["build"], remark["place"], remark["step"]
         self.stem = stem(remark)
+        # When its step ended, or lines came after that.
         self.shown, self.last, self.ended, self.is_failed, self.is_whole = 0, [], None, False, False
         self.files = None
 
@@ -116,6 +117,8 @@ class Keeper:
         if self.follows:
             for line in lines:
                 self.board.say(f"{log.build}.{log.place} | {plain(line[1:])}")
+        if lines and log.ended:
+            log.ended = time.monotonic()
         log.is_whole = bool(state and state[0] and log.shown >= state[1])
         is_late = log.ended is not None and time.monotonic() > log.ended + LAST_SECONDS
         if log.ended is not None and (log.is_whole or is_late):

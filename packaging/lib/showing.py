@@ -56,6 +56,7 @@ class Board:
         """Shows a line for each build that runs."""
         if not self.is_terminal:
             return
+        builds = list(builds.values())
         running = [build for build in builds if "began" in build and "result" not in build]
         over = sum("result" in build for build in builds)
         rows = [f"build {build['number']} on {plain(build['worker'])}: {plain(build.get('step', ''))}" for build in running[:MOST_SHOWN]]
