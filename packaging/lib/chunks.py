@@ -92,7 +92,7 @@ def spoken(body):
 
 def pieces(server, log, name, absent):
     """The log's lines, piece by piece as they come, to the end of its command. `absent` is called
-    once where there is no such log yet."""
+    once where there is no such log for more than a second."""
     shown, pause, is_told, is_over = 0, FIRST_PAUSE, False, False
     while True:
         lines = server.lines(log, shown, name)
@@ -114,7 +114,7 @@ def pieces(server, log, name, absent):
                 continue
         if is_over:
             return
-        if state is None and not is_told:
+        if state is None and not is_told and pause == LAST_PAUSE:
             is_told = True
             absent()
         if state is None or shown >= state[1]:

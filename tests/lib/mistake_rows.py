@@ -100,6 +100,7 @@ WORDS = {
     "buildmaster of a folder": (["buildmaster", "serve", "docs"], 2, "bad configuration: file\ndocs: Is a directory"),
     "buildworker of port 0": (["buildworker", "localhost:0", "w0", "p"], 2, "usage: buildworker"),
     "buildworker of a port too many": (["buildworker", "localhost:65536", "w0", "p"], 2, "usage: buildworker"),
+    "serve of an empty name": (["./serve", ""], 2, "bad configuration: file\n"),
     "serve of a folder": (["./serve", "docs"], 2, "bad configuration: file\ndocs: Is a directory"),
     "run of a folder": (["./run", "docs"], 2, "bad configuration: file\ndocs: Is a directory"),
     "run that keeps in no folder": (["./run", FIRST, "--keep", ""], 2, "--keep wants a folder"),
