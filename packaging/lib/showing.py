@@ -9,6 +9,8 @@ from chunks import plain
 
 # The most lines of builds that a terminal shows at once.
 MOST_SHOWN = 12
+# The most names of failing steps in a row of the table.
+MOST_FAILING = 3
 CLEAR = "\033[J"
 UP = "\033[{}A"
 
@@ -83,12 +85,19 @@ class Board:
             self.rows = []
 
 
+def failing(build):
+    """The steps of a build that failed. Which of them decided its result isn't told."""
+    names = build.get("failing", ["-"])
+    more = len(names) - MOST_FAILING
+    return plain(", ".join(names[:MOST_FAILING])) + (f" and {more} more" if more > 0 else "")
+
+
 def summary(builds):
-    """A table of the builds: build, worker, result, seconds, the step that failed."""
+    """A table of the builds: build, worker, result, seconds, the steps that failed."""
     rows = [("build", "worker", "result", "seconds", "failing step")]
     for number in sorted(builds):
         build = builds[number]
         seconds = f"{build['ended'] - build['began']:.1f}" if "began" in build and "ended" in build else "-"
-        rows.append((str(number), plain(build.get("worker", "-")), build.get("result", "not over"), seconds, plain(build.get("failing", "-"))))
+        rows.append((str(number), plain(build.get("worker", "-")), build.get("result", "not over"), seconds, failing(build)))
     widths = [max(len(row[column]) for row in rows) for column in range(5)]
     return ["  ".join(cell.ljust(width) for cell, width in zip(row, widths)).rstrip() for row in rows]
