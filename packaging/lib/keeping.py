@@ -27,6 +27,10 @@ def address(web):
     return f"{({'0.0.0.0': '127.0.0.1', '[::]': '[::1]'}).get(host, host)}:{port}"
 
 
+def counted(count):
+    return f"{count} log" if count == 1 else f"{count} logs"
+
+
 def stem(remark):
     """The name of a log's files: the step's place and name, without signs that a path could read."""
     name = re.sub(r"[^A-Za-z0-9._+-]", "_", remark["step"])[:MOST_NAME]
@@ -178,7 +182,7 @@ class Keeper:
         lines = []
         if self.folder:
             kept = [log for log in self.logs if log.files]
-            lines.append(f"kept {len(kept)} logs in {plain(self.folder)}" + (f", {len(partly)} of them not to their ends" if partly else ""))
+            lines.append(f"kept {counted(len(kept))} in {plain(self.folder)}" + (f", {len(partly)} of them not to their ends" if partly else ""))
         elif is_lost:
-            lines.append(f"{len(partly)} logs were not read to their ends")
+            lines.append(f"{counted(len(partly))} not read to the end")
         return lines
