@@ -14,6 +14,10 @@ PATIENCE = 60
 FIRST_PAUSE, LAST_PAUSE = 0.05, 1.0
 
 
+# What is told of another server, mostly the door for workers.
+NO_SERVER = "no chunk server answers there, as the second address of `listening` does"
+
+
 class Gone(Exception):
     """The server can't be reached, or doesn't speak as a chunk server does."""
 
@@ -26,6 +30,7 @@ class Server:
         if parts.scheme != "http" or not parts.hostname or not parts.port:
             raise ValueError(web)
         self.connection = http.client.HTTPConnection(parts.hostname, parts.port, timeout=PATIENCE)
+        self.has_answered = False
 
     def ask(self, path, **query):
         """The answer's JSON; None where there is no such log yet,
@@ -34,7 +39,10 @@ class Server:
         try:
             status, body = self.answer(target)
         except (OSError, http.client.HTTPException) as fault:
-            raise Gone(str(fault) or type(fault).__name__) from fault
+            is_other = isinstance(fault, http.client.HTTPException) and not self.has_answered
+            why = getattr(fault, "strerror", None) or str(fault) or type(fault).__name__
+            raise Gone(f"{NO_SERVER} ({why})" if is_other else why) from fault
+        self.has_answered = True
         if status == 503:
             return None
         said = spoken(body)
@@ -42,7 +50,7 @@ class Server:
             return None
         if status == 200 and ("logs" in said or "logchunks" in said):
             return said
-        raise Gone(f"no chunk server answers there (status {status} for {plain(target)})")
+        raise Gone(f"{NO_SERVER} (status {status} for {plain(target)})")
 
     def answer(self, target):
         """Asks once more where the connection was closed since the last answer,
@@ -84,8 +92,8 @@ def spoken(body):
 
 def pieces(server, log, name, absent):
     """The log's lines, piece by piece as they come, to the end of its command. `absent` is called
-    once where there is no such log yet."""
-    shown, pause, is_told = 0, FIRST_PAUSE, False
+    once where there is no such log for more than a second."""
+    shown, pause, is_told, is_over = 0, FIRST_PAUSE, False, False
     while True:
         lines = server.lines(log, shown, name)
         shown += len(lines)
@@ -99,11 +107,16 @@ def pieces(server, log, name, absent):
         state = server.state(log, name)
         if state and state[0] and shown >= state[1]:
             return
-        if state is None and not is_told:
+        if state is None and name != "stdio" and not is_over:
+            # It is asked for once more behind the end of its command: then it comes no more.
+            is_over = has_ended(server, log)
+            if is_over:
+                continue
+        if is_over:
+            return
+        if state is None and not is_told and pause == LAST_PAUSE:
             is_told = True
             absent()
-        if state is None and name != "stdio" and has_ended(server, log):
-            return
         if state is None or shown >= state[1]:
             pause = min(LAST_PAUSE, 2 * pause)
             time.sleep(pause)

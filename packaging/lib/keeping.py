@@ -12,7 +12,7 @@ from chunks import MOST_LINES, Gone, Server, plain
 LAST_LINES = 40
 # Seconds between two looks at logs that don't grow.
 PAUSE = 0.1
-# Seconds in which the log of a step that has ended has to be whole.
+# Seconds for which the log of a step that has ended may give nothing before it is whole.
 LAST_SECONDS = 20
 # Seconds after which a server that doesn't answer is gone.
 MOST_ABSENT = 3
@@ -27,6 +27,10 @@ def address(web):
     return f"{({'0.0.0.0': '127.0.0.1', '[::]': '[::1]'}).get(host, host)}:{port}"
 
 
+def counted(count):
+    return f"{count} log" if count == 1 else f"{count} logs"
+
+
 def stem(remark):
     """The name of a log's files: the step's place and name, without signs that a path could read."""
     name = re.sub(r"[^A-Za-z0-9._+-]", "_", remark["step"])[:MOST_NAME]
@@ -39,6 +43,7 @@ class Log:
     def __init__(self, remark):
         self.id, self.build, self.place, self.step = remark["log"], remark["build"], remark["place"], remark["step"]
         self.stem = stem(remark)
+        # When its step ended, or lines came after that.
         self.shown, self.last, self.ended, self.is_failed, self.is_whole = 0, [], None, False, False
         self.files = None
 
@@ -116,6 +121,8 @@ class Keeper:
         if self.follows:
             for line in lines:
                 self.board.say(f"{log.build}.{log.place} | {plain(line[1:])}")
+        if lines and log.ended:
+            log.ended = time.monotonic()
         log.is_whole = bool(state and state[0] and log.shown >= state[1])
         is_late = log.ended is not None and time.monotonic() > log.ended + LAST_SECONDS
         if log.ended is not None and (log.is_whole or is_late):
@@ -175,7 +182,7 @@ class Keeper:
         lines = []
         if self.folder:
             kept = [log for log in self.logs if log.files]
-            lines.append(f"kept {len(kept)} logs in {plain(self.folder)}" + (f", {len(partly)} of them not to their ends" if partly else ""))
+            lines.append(f"kept {counted(len(kept))} in {plain(self.folder)}" + (f", {len(partly)} of them not to their ends" if partly else ""))
         elif is_lost:
-            lines.append(f"{len(partly)} logs were not read to their ends")
+            lines.append(f"{counted(len(partly))} not read to the end")
         return lines

@@ -1,6 +1,7 @@
 """What is shown of a run: a line for each build that moves on a terminal, and else a line for each
 thing that happens."""
 
+import os
 import sys
 import threading
 
@@ -8,25 +9,38 @@ from chunks import plain
 
 # The most lines of builds that a terminal shows at once.
 MOST_SHOWN = 12
+# The most names of failing steps in a row of the table.
+MOST_FAILING = 3
 CLEAR = "\033[J"
 UP = "\033[{}A"
 
 
 class Board:
-    """Standard output and standard error. Lines may come from several threads."""
+    """Standard output and standard error. Lines may come from several threads. Where nobody takes
+    them any more the run goes on, for the sake of its logs."""
 
     def __init__(self, is_quiet):
         self.is_quiet = is_quiet
         self.is_terminal = sys.stdout.isatty() and not is_quiet
+        self.is_unheard = False
         self.drawn = 0
         self.rows = []
         self.lock = threading.RLock()
+
+    def put(self, text, stream):
+        """Writes text. A stream that takes none is told nothing from then on."""
+        try:
+            stream.write(text)
+            stream.flush()
+        except OSError:
+            self.is_unheard = True
+            os.dup2(os.open(os.devnull, os.O_WRONLY), stream.fileno())
 
     def say(self, text):
         """Prints text."""
         with self.lock:
             self.wipe()
-            print(text, flush=True)
+            self.put(f"{text}\n", sys.stdout)
             self.draw()
 
     def tell(self, text, is_fault):
@@ -35,15 +49,16 @@ class Board:
         with self.lock:
             if is_fault:
                 self.wipe()
-                print(text, file=sys.stderr, flush=True)
+                self.put(f"{text}\n", sys.stderr)
                 self.draw()
             elif not self.is_quiet and not self.is_terminal:
-                print(text, flush=True)
+                self.put(f"{text}\n", sys.stdout)
 
     def show(self, builds):
         """Shows a line for each build that runs."""
         if not self.is_terminal:
             return
+        builds = list(builds.values())
         running = [build for build in builds if "began" in build and "result" not in build]
         over = sum("result" in build for build in builds)
         rows = [f"build {build['number']} on {plain(build['worker'])}: {plain(build.get('step', ''))}" for build in running[:MOST_SHOWN]]
@@ -51,33 +66,38 @@ class Board:
             rows.append(f"and {len(running) - MOST_SHOWN} more")
         with self.lock:
             self.wipe()
-            self.rows = [row[:100] for row in rows + [f"{over} builds over"]]
+            self.rows = [row[:100] for row in rows + [f"{over} of {len(builds)} builds over"]]
             self.draw()
 
     def wipe(self):
         if self.drawn:
-            sys.stdout.write("\r" + UP.format(self.drawn) + CLEAR)
+            self.put("\r" + UP.format(self.drawn) + CLEAR, sys.stdout)
             self.drawn = 0
 
     def draw(self):
         if self.is_terminal and self.rows:
-            sys.stdout.write("".join(f"{row}\n" for row in self.rows))
-            sys.stdout.flush()
+            self.put("".join(f"{row}\n" for row in self.rows), sys.stdout)
             self.drawn = len(self.rows)
 
     def end(self):
         with self.lock:
             self.wipe()
             self.rows = []
-            sys.stdout.flush()
+
+
+def failing(build):
+    """The steps of a build that failed. Which of them decided its result isn't told."""
+    names = build.get("failing", ["-"])
+    more = len(names) - MOST_FAILING
+    return plain(", ".join(names[:MOST_FAILING])) + (f" and {more} more" if more > 0 else "")
 
 
 def summary(builds):
-    """A table of the builds: build, worker, result, seconds, the step that failed."""
+    """A table of the builds: build, worker, result, seconds, the steps that failed."""
     rows = [("build", "worker", "result", "seconds", "failing step")]
     for number in sorted(builds):
         build = builds[number]
         seconds = f"{build['ended'] - build['began']:.1f}" if "began" in build and "ended" in build else "-"
-        rows.append((str(number), plain(build.get("worker", "-")), build.get("result", "not over"), seconds, plain(build.get("failing", "-"))))
+        rows.append((str(number), plain(build.get("worker", "-")), build.get("result", "not over"), seconds, failing(build)))
     widths = [max(len(row[column]) for row in rows) for column in range(5)]
     return ["  ".join(cell.ljust(width) for cell, width in zip(row, widths)).rstrip() for row in rows]
