@@ -3,4 +3,3 @@ mod Lengths
 mod Lossy
 mod Stretches
 mod Queue
-mod Turns

@@ -1,8 +1,7 @@
 -- A reader has to believe these. OutboxEntries and Telling: what waits to be told, in which order,
--- and what telling it does to the worker's core. Turns: of which command is told next.
+-- and what telling it does to the worker's core.
 pub mod OutboxEntries
 pub mod Telling
-pub mod Turns
 -- What is said of a command: its header lines, the texts of its pipes, why it can't be started, and
 -- its end.
 pub mod Headers

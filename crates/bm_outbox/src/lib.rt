@@ -27,7 +27,6 @@ mod stop_lines;
 mod stopping;
 mod stretch;
 mod tries;
-mod turn;
 mod words;
 
 pub use command_end::CommandEnd;
@@ -43,4 +42,3 @@ pub use session::begin;
 pub use start_fault::StartFault;
 pub use stopping::{Leftover, StopCause, Sweep, stop_end};
 pub use tries::{ConnectFault, Tries};
-pub use turn::{Ready, next_turn};
