@@ -1,15 +1,13 @@
 -- What an input takes of a command's weight, which counts what may still be told of it.
-use Rattle.std.proofs.Common.{◌≡◌, refl, sym, ap, ◌∙◌, subst, ℕ, ◌+◌, ◌≤◌, ◌<◌, Bool, true, false, cond, List, [], ◌∷◌, ◌++◌, map, length, get_or, Option, Some, None, arith}
+use Rattle.std.proofs.Common.{◌≡◌, refl, sym, ap, ◌∙◌, subst, ℕ, ◌+◌, ◌≤◌, Bool, true, false, cond, List, [], ◌∷◌, ◌++◌, map, Option, Some, None, arith}
 use Rattle.std.specs.Prelude.{◌==◌, ◌-◌, nat_lt, max, slice_get, slice_set, remove, position, ◌||◌, ◌&&◌, ℤ}
 use Rattle.std.specs.List.{sum_by}
 use Rattle.std.proofs.lemmas.Bool.Decides.{nat_tests}
-use Rattle.std.proofs.lemmas.List.Sums.{sum_by-append, sum_by-cons, sum_by-remove, sum_by-set, sum_by_push}
+use Rattle.std.proofs.lemmas.List.Sums.{sum_by-cons, sum_by-remove, sum_by-set, sum_by_push}
 use Rattle.std.proofs.lemmas.Option.{slice_get_within, get_or_from_slice_get}
-use Rattle.bm_outbox.specs.Pipes.{are_held, are_over, with_end}
+use Rattle.bm_outbox.specs.Pipes.{are_held, are_over}
 use Rattle.bm_outbox.specs.Stopping.{stop_end}
-use Rattle.bm_outbox.specs.declared.command_end.CommandEnd.{CommandEnd}
 use Rattle.bm_outbox.specs.declared.command_end.CommandEnd.TheVariants as command_end
-use Rattle.bm_outbox.specs.declared.pipe_texts.PipeEnd.{PipeEnd}
 use Rattle.bm_outbox.specs.declared.pipes.ExitCode.{ExitCode}
 use Rattle.bm_outbox.specs.declared.stopping.Leftover.{Leftover}
 use Rattle.bm_outbox.specs.declared.stopping.StopCause.{StopCause}
@@ -28,7 +26,7 @@ use Rattle.bm_commands.specs.declared.values.Effect.TheVariants as effect
 use Rattle.bm_commands.specs.declared.values.Phase.{Phase}
 use Rattle.bm_commands.specs.declared.values.Phase.TheVariants as phase
 use Rattle.bm_commands.specs.declared.values.Row.{Row}
-use Rattle.bm_commands.specs.Rows.{cell, end_effect, end_effect_in, fresh_row, glanced, has_end, has_text, held_after, interrupted_in, is_command, is_due, is_gone, is_heard, is_lost, is_process, is_told, killed, looked_in, lost, owed_looked_to, running_looked, stop_looked_to, swept, with_pipe_end, with_text, without_memory_in}
+use Rattle.bm_commands.specs.Rows.{cell, end_effect, end_effect_in, fresh_row, glanced, has_end, has_text, held_after, interrupted_in, is_command, is_due, is_gone, is_heard, is_lost, is_process, is_told, killed, looked_in, lost, owed_looked_to, running_looked, stop_looked_to, swept, without_memory_in}
 use Rattle.std.proofs.lemmas.List.Quantifiers.{position-Some}
 use Rattle.bm_commands.specs.Laws.{Event, admits, steps, moved, after, effects, total}
 use Rattle.bm_commands.specs.Queues.{Acted, IsOwn, QueuesView, admitted, changed, changed_to, ends_or, forgets_or, forgotten_to, is_alone, killed_to, kills_or, look_to, looks, stepped, texts_or, told_end_to, told_text_to}

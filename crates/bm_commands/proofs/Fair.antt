@@ -1,20 +1,18 @@
 -- A command that waits moves forward with each text of another one.
-use Rattle.std.proofs.Common.{◌≡◌, refl, sym, ap, ◌∙◌, subst, ℕ, ◌+◌, ◌≤◌, ◌<◌, Bool, true, false, cond, List, [], ◌∷◌, ◌++◌, map, length, get_or, zero, suc, Option, Some, None, arith}
+use Rattle.std.proofs.Common.{◌≡◌, refl, sym, ap, ◌∙◌, ℕ, ◌+◌, ◌≤◌, ◌<◌, Bool, true, false, cond, List, [], ◌∷◌, ◌++◌, map, get_or, zero, suc, Some, arith}
 use Rattle.std.specs.Prelude.{◌==◌, ◌-◌, ◌&&◌, nat_lt, max, slice_get, slice_set, remove, position}
 use Rattle.std.proofs.lemmas.Bool.Decides.{nat_tests}
 use Rattle.std.proofs.lemmas.List.Quantifiers.{position-Some}
 use Rattle.std.proofs.lemmas.Option.{get_or_from_slice_get}
-use Rattle.bm_outbox.specs.declared.command_end.CommandEnd.TheVariants as command_end
 use Rattle.bm_commands.specs.declared.values.ProcessInput.{ProcessInput}
 use Rattle.bm_commands.specs.declared.values.Input.{Input}
 use Rattle.bm_commands.specs.declared.values.Input.TheVariants as input
-use Rattle.bm_commands.specs.declared.values.Effect.{Effect}
 use Rattle.bm_commands.specs.declared.values.Effect.TheVariants as effect
 use Rattle.bm_commands.specs.declared.values.Phase.{Phase}
 use Rattle.bm_commands.specs.declared.values.Phase.TheVariants as phase
 use Rattle.bm_commands.specs.declared.values.Row.{Row}
 use Rattle.bm_commands.specs.Rows.{cell, end_effect, end_effect_in, fresh_row, has_end, has_text, is_gone, killed, lost, phase_is_gone, phase_is_over, phase_is_told}
-use Rattle.bm_commands.specs.Queues.{Acted, QueuesView, admitted, stepped}
+use Rattle.bm_commands.specs.Queues.{Acted, QueuesView}
 use Rattle.bm_commands.specs.Laws.{Event, TurnsAreFair, WaitsOn, admits, any_text, effects, moved, one_if, place, steps, texts_in, total, waits}
 use Rattle.bm_commands.proofs.Counted.{OnRows, both, quiet-cell, walk}
 use Rattle.bm_commands.proofs.Lawful.{process_after}

@@ -1,11 +1,9 @@
 -- The laws of a worker's commands.
 use Rattle.std.proofs.Common.{◌≡◌, refl, sym, ap, ◌∙◌, subst, ℕ, ◌+◌, ◌≤◌, Bool, true, false, cond, List, [], ◌∷◌, map, Option, Some, None, arith}
 use Rattle.std.proofs.lemmas.List.Sums.{sum_by-cons}
-use Rattle.std.specs.Prelude.{◌==◌, ◌&&◌, nat_lt, max, slice_get, slice_set, position}
+use Rattle.std.specs.Prelude.{◌==◌, ◌&&◌, nat_lt, max, slice_get, position}
 use Rattle.std.proofs.lemmas.Bool.Decides.{nat_tests}
-use Rattle.bm_outbox.specs.declared.command_end.CommandEnd.{CommandEnd}
 use Rattle.bm_outbox.specs.declared.command_end.CommandEnd.TheVariants as command_end
-use Rattle.bm_outbox.specs.declared.stopping.StopCause.TheVariants as cause
 use Rattle.bm_commands.specs.declared.values.ProcessInput.TheVariants as told
 use Rattle.bm_commands.specs.declared.values.Input.TheVariants as input
 use Rattle.bm_commands.specs.declared.values.Effect.{Effect}
@@ -14,10 +12,10 @@ use Rattle.bm_commands.specs.declared.values.Phase.{Phase}
 use Rattle.bm_commands.specs.declared.values.Phase.TheVariants as phase
 use Rattle.bm_commands.specs.declared.values.Row.{Row}
 use Rattle.bm_commands.specs.declared.values.ProcessInput.{ProcessInput}
-use Rattle.bm_commands.specs.Rows.{cell, end_effect, end_effect_in, giver, has_text, interrupted_in, is_command, is_told, lost, phase_is_told}
-use Rattle.bm_commands.specs.Queues.{Acted, QueuesView, changed, changed_to, fresh_queues, stepped}
-use Rattle.bm_commands.specs.Laws.{EndsOnce, Event, InterruptedGiveNoCode, LostAreSilent, SilentBehindEnd, after, codes_in, effects, ends_in, gives_code, moved, one_if, texts_in, told_in, total}
-use Rattle.bm_commands.proofs.Counted.{IsFree, Weight, falls-cell, may, paid-moved, paid-run, paid-step, shown-moved, weight, weigh, weigh-set}
+use Rattle.bm_commands.specs.Rows.{cell, end_effect_in, interrupted_in, is_command, is_told, lost, phase_is_told}
+use Rattle.bm_commands.specs.Queues.{QueuesView, changed, changed_to, fresh_queues, stepped}
+use Rattle.bm_commands.specs.Laws.{EndsOnce, Event, InterruptedGiveNoCode, LostAreSilent, SilentBehindEnd, after, codes_in, effects, ends_in, moved, one_if, texts_in, told_in, total}
+use Rattle.bm_commands.proofs.Counted.{IsFree, Weight, falls-cell, may, paid-moved, paid-run, shown-moved, weight, weigh, weigh-set}
 
 -- whatever has a row may be told of
 abbrev all : Phase → ℕ

@@ -1,6 +1,8 @@
 -- Changing: a loop that changes each row, and one that goes over them. Counted: what an input takes
--- of what may still be told. Lawful and Fair: the laws.
+-- of what may still be told. Lawful, Fair and Waking:
+-- the laws.
 mod Changing
 pub mod Counted
 pub mod Lawful
 pub mod Fair
+pub mod Waking

@@ -1,5 +1,5 @@
 -- What follows for a worker's commands, whatever comes.
-use Rattle.std.specs.Prelude.{◌≡◌, ⊤, ◌==◌, ◌≤◌, ◌+◌, ℕ, Bool, true, false, ◌&&◌, if◌then◌else◌, List, [], ◌∷◌}
+use Rattle.std.specs.Prelude.{◌≡◌, ⊤, ◌==◌, ◌≤◌, ◌<◌, max, Option, Some, None, ◌+◌, ℕ, Bool, true, false, ◌&&◌, if◌then◌else◌, List, [], ◌∷◌}
 use Rattle.bm_outbox.specs.declared.command_end.CommandEnd.{CommandEnd}
 use Rattle.bm_outbox.specs.declared.command_end.CommandEnd.TheVariants as command_end
 use Rattle.bm_commands.specs.declared.values.Input.{Input}
@@ -8,7 +8,7 @@ use Rattle.bm_commands.specs.declared.values.Effect.{Effect}
 use Rattle.bm_commands.specs.declared.values.Effect.TheVariants as effect
 use Rattle.bm_commands.specs.declared.values.Row.{Row}
 use Rattle.bm_commands.specs.Rows.{has_text}
-use Rattle.bm_commands.specs.Queues.{QueuesView, admitted, fresh_queues, stepped}
+use Rattle.bm_commands.specs.Queues.{QueuesView, admitted, fresh_queues, stepped, wake}
 
 -- a command is taken in at a time, or an input comes at one
 pub data Event : Type 0 where
@@ -101,3 +101,14 @@ abbrev pub TurnsAreFair : Type 0
 TurnsAreFair =
     (q : QueuesView) (es : List Event) (p : ℕ) → WaitsOn p q es
     → total any_text (effects q es) ≤ place p q.rows
+
+-- this time comes before the wake, if there is one
+abbrev pub IsBefore : ℕ → Option ℕ → Type 0
+IsBefore now (Some at) = now < at
+IsBefore now None = ⊤
+
+-- a tick before the wake does nothing
+abbrev pub SleepsUntilWake : Type 0
+SleepsUntilWake =
+    (q : QueuesView) (now : ℕ) → IsBefore (max q.now_ms now) (wake q.rows)
+    → ((stepped q now input.Tick).1 ≡ effect.Nothing) × ((stepped q now input.Tick).0.rows ≡ q.rows)

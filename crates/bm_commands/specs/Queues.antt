@@ -1,5 +1,5 @@
 -- What an input does to all commands of a worker.
-use Rattle.std.specs.Prelude.{ℕ, ◌+◌, ◌-◌, max, min, nat_lt, Bool, true, false, ◌||◌, if◌then◌else◌, List, [], ◌∷◌, ◌++◌, fold, map, position, remove, slice_get, slice_set, Option, Some, None, ⊤}
+use Rattle.std.specs.Prelude.{ℕ, ◌+◌, ◌-◌, max, min, Bool, true, false, ◌||◌, if◌then◌else◌, List, [], ◌∷◌, ◌++◌, fold, map, position, remove, slice_get, slice_set, Option, Some, None, ⊤}
 use Rattle.bm_outbox.specs.Stopping.{IsOwnEnd}
 use Rattle.bm_commands.specs.declared.values.ProcessInput.{ProcessInput}
 use Rattle.bm_commands.specs.declared.values.ProcessInput.TheVariants as told

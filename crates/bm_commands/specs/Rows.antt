@@ -90,7 +90,7 @@ phase_is_watched phase.Owed = true
 phase_is_watched p = false
 
 abbrev pub is_due : ℕ → Row → Bool
-is_due now r = phase_is_watched r.phase && nat_le r.pause_ms (now - r.looked_ms)
+is_due now r = phase_is_watched r.phase && nat_le (min (r.looked_ms + r.pause_ms) (2 ^ 64 - 1)) now
 
 -- a lost session's command is killed, and nobody is told of it
 abbrev pub lost : Row → Row

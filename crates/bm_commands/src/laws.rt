@@ -1,6 +1,6 @@
 //! Laws of a worker's commands over whatever comes, as contracts.
 
-ghost use Rattle.bm_commands.specs.Laws.{EndsOnce, InterruptedGiveNoCode, LostAreSilent, SilentBehindEnd, TurnsAreFair};
+ghost use Rattle.bm_commands.specs.Laws.{EndsOnce, InterruptedGiveNoCode, LostAreSilent, SilentBehindEnd, SleepsUntilWake, TurnsAreFair};
 
 /// A command's end is told at most once, and no text of it behind that.
 pub fn ends_are_told_once()
@@ -22,4 +22,9 @@ pub fn lost_commands_are_silent()
 /// commands before it.
 pub fn turns_are_fair()
     ensures { TurnsAreFair }
+{}
+
+/// A tick before the wake does nothing, so a thread may sleep until then.
+pub fn ticks_wait_for_the_wake()
+    ensures { SleepsUntilWake }
 {}

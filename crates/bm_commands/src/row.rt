@@ -97,7 +97,7 @@ pub(crate) fn is_due(now: u64, row: &Row) -> bool
 {
     match row.phase {
         Phase::Runs | Phase::Stopping(_, _) | Phase::Owed => {
-            row.pause_ms <= now.saturating_sub(row.looked_ms)
+            row.looked_ms.saturating_add(row.pause_ms) <= now
         }
         Phase::Over(_) | Phase::Lost | Phase::Gone => false,
     }

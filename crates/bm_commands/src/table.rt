@@ -5,7 +5,10 @@ ghost use Rattle.bm_commands.specs.Rows.{has_end, has_text, is_command, is_due, 
 ghost use Rattle.bm_commands.specs.Queues.{changed, is_alone, killed_at, forgotten_at, look_at, sooner, ticked, told_end_at, told_text_at, turned, wake};
 
 use crate::ending::end_effect;
-use crate::row::{cell, has_end, has_text, is_command, is_due, is_gone, is_lost, is_other, is_process, killed, lost};
+use crate::row::{
+    cell, has_end, has_text, is_command, is_due, is_gone, is_lost, is_other, is_process, killed,
+    lost,
+};
 use crate::values::{Effect, Phase, ProcessInput, Row};
 
 /// The place of a process.

@@ -1,69 +1,41 @@
--- Of which command is told next.
-use Rattle.std.specs.Prelude.{◌≡◌, Bool, true, false, ◌||◌, ℕ, nat_lt, List, [], ◌∷◌, ◌++◌, length, map, slice_get, Option, Some, None, ⊤}
-use Rattle.std.specs.List.{remove}
-use Rattle.std.specs.declared.alloc.Global.{Global}
-use Rattle.std.specs.declared.collections.VecDeque.{VecDeque}
+-- What is told of a worker's commands, as their machine says.
+use Rattle.std.specs.Prelude.{◌≡◌, ◌==◌, ℕ, Bool, List, [], ◌∷◌, ◌++◌, position, slice_get, Option, Some, None}
+use Rattle.bm_commands.specs.declared.values.Effect.{Effect}
+use Rattle.bm_commands.specs.declared.values.Effect.TheVariants as effect
 use Rattle.bm_outbox.specs.Stopping.{Ends}
-use Rattle.bm_outbox.specs.Turns.{next_turn}
-use Rattle.bm_outbox.specs.declared.command_end.CommandEnd.{CommandEnd}
 use Rattle.bm_outbox.specs.declared.outbox_entry.OutboxEntry.{OutboxEntry}
 use Rattle.bm_outbox.specs.declared.outbox_entry.OutboxEntry.TheVariants as entry
 use Rattle.bm_outbox.specs.declared.said.Said.{Said}
-use Rattle.bm_outbox.specs.declared.turn.Ready.{Ready}
-use Rattle.bm_outbox.specs.declared.turn.Ready.TheVariants as ready
-use Rattle.bm_worker_threads.specs.Givers.{giver}
-use Rattle.bm_worker_threads.specs.declared.running_command.RunningCommand.{RunningCommand}
+use Rattle.bm_worker_threads.specs.declared.process_parts.ProcessParts.{ProcessParts}
 
--- a text where there is one and it may be said, and the end of a command whose texts were told
-abbrev pub ready_with : Bool → List Said → Option CommandEnd → Ready
-ready_with true (said ∷ rest) ended = ready.Text
-ready_with false (said ∷ rest) ended = ready.Nothing
-ready_with may_say [] (Some end) = ready.End
-ready_with may_say [] None = ready.Nothing
+-- what belongs to a process
+abbrev pub is_of : ℕ → ProcessParts → Bool
+is_of process part = part.process == process
 
--- what a command has to tell
-abbrev pub ready_of : Bool → RunningCommand → Ready
-ready_of may_say process = ready_with may_say process.texts.items process.ended
+-- the first of the texts that were kept
+abbrev pub first_of : List Said → Option Said
+first_of [] = None
+first_of (said ∷ rest) = Some said
 
--- the place of the command that is told of; one that runs alone may say a text at any time
-abbrev pub turn_of : Bool → List RunningCommand → Option ℕ
-turn_of may_say running = next_turn (map (ready_of (may_say || nat_lt (length running) 2)) running)
+abbrev pub first_at : Option ProcessParts → Option Said
+first_at (Some part) = first_of part.texts.items
+first_at None = None
 
--- a text or an end
-abbrev pub HasSome : List Said → Option CommandEnd → Type 0
-HasSome (said ∷ rest) ended = ⊤
-HasSome [] (Some end) = ⊤
-HasSome [] None = ⊥
+abbrev pub first_within : List ProcessParts → Option ℕ → Option Said
+first_within parts (Some at) = first_at (slice_get parts at)
+first_within parts None = None
 
--- the command at this place has something to tell
-abbrev pub IsReady : ℕ → List RunningCommand → Type 0
-IsReady at running = (process : RunningCommand) → slice_get running at ≡ Some process → HasSome process.texts.items process.ended
+-- the first text that was kept of a process
+abbrev pub first_text : ℕ → List ProcessParts → Option Said
+first_text process parts = first_within parts (position (is_of process) parts)
 
--- an exit code by which it ended was given by its own pipes
-abbrev pub IsOwn : RunningCommand → Type 0
-IsOwn process = giver process.pipes.command process.ended ≡ process.pipes.command
+-- it waits behind all that waits, as one of this command
+abbrev pub TellsText : ℕ → Option Said → List OutboxEntry → List OutboxEntry → Type 0
+TellsText k (Some said) old new = new ≡ old ++ entry.Text k said ∷ []
+TellsText k None old new = new ≡ old
 
--- this text of a command is told: it waits behind all that waits, and the command, whose other
--- texts are kept, goes behind the others
-abbrev pub TellsText : RunningCommand → Said → List Said → List RunningCommand → List RunningCommand → List OutboxEntry → List OutboxEntry → Type 0
-TellsText process said rest others running old new = (new ≡ old ++ entry.Text process.pipes.command said ∷ [])
-    × ((kept : VecDeque Said Global) × (own : IsOwn process) × (kept.items ≡ rest)
-    × (running ≡ others ++ record process { texts = kept; own = own } ∷ []))
-
--- what is told of a command: its first text; or where none is left its end, and then it runs no
--- more
-abbrev pub TellsOf : RunningCommand → List Said → Option CommandEnd → List RunningCommand → List RunningCommand → List OutboxEntry → List OutboxEntry → Type 0
-TellsOf process (said ∷ rest) ended others running old new = TellsText process said rest others running old new
-TellsOf process [] (Some end) others running old new =
-    Ends process.pipes.command end old new × (running ≡ others)
-TellsOf process [] None others running old new = ⊥
-
--- the command at this place is told of
-abbrev pub TellsAt : ℕ → List RunningCommand → List RunningCommand → List OutboxEntry → List OutboxEntry → Type 0
-TellsAt at old_running running old new = (process : RunningCommand) × (slice_get old_running at ≡ Some process)
-    × TellsOf process process.texts.items process.ended (remove old_running at) running old new
-
--- the command that has the turn is told of, and no other; or none has it, and nothing is told
-abbrev pub TellsTurn : Option ℕ → List RunningCommand → List RunningCommand → List OutboxEntry → List OutboxEntry → Type 0
-TellsTurn (Some at) old_running running old new = TellsAt at old_running running old new
-TellsTurn None old_running running old new = (new ≡ old) × (running ≡ old_running)
+-- what an effect of the machine puts into the outbox
+abbrev pub TellsBy : Effect → List ProcessParts → List OutboxEntry → List OutboxEntry → Type 0
+TellsBy (effect.TellText process k) parts old new = TellsText k (first_text process parts) old new
+TellsBy (effect.TellEnd process k end) parts old new = Ends k end old new
+TellsBy e parts old new = new ≡ old

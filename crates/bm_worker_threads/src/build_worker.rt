@@ -108,7 +108,7 @@ impl<S: Read + Write + Drop, K: MaskKeys + Drop> BuildWorker<S, K> {
         connection: &Connection,
         attached: Attached,
     ) -> ConnectionEnd {
-        if attached != Attached::Resumed && self.processes.kill_all(rt, alloc).is_err() {
+        if attached != Attached::Resumed && self.processes.lose(rt, alloc).is_err() {
             return ConnectionEnd::NoMemory;
         }
         if let Err(end) = self.hear(rt, alloc, arena, connection) {
@@ -141,11 +141,14 @@ impl<S: Read + Write + Drop, K: MaskKeys + Drop> BuildWorker<S, K> {
 
     /// Sends what is next, and answers whether there was anything that can be sent.
     fn send_next<R: Host>(&mut self, rt: &R, alloc: Global) -> Result<bool, ConnectionEnd> {
-        self.processes.look(rt);
+        if self.processes.tick(rt, alloc).is_err() {
+            return Err(ConnectionEnd::NoMemory);
+        }
         if self.session.outbox.is_empty() {
             let may_say = self.session.unanswered_bytes() < MOST_UNANSWERED_BYTES;
             let outbox = &mut self.session.outbox;
-            let next = self.processes.next(rt, alloc, may_say, outbox);
+            let now_ms = self.processes.time.now(rt);
+            let next = self.processes.turn(rt, alloc, now_ms, may_say, outbox);
             if next.is_err() {
                 return Err(ConnectionEnd::NoMemory);
             }

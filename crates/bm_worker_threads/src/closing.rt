@@ -5,6 +5,7 @@ use crate::connection::Connection;
 use crate::host::Host;
 use crate::mailbox::WorkerMail;
 use crate::ready_stream::ReadyStream;
+use bm_commands::Input;
 use bm_link::{Turn, WorkerLink};
 use bumpalo::Bump;
 use std::alloc::Global;
@@ -30,7 +31,8 @@ impl<S: Read + Write + Drop, K: MaskKeys + Drop> BuildWorker<S, K> {
         arena: &mut Bump,
         connection: &Connection,
     ) {
-        self.processes.sweep_all(rt, alloc);
+        // Only a kill of one process wants memory.
+        let _ = self.processes.put(rt, alloc, Input::Ends);
         let Some(deadline) = after(rt, LAST_ANSWERS_SECONDS) else {
             return;
         };

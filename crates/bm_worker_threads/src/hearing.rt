@@ -5,8 +5,9 @@ use crate::connection::{Connection, ConnectionEnd};
 use crate::host::Host;
 use crate::mailbox::WorkerMail;
 use crate::processes::MOST_MAIL;
+use bm_commands::Input;
 use bm_link::Turn;
-use bm_outbox::{Keepalive, StopCause};
+use bm_outbox::Keepalive;
 use bm_work::WorkAct;
 use bumpalo::Bump;
 use std::alloc::Global;
@@ -100,8 +101,7 @@ impl<S: Read + Write + Drop, K: MaskKeys + Drop> BuildWorker<S, K> {
                 self.processes.run(rt, alloc, command, &argv, outbox)
             }
             WorkAct::Interrupt(command) => {
-                self.processes
-                    .stop(rt, alloc, command, StopCause::Interrupted)
+                self.processes.put(rt, alloc, Input::Interrupt(command))
             }
             WorkAct::Shutdown => return Err(ConnectionEnd::Shutdown),
             _ => Ok(()),

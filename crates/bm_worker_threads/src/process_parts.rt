@@ -1,0 +1,53 @@
+//! What belongs to a process of the worker, under its number.
+
+ghost use Rattle.std.specs.Prelude.{◌≡◌, position};
+ghost use Rattle.bm_worker_threads.specs.Turns.{is_of};
+
+use crate::sweeping::Sweeper;
+use bm_commands::{ChildState, Seen};
+use bm_outbox::{Said, Sweep};
+use crossbeam_channel::Sender;
+use std::collections::VecDeque;
+use std::process::Child;
+
+/// What belongs to a process of the worker. Where its command stands says its row of the machine.
+#[derive(Drop)]
+pub(crate) struct ProcessParts {
+    pub(crate) process: u64,
+    pub(crate) child: Child,
+    /// What its pipes gave and isn't told yet.
+    pub(crate) texts: VecDeque<Said>,
+    /// Each of these permits one more text. Without them its pipes' threads end.
+    pub(crate) permits: Sender<()>,
+    /// The sweep of what it started, once that was begun.
+    pub(crate) sweeper: Option<Sweeper>,
+}
+
+impl ProcessParts {
+    /// What a look shows of it. A process that can't be asked has ended.
+    pub(crate) fn look(&mut self) -> Seen {
+        let sweep = match &mut self.sweeper {
+            Some(sweeper) => sweeper.look(),
+            None => Sweep::Going,
+        };
+        let child = match self.child.try_wait() {
+            Ok(None) => ChildState::Runs,
+            Ok(Some(status)) => ChildState::Ended(status.code()),
+            Err(_) => ChildState::Ended(None),
+        };
+        Seen { child, sweep }
+    }
+}
+
+/// The place of what belongs to a process.
+pub(crate) fn place_of(parts: &[ProcessParts], process: u64) -> Option<usize>
+    ensures { result ≡ position (is_of process) parts.now }
+{
+    parts.iter().position(|part| is_of(process, part))
+}
+
+fn is_of(process: u64, part: &ProcessParts) -> bool
+    ensures { result ≡ is_of process part.now }
+{
+    part.process == process
+}
