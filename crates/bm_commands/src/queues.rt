@@ -82,7 +82,12 @@ impl CommandQueues {
             }
             Input::Interrupt(command) => {
                 let at = place_of_command(self.rows.as_slice(), command);
-                change(self.rows.as_mut_slice(), at, self.now_ms, ProcessInput::Interrupted)
+                change(
+                    self.rows.as_mut_slice(),
+                    at,
+                    self.now_ms,
+                    ProcessInput::Interrupted,
+                )
             }
             Input::SessionLost => {
                 lose_all(self.rows.as_mut_slice());

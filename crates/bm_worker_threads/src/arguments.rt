@@ -22,8 +22,8 @@ pub struct Arguments<'a> {
     pub password: &'a str,
 }
 
-/// The words of the command line, of which the first is the program's name. Where one isn't UTF-8
-/// there are none, and so they ask for nothing.
+/// The words of the command line, of which the first is the program's name. None of them where one
+/// isn't UTF-8: then they ask for nothing.
 pub fn words<R: Env + AllocGlobal>(rt: &R) -> Result<Vec<String>, AllocError> {
     match env::args(rt) {
         Ok(words) => words.collect(rt.alloc()),
@@ -51,7 +51,7 @@ pub fn read_arguments(words: &[String]) -> Option<Arguments<'_>>
     Some(arguments)
 }
 
-/// Whether a port stands behind the last colon.
+/// Whether the text ends with a colon and a port. What stands before the colon isn't looked at.
 fn is_address(address: &str) -> bool {
     match address.rsplit_once(':') {
         Some((_, port)) => is_port(port),
@@ -67,7 +67,7 @@ fn is_port(text: &str) -> bool {
     }
 }
 
-/// Whether a login can have both.
+/// Whether name and password fit into a login together.
 fn is_login(name: &str, password: &str) -> bool
     ensures { IsTrue result ↔ AreShort (name.now ∷ password.now ∷ []) }
 {

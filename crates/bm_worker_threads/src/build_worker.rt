@@ -17,8 +17,8 @@ use std::io::{Read, Write};
 use std::random::RandomSource;
 use tungstenite::MaskKeys;
 
-/// How many bytes without an answer there are before texts wait, where several commands run. What
-/// is told of one stands behind what was told of the others. Ends don't wait for this.
+/// Above so many unanswered bytes texts wait where several commands run: a text of one command
+/// would stand behind too many of the others. Ends don't wait for this.
 const MOST_UNANSWERED_BYTES: usize = 262_144;
 
 /// All that outlives a connection: the session, and the processes of its commands.
@@ -49,9 +49,9 @@ impl<S: Read + Write + Drop, K: MaskKeys + Drop> BuildWorker<S, K> {
     ///
     /// # Errors
     ///
-    /// Those of the session's `connect`. `Mem` also where no text of a next session could be drawn:
-    /// without one no login is made once one was answered. By such a login a worker that misses the
-    /// answer could resume a session that it never heard of, and hang.
+    /// Those of the session's `connect`. `Mem` also where no text for a next session could be
+    /// drawn. Once a login was answered, none is made without such a text. A worker that misses the
+    /// answer to it could resume a session that it never heard of, and hang.
     pub fn log_in<R: RandomSource + AllocGlobal>(
         &mut self,
         rt: &R,
@@ -123,7 +123,7 @@ impl<S: Read + Write + Drop, K: MaskKeys + Drop> BuildWorker<S, K> {
     }
 
     /// Sends what is next, or else waits for mail; and takes all mail that lies ready. So answers
-    /// count although the connection should not last until all is sent again.
+    /// count also on a connection that ends before all is sent again.
     fn step<R: Host>(
         &mut self,
         rt: &R,

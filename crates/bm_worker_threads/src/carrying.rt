@@ -141,12 +141,7 @@ impl Processes {
     }
 
     /// Kills a process, and begins the sweep of what it started.
-    fn kill<R: Host>(
-        &mut self,
-        rt: &R,
-        alloc: Global,
-        process: u64,
-    ) -> Result<(), AllocError> {
+    fn kill<R: Host>(&mut self, rt: &R, alloc: Global, process: u64) -> Result<(), AllocError> {
         let Some(at) = place_of(self.parts.as_slice(), process) else {
             return Ok(());
         };
@@ -166,7 +161,8 @@ impl Processes {
         self.last_sweeper = Some(Sweeper::kill(rt, alloc, self.marks.of_worker()));
     }
 
-    /// Ends all that the worker's commands started, and waits for that for some seconds at the most.
+    /// Ends all that the worker's commands started, and waits for that for some seconds at the
+    /// most.
     pub(crate) fn end<R: Host>(&mut self, rt: &R, alloc: Global) {
         // Only a kill of one process wants memory.
         let _ = self.put(rt, alloc, Input::Ends);

@@ -75,7 +75,7 @@ impl<S: Read + Write + Drop, K: MaskKeys + Drop> BuildWorker<S, K> {
     }
 }
 
-/// So many seconds from now on. None where the clock fails.
+/// The moment so many seconds from now. None where the clock fails.
 fn after<R: Clock>(rt: &R, seconds: u64) -> Option<Instant> {
     let now = Instant::now(rt).ok()?;
     now.checked_add(Duration::from_secs(seconds))
@@ -95,7 +95,7 @@ where
     read_to_end(rt, link.get_ref().get_ref());
 }
 
-/// How long it is until then: nothing where that is over, or the clock fails.
+/// The time from now to the deadline: zero once it has passed, or where the clock fails.
 fn left_until<R: Clock>(rt: &R, deadline: Instant) -> Duration {
     match Instant::now(rt) {
         Ok(now) => deadline.saturating_duration_since(now),

@@ -5,8 +5,8 @@ use std::alloc::Global;
 use std::sync::atomic::{AtomicU64, Ordering};
 use std::sync::{Arc, Wait};
 
-/// How a connection ended. It has no `thiserror`: it decides what the worker does next, and a text
-/// would be read by nobody.
+/// How a connection ended. It has no `thiserror`: it decides what the worker does next, and nobody
+/// would read its text.
 #[derive(Clone, Copy, PartialEq, Eq)]
 pub enum ConnectionEnd {
     /// The master asked for the end of the worker.
@@ -31,12 +31,12 @@ pub struct Connection {
 }
 
 impl Connection {
-    /// Sets how many reads are left.
+    /// Sets how many reads of the stream won't wait.
     pub fn allow_reads(&self, count: u64) {
         self.reads.store(count, Ordering::SeqCst);
     }
 
-    /// Has the connection's thread look for more to read; or answers that it has ended.
+    /// Has the connection's thread look for more to read. False where that thread has ended.
     pub fn ask<R: Wait>(&self, rt: &R) -> bool {
         self.asks.send(rt, ()).is_ok()
     }

@@ -2,7 +2,8 @@
 
 use std::time::{Clock, Duration, Instant};
 
-/// How many milliseconds have passed since then. Where the clock fails, every limit has.
+/// The milliseconds since then. `u64::MAX` where the clock fails, so that every limit counts as
+/// passed.
 pub(crate) fn millis_since<R: Clock>(rt: &R, begun: Option<Instant>) -> u64 {
     let Some(begun) = begun else {
         return u64::MAX;
@@ -13,7 +14,7 @@ pub(crate) fn millis_since<R: Clock>(rt: &R, begun: Option<Instant>) -> u64 {
     }
 }
 
-/// The milliseconds of a time.
+/// The whole milliseconds of a time, at most `u64::MAX`.
 pub(crate) fn whole_millis(time: Duration) -> u64 {
     let millis = time.as_secs().saturating_mul(1_000);
     millis.saturating_add(u64::from(time.subsec_millis()))

@@ -32,7 +32,7 @@ impl<S: Read + Write + Drop, K: MaskKeys + Drop> BuildWorker<S, K> {
         Ok(())
     }
 
-    /// Takes mail. That of an earlier connection, which has ended, is passed over.
+    /// Takes mail. Mail of an earlier connection is passed over.
     pub(crate) fn take<R: Host>(
         &mut self,
         rt: &R,
@@ -86,14 +86,13 @@ impl<S: Read + Write + Drop, K: MaskKeys + Drop> BuildWorker<S, K> {
         }
     }
 
-    /// A message that was heard begins the tries to connect anew.
+    /// A message begins the count of tries to connect afresh.
     fn counts(&mut self, turn: Turn) {
         if turn == Turn::Heard || turn == Turn::Noted {
             self.tries.heard();
         }
     }
 
-    /// Does what the master asks.
     fn does<R: Host>(&mut self, rt: &R, alloc: Global, act: WorkAct) -> Result<(), ConnectionEnd> {
         let outbox = &mut self.session.outbox;
         let done = match act {
@@ -112,7 +111,7 @@ impl<S: Read + Write + Drop, K: MaskKeys + Drop> BuildWorker<S, K> {
         }
     }
 
-    /// Does what is to be done about a silent master.
+    /// Pings a silent master, or counts the connection as lost.
     fn keep_alive(&mut self, next: Keepalive) -> Result<(), ConnectionEnd> {
         let is_kept = match next {
             Keepalive::Wait => true,

@@ -1,5 +1,5 @@
-//! What a build worker does around its session: the processes of its commands, and a thread for
-//! each of their pipes and for its connection. One mailbox tells it of all of them.
+//! What a build worker does around its session: processes of commands, and a thread for each of
+//! their pipes and for its connection. One mailbox tells it of all of them.
 //!
 //! What is decided of commands is `bm_commands`: here its effects are carried out, and what is told
 //! is put into the session's outbox, which `bm_worker_session` sends. Promised: what the machine

@@ -20,8 +20,8 @@ pub struct ProcessEvent {
     pub event: PipeEvent,
 }
 
-/// What the worker's one mailbox brings. Timed reads between two looks at the commands would delay
-/// lines, and wake an idle worker.
+/// What the worker's one mailbox brings. Were the socket read for a while at a time instead, lines
+/// would wait for that while, and an idle worker would wake.
 #[derive(Drop)]
 pub enum WorkerMail {
     /// What came of a pipe of a process.

@@ -1,4 +1,5 @@
-//! By what the processes of a worker's commands are known: a variable of their environment.
+//! By what the processes of a worker's commands are known: a variable of their environment. The
+//! toolchain starts no process groups, and few workers may make a control group.
 
 use crate::session::new_session;
 use std::alloc::{AllocError, AllocGlobal, Global};
@@ -55,7 +56,7 @@ impl Marks {
         })
     }
 
-    /// What all marks of this worker begin with.
+    /// What all marks of this worker begin with. By it all that its commands started is found.
     pub(crate) fn of_worker(&self) -> &str {
         self.worker.as_str()
     }
@@ -87,7 +88,6 @@ impl Marks {
     }
 }
 
-/// The text, or another one where there is none.
 fn text_or<'a>(text: &'a Option<String>, other: &'a str) -> &'a str {
     match text {
         Some(text) => text.as_str(),

@@ -35,7 +35,7 @@ impl PipeReader {
         self.tell(rt, event);
     }
 
-    /// Tells the texts of a pipe, and answers its end; or None where nobody hears them any more.
+    /// Tells the texts of a pipe, and answers its end. None where nobody hears them any more.
     fn tell_all<R: Wait, P: Read + Drop>(
         &self,
         rt: &R,
@@ -67,12 +67,12 @@ impl PipeReader {
         Ok(Some(end))
     }
 
-    /// Tells a text, once it may; or answers that nobody hears it any more.
+    /// Waits for a permit, and tells the text. False where nobody hears it any more.
     fn tell_text<R: Wait>(&self, rt: &R, said: Said) -> bool {
         self.permits.recv(rt).is_ok() && self.tell(rt, PipeEvent::Text(said))
     }
 
-    /// Tells what came of the pipe; or answers that nobody hears it any more.
+    /// False where nobody hears it any more.
     fn tell<R: Wait>(&self, rt: &R, event: PipeEvent) -> bool {
         let told = ProcessEvent {
             process: self.process,

@@ -79,8 +79,8 @@ impl Processes {
         self.mailbox.try_recv(rt).ok()
     }
 
-    /// Starts a command. The line of its words is told first, and where the process can't be
-    /// started then why that is.
+    /// Starts a command. The line of its words is told first. Where its process can't be started,
+    /// the reason is told as its end.
     pub fn run<R>(
         &mut self,
         rt: &R,
@@ -174,7 +174,11 @@ impl Processes {
         match told.event {
             PipeEvent::Text(said) => self.keep_text(rt, process, said),
             PipeEvent::End(end) => {
-                self.put(rt, alloc, Input::Process(process, ProcessInput::PipeEnded(end)))
+                self.put(
+                    rt,
+                    alloc,
+                    Input::Process(process, ProcessInput::PipeEnded(end)),
+                )
             }
             PipeEvent::NoMemory => {
                 self.put(rt, alloc, Input::Process(process, ProcessInput::NoMemory))
@@ -183,12 +187,7 @@ impl Processes {
     }
 
     /// Keeps a text until its command's turn, where it is to be told.
-    fn keep_text<R: Clock>(
-        &mut self,
-        rt: &R,
-        process: u64,
-        said: Said,
-    ) -> Result<(), AllocError> {
+    fn keep_text<R: Clock>(&mut self, rt: &R, process: u64, said: Said) -> Result<(), AllocError> {
         let now_ms = self.time.now(rt);
         let input = Input::Process(process, ProcessInput::Text);
         let Effect::Keep = self.queues.step(input, now_ms) else {
@@ -204,7 +203,7 @@ impl Processes {
     }
 }
 
-/// Gives a thread its pipe. False where there is none.
+/// False where there is no pipe, or no thread that takes it.
 fn gives<R: Wait, P: Drop>(rt: &R, thread: &Sender<P>, pipe: Option<P>) -> bool {
     match pipe {
         Some(pipe) => thread.send(rt, pipe).is_ok(),

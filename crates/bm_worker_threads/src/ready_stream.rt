@@ -24,7 +24,7 @@ impl<S> ReadyStream<S> {
         ReadyStream { stream, reads }
     }
 
-    /// The stream itself.
+    /// The stream itself, whatever reads of it are left.
     pub fn get_ref(&self) -> &S {
         &self.stream
     }

@@ -28,7 +28,7 @@ use std::thread::Threads;
 use std::time::{Clock, Duration, Instant};
 use tungstenite::RandomKeys;
 
-/// The most reads of a login.
+/// How many reads a login may take. They may wait, since nothing else is done before its answer.
 const LOGIN_READS: u64 = 1_000;
 
 /// The exit status of a worker whose master ended its work.
@@ -139,9 +139,9 @@ where
     unreachable!()
 }
 
-/// Logs in over a stream, and serves the connection to its end. The connection's thread is there
-/// before the login, so that a worker without it is given no builds. The worker began then, where its
-/// clock could say it.
+/// Logs in over a stream, and serves the connection to its end. The connection's thread is started
+/// before the login, so that a worker that can't start it is given no builds. `began` is when the
+/// worker did, where its clock could say it.
 fn connected<S, R>(
     rt: &R,
     alloc: Global,
@@ -160,7 +160,7 @@ where
         return ConnectionEnd::Lost;
     };
     let handle = *rt;
-    // It ends once the stream is shut down and nobody can ask it any more.
+    // This thread ends once the stream is shut down and nobody can ask it any more.
     if thread::spawn(rt, move || watch.run(&handle)).is_err() {
         return ConnectionEnd::Lost;
     }

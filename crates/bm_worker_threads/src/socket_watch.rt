@@ -8,10 +8,10 @@ use std::net::OpenStream;
 use std::sync::Wait;
 use std::time::{Clock, Instant};
 
-/// A connection's thread: it reads nothing, and tells whenever a read of the stream won't wait.
-/// Each time its stream's own limit for a read has passed, it looks how long the silence lasts. One
-/// that reads would need buffers with bounds. So the kernel's buffer is the bound, and the link's
-/// own reads find every end.
+/// A connection's thread. It tells whenever a read of the stream won't wait, and reads nothing
+/// itself: it would need buffers with bounds. So the kernel's buffer is the bound, and the link's
+/// own reads find every end. Each time its stream's own limit for a read has passed, it looks how
+/// long the silence lasts.
 #[derive(Drop)]
 pub struct SocketWatch<S> {
     pub connection: u64,
@@ -58,7 +58,7 @@ impl<S: OpenStream + Drop> SocketWatch<S> {
         unreachable!()
     }
 
-    /// Tells its owner; or answers that nobody hears it.
+    /// False where nobody hears it.
     fn tell<R: Wait>(&self, rt: &R, mail: WorkerMail) -> bool {
         self.owner.send(rt, mail).is_ok()
     }
@@ -77,7 +77,7 @@ fn is_silent<S: OpenStream>(stream: &S) -> bool {
     }
 }
 
-/// How many seconds have passed since then, none where the clock fails.
+/// Whole seconds since then; 0 where the clock fails.
 fn seconds_since<R: Clock>(rt: &R, begun: Option<Instant>) -> u64 {
     match begun {
         Some(begun) => match begun.elapsed(rt) {

@@ -8,8 +8,8 @@ use std::thread::JoinHandle;
 /// How many threads a command needs: one for each of its pipes.
 const PIPES: usize = 2;
 
-/// Whether the threads of a command can be started. So many are started at once, and end again. A
-/// worker that can't start them is to take no builds, since each would end at its first step.
+/// Whether the threads of a command can be started: as many are started at once, and end again. A
+/// worker that can't start them must not take builds, since each would end at its first step.
 pub(crate) fn has_threads<R: Host>(rt: &R, alloc: Global) -> bool {
     match spare_threads(rt, alloc) {
         Ok(count) => count == PIPES,

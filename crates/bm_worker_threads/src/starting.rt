@@ -17,14 +17,14 @@ use std::time::Duration;
 /// How many texts of a command wait to be told before its pipes' threads wait in turn.
 const MOST_TEXTS: usize = 8;
 
-/// How often the start of a process or a thread is tried. A worker whose machine is short of them
-/// for a moment so loses no command.
+/// How often the start of a process or a thread is tried. So a machine that is short of them for a
+/// moment costs no command.
 pub(crate) const MOST_TRIES: u32 = 20;
 
 /// How long lies between two tries. All that the worker does waits for them.
 pub(crate) const PAUSE_MS: u64 = 10;
 
-/// Whether it may start a moment later: what is wanting may come back.
+/// Whether a later try may succeed.
 fn may_pass(why: StartFault) -> bool
     ensures { result ≡ may_pass why }
 {
@@ -46,8 +46,8 @@ pub(crate) fn permits<R: Wait>(
     Ok((permits, given))
 }
 
-/// The process of these words, as [`started_once`] has it. Where what is wanting may come back it is
-/// tried again.
+/// The process of these words, as [`started_once`] has it. Where what is wanting may come back it
+/// is tried again.
 pub(crate) fn started<R>(
     rt: &R,
     alloc: Global,
