@@ -1,17 +1,19 @@
 //! What the machine of the commands asks of the worker's first thread is carried out here.
 
-ghost use Rattle.std.specs.Prelude.{◌≡◌, OnOk};
+ghost use Rattle.std.specs.Prelude.{◌≡◌, ◌++◌, OnOk, position};
 ghost use Rattle.bm_commands.specs.Queues.{IsOwn, stepped};
 ghost use Rattle.bm_commands.specs.declared.values.Input.TheVariants.{Turn};
-ghost use Rattle.bm_worker_threads.specs.Turns.{TellsBy, TellsText, first_text};
+ghost use Rattle.bm_outbox.specs.Opening.{waiting_texts};
+ghost use Rattle.bm_worker_threads.specs.Turns.{KeepsBy, TakesText, TellsBy, TellsText, first_text, is_of, part_of, without};
 
 use crate::host::Host;
-use crate::process_parts::place_of;
+use crate::process_parts::{ProcessParts, place_of};
 use crate::processes::Processes;
 use crate::sweeping::Sweeper;
 use bm_commands::{ChildState, Effect, Input, ProcessInput, Seen};
 use bm_outbox::{Outbox, OutboxEntry, Said, Sweep};
 use std::alloc::{AllocError, Global};
+use std::collections::VecDeque;
 use std::mem;
 use std::sync::Wait;
 use std::time::Clock;
@@ -55,7 +57,7 @@ impl Processes {
                     let told = ProcessInput::Looked(self.look(process));
                     let _ = self.queues.step(Input::Process(process, told), now_ms);
                 }
-                Effect::Forget(process) => self.forget(process),
+                Effect::Forget(process) => drop(self.take_part(process)),
                 _ => return Ok(()),
             }
         }
@@ -72,15 +74,17 @@ impl Processes {
         may_say: bool,
         outbox: &mut Outbox,
     ) -> Result<(), AllocError>
-        ensures { OnOk result (TellsBy (stepped self.old.queues now_ms (Turn may_say)).1
+        ensures told { OnOk result (TellsBy (stepped self.old.queues now_ms (Turn may_say)).1
             self.old.parts.items outbox.old outbox.new) }
+        ensures kept { KeepsBy (stepped self.old.queues now_ms (Turn may_say)).1
+            self.old.parts.items self.new.parts.items }
     {
         let effect = self.queues.step(Input::Turn(may_say), now_ms);
         self.tell(rt, alloc, effect, outbox)
     }
 
-    /// Puts into the outbox what this tells: the end of a command, or the first text that was kept
-    /// of one.
+    /// Puts into the outbox what this tells: the first text that was kept of a command, or its end.
+    /// No end is told before a text that was kept, whatever the machine counted.
     fn tell<R: Wait>(
         &mut self,
         rt: &R,
@@ -89,7 +93,8 @@ impl Processes {
         outbox: &mut Outbox,
     ) -> Result<(), AllocError>
         requires { IsOwn effect }
-        ensures { OnOk result (TellsBy effect self.old.parts.items outbox.old outbox.new) }
+        ensures told { OnOk result (TellsBy effect self.old.parts.items outbox.old outbox.new) }
+        ensures kept { KeepsBy effect self.old.parts.items self.new.parts.items }
     {
         match effect {
             Effect::TellText(process, command) => {
@@ -97,7 +102,9 @@ impl Processes {
                 push_text(command, said, outbox)
             }
             Effect::TellEnd(process, command, end) => {
-                self.forget(process);
+                if let Some(part) = self.take_part(process) {
+                    push_texts(command, part.texts, outbox)?;
+                }
                 outbox.end(alloc, command, end)
             }
             _ => Ok(()),
@@ -106,7 +113,9 @@ impl Processes {
 
     /// The first text that was kept of a process, whose pipes are permitted another one.
     fn take_text<R: Wait>(&mut self, rt: &R, process: u64) -> Option<Said>
-        ensures { result ≡ first_text process self.old.parts.items }
+        ensures first { result ≡ first_text process self.old.parts.items }
+        ensures kept { TakesText (position (is_of process) self.old.parts.items)
+            self.old.parts.items self.new.parts.items }
     {
         match place_of(self.parts.as_slice(), process) {
             Some(at) if at < self.parts.len() => {
@@ -133,11 +142,13 @@ impl Processes {
         }
     }
 
-    /// Drops all that belongs to a process.
-    fn forget(&mut self, process: u64) {
-        if let Some(at) = place_of(self.parts.as_slice(), process) {
-            let _ = self.parts.remove(at);
-        }
+    /// Takes out what belongs to a process.
+    fn take_part(&mut self, process: u64) -> Option<ProcessParts>
+        ensures part { result ≡ part_of process self.old.parts.items }
+        ensures kept { self.new.parts.items ≡ without process self.old.parts.items }
+    {
+        let at = place_of(self.parts.as_slice(), process)?;
+        Some(self.parts.remove(at))
     }
 
     /// Kills a process, and begins the sweep of what it started.
@@ -180,4 +191,18 @@ fn push_text(command: u64, said: Option<Said>, outbox: &mut Outbox) -> Result<()
         Some(said) => outbox.push(OutboxEntry::Text { command, said }),
         None => Ok(()),
     }
+}
+
+/// Puts texts of a command behind what waits.
+fn push_texts(
+    command: u64,
+    texts: VecDeque<Said>,
+    outbox: &mut Outbox,
+) -> Result<(), AllocError>
+    ensures { OnOk result (outbox.new ≡ outbox.old ++ waiting_texts command texts.items) }
+{
+    for said in texts {
+        outbox.push(OutboxEntry::Text { command, said })?;
+    }
+    Ok(())
 }
