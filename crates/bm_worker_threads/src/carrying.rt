@@ -194,11 +194,7 @@ fn push_text(command: u64, said: Option<Said>, outbox: &mut Outbox) -> Result<()
 }
 
 /// Puts texts of a command behind what waits.
-fn push_texts(
-    command: u64,
-    texts: VecDeque<Said>,
-    outbox: &mut Outbox,
-) -> Result<(), AllocError>
+fn push_texts(command: u64, texts: VecDeque<Said>, outbox: &mut Outbox) -> Result<(), AllocError>
     ensures { OnOk result (outbox.new ≡ outbox.old ++ waiting_texts command texts.items) }
 {
     for said in texts {

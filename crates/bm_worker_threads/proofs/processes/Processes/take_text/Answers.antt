@@ -1,4 +1,4 @@
-use Rattle.std.proofs.Common.{◌≡◌, ◌∙◌, sym, subst, refl, position, length, Some}
+use Rattle.std.proofs.Common.{rules, arith, ◌≡◌, ◌∙◌, sym, subst, refl, position, length, Some}
 use Rattle.std.proofs.lemmas.Option.{slice_get_read}
 use Rattle.bm_worker_threads.specs.Turns.{is_of}
 use Rattle.bm_worker_threads.proofs.processes.Processes.take_text.Goals as goal
