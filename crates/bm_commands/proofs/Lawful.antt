@@ -8,9 +8,9 @@ use Rattle.bm_commands.specs.declared.values.ProcessInput.TheVariants as told
 use Rattle.bm_commands.specs.declared.values.Input.TheVariants as input
 use Rattle.bm_commands.specs.declared.values.Effect.{Effect}
 use Rattle.bm_commands.specs.declared.values.Effect.TheVariants as effect
-use Rattle.bm_commands.specs.declared.values.Phase.{Phase}
-use Rattle.bm_commands.specs.declared.values.Phase.TheVariants as phase
-use Rattle.bm_commands.specs.declared.values.Row.{Row}
+use Rattle.bm_commands.specs.declared.values.CommandPhase.{CommandPhase}
+use Rattle.bm_commands.specs.declared.values.CommandPhase.TheVariants as phase
+use Rattle.bm_commands.specs.declared.values.CommandRow.{CommandRow}
 use Rattle.bm_commands.specs.declared.values.ProcessInput.{ProcessInput}
 use Rattle.bm_commands.specs.Rows.{cell, end_effect_in, interrupted_in, is_command, is_told, lost, phase_is_told}
 use Rattle.bm_commands.specs.Queues.{QueuesView, changed, changed_to, fresh_queues, stepped}
@@ -18,7 +18,7 @@ use Rattle.bm_commands.specs.Laws.{EndsOnce, Event, InterruptedGiveNoCode, LostA
 use Rattle.bm_commands.proofs.Counted.{IsFree, Weight, falls-cell, may, paid-moved, paid-run, shown-moved, weight, weigh, weigh-set}
 
 -- whatever has a row may be told of
-abbrev all : Phase → ℕ
+abbrev all : CommandPhase → ℕ
 all p = 1
 
 all-weight : Weight all
@@ -34,7 +34,7 @@ all-weight = record {
 }
 
 -- the row of a process stays that of this process
-pub process_after : (now : ℕ) (r : Row) (i : ProcessInput) → (cell now r i).0.process ≡ r.process
+pub process_after : (now : ℕ) (r : CommandRow) (i : ProcessInput) → (cell now r i).0.process ≡ r.process
 process_after now r i = (falls-cell all all-weight now r i).0
 
 ends-free : (p : ℕ) → IsFree (ends_in p)
@@ -49,11 +49,11 @@ codes-free p = record { nothing = refl; keep = refl; kill = λ k. refl; look = �
 told-free : (p : ℕ) → IsFree (told_in p)
 told-free p = record { nothing = refl; keep = refl; kill = λ k. refl; look = λ k. refl; forget = λ k. refl; sweep = refl }
 
-end-in : (p : ℕ) (q : Phase) (r : Row) → ends_in p (end_effect_in q r) ≤ cond (r.process == p) 1 0
+end-in : (p : ℕ) (q : CommandPhase) (r : CommandRow) → ends_in p (end_effect_in q r) ≤ cond (r.process == p) 1 0
 end-in p (phase.Over end) r = omega arith
 end-in p q r = omega arith
 
-no-text-in : (p : ℕ) (q : Phase) (r : Row) → texts_in p (end_effect_in q r) ≡ 0
+no-text-in : (p : ℕ) (q : CommandPhase) (r : CommandRow) → texts_in p (end_effect_in q r) ≡ 0
 no-text-in p (phase.Over end) r = refl
 no-text-in p q r = refl
 
@@ -84,13 +84,13 @@ silent_behind_end es more p h =
     silent-run p (after fresh_queues es) more (let run = ends-run p fresh_queues es in omega (arith, run, started-once p, h))
 
 -- a command that ends by itself may give an exit code
-abbrev coded : Phase → ℕ
+abbrev coded : CommandPhase → ℕ
 coded phase.Runs = 1
 coded (phase.Over (command_end.Code c)) = 1
 coded (phase.Over (command_end.Held c)) = 1
 coded p = 0
 
-coded-small : (b : Phase) → coded b ≤ 1
+coded-small : (b : CommandPhase) → coded b ≤ 1
 coded-small phase.Runs = omega arith
 coded-small (phase.Over (command_end.Code c)) = omega arith
 coded-small (phase.Over (command_end.Held c)) = omega arith
@@ -112,7 +112,7 @@ both-tests : (b c : Bool) → cond (b && c) 1 0 ≤ cond b (cond c 1 0) 0
 both-tests true c = omega arith
 both-tests false c = omega arith
 
-code-in : (p : ℕ) (q : Phase) (r : Row) → codes_in p (end_effect_in q r) ≤ cond (r.process == p) (coded q) 0
+code-in : (p : ℕ) (q : CommandPhase) (r : CommandRow) → codes_in p (end_effect_in q r) ≤ cond (r.process == p) (coded q) 0
 code-in p (phase.Over (command_end.Code c)) r = both-tests (r.process == p) true
 code-in p (phase.Over (command_end.Held c)) r = both-tests (r.process == p) true
 code-in p (phase.Over (command_end.Stopped why left)) r = both-tests (r.process == p) false
@@ -131,17 +131,17 @@ takes-all true = omega arith
 takes-all false = omega arith
 
 -- an interrupt that kills takes the weight of its row
-killing : (p : ℕ) (q : Phase) (now : ℕ) (r : Row) → r.phase ≡ q → kills_in p (interrupted_in q now r).1 + weight coded coded-weight p (interrupted_in q now r).0 ≤ weight coded coded-weight p r
+killing : (p : ℕ) (q : CommandPhase) (now : ℕ) (r : CommandRow) → r.phase ≡ q → kills_in p (interrupted_in q now r).1 + weight coded coded-weight p (interrupted_in q now r).0 ≤ weight coded coded-weight p r
 killing p phase.Runs now r e = subst (λ x. cond (r.process == p) 1 0 + cond (r.process == p) 0 0 ≤ cond (r.process == p) (coded x) 0) (sym e) (takes-all (r.process == p))
 killing p (phase.Over (command_end.Code c)) now r e = subst (λ x. cond (r.process == p) 1 0 + cond (r.process == p) 0 0 ≤ cond (r.process == p) (coded x) 0) (sym e) (takes-all (r.process == p))
 killing p (phase.Over (command_end.Held c)) now r e = subst (λ x. cond (r.process == p) 1 0 + cond (r.process == p) 0 0 ≤ cond (r.process == p) (coded x) 0) (sym e) (takes-all (r.process == p))
 killing p q now r e = omega arith
 
-killing-to : (p now : ℕ) (rows : List Row) (at : ℕ) (o : Option Row) → slice_get rows at ≡ o → kills_in p (changed_to now told.Interrupted rows at o).1 + weigh coded coded-weight p (changed_to now told.Interrupted rows at o).0 ≤ weigh coded coded-weight p rows
+killing-to : (p now : ℕ) (rows : List CommandRow) (at : ℕ) (o : Option CommandRow) → slice_get rows at ≡ o → kills_in p (changed_to now told.Interrupted rows at o).1 + weigh coded coded-weight p (changed_to now told.Interrupted rows at o).0 ≤ weigh coded coded-weight p rows
 killing-to p now rows at (Some r) e = omega (arith, weigh-set coded coded-weight p rows at r (interrupted_in r.phase now r).0 e, killing p r.phase now r refl)
 killing-to p now rows at None e = omega arith
 
-killing-at : (p now : ℕ) (rows : List Row) (o : Option ℕ) → kills_in p (changed now told.Interrupted rows o).1 + weigh coded coded-weight p (changed now told.Interrupted rows o).0 ≤ weigh coded coded-weight p rows
+killing-at : (p now : ℕ) (rows : List CommandRow) (o : Option ℕ) → kills_in p (changed now told.Interrupted rows o).1 + weigh coded coded-weight p (changed now told.Interrupted rows o).0 ≤ weigh coded coded-weight p rows
 killing-at p now rows (Some at) = killing-to p now rows at (slice_get rows at) refl
 killing-at p now rows None = omega arith
 
@@ -161,7 +161,7 @@ interrupted_give_no_code es more k now p h =
     omega (arith, before, kill, one, then, started-once p)
 
 -- the master is told of a command
-abbrev tellable : Phase → ℕ
+abbrev tellable : CommandPhase → ℕ
 tellable p = cond (phase_is_told p) 1 0
 
 told-weight : Weight tellable
@@ -176,7 +176,7 @@ told-weight = record {
   owed = λ b. omega arith;
 }
 
-told-in : (p : ℕ) (q : Phase) (r : Row) → told_in p (end_effect_in q r) ≤ cond (r.process == p) (tellable q) 0
+told-in : (p : ℕ) (q : CommandPhase) (r : CommandRow) → told_in p (end_effect_in q r) ≤ cond (r.process == p) (tellable q) 0
 told-in p (phase.Over end) r = omega arith
 told-in p q r = omega arith
 
@@ -184,7 +184,7 @@ text-in : (b c x : Bool) → (b && c) ≡ true → cond x 1 0 ≤ cond x (cond b
 text-in true c x h = omega arith
 text-in false c x h = absurd (grind arith)
 
-ends-told-in : (p : ℕ) (q : Phase) (r : Row) → ends_in p (end_effect_in q r) ≤ cond (r.process == p) (tellable q) 0
+ends-told-in : (p : ℕ) (q : CommandPhase) (r : CommandRow) → ends_in p (end_effect_in q r) ≤ cond (r.process == p) (tellable q) 0
 ends-told-in p (phase.Over end) r = omega arith
 ends-told-in p q r = omega arith
 
@@ -200,7 +200,7 @@ abbrev told-weighs : Bool → Bool → ℕ
 told-weighs b t = cond b (cond t 1 0) 0
 
 -- of a row that was lost nothing is told
-lost-row : (p : ℕ) (r : Row) → weight tellable told-weight p (lost r) ≡ 0
+lost-row : (p : ℕ) (r : CommandRow) → weight tellable told-weight p (lost r) ≡ 0
 lost-row p r = go (is_told r) refl
   where
     none : (b : Bool) → ◌≡◌ {A = ℕ} (cond b 0 0) 0
@@ -211,7 +211,7 @@ lost-row p r = go (is_told r) refl
     go true e = none (r.process == p)
     go false e = ap (told-weighs (r.process == p)) e ∙ none (r.process == p)
 
-lost-rows : (p : ℕ) (rows : List Row) → weigh tellable told-weight p (map lost rows) ≡ 0
+lost-rows : (p : ℕ) (rows : List CommandRow) → weigh tellable told-weight p (map lost rows) ≡ 0
 lost-rows p [] = refl
 lost-rows p (r ∷ rs) = sum_by-cons (weight tellable told-weight p) (lost r) (map lost rs) ∙ omega (arith, lost-row p r, lost-rows p rs)
 

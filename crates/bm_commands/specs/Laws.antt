@@ -6,7 +6,7 @@ use Rattle.bm_commands.specs.declared.values.Input.{Input}
 use Rattle.bm_commands.specs.declared.values.Input.TheVariants as input
 use Rattle.bm_commands.specs.declared.values.Effect.{Effect}
 use Rattle.bm_commands.specs.declared.values.Effect.TheVariants as effect
-use Rattle.bm_commands.specs.declared.values.Row.{Row}
+use Rattle.bm_commands.specs.declared.values.CommandRow.{CommandRow}
 use Rattle.bm_commands.specs.Rows.{has_text}
 use Rattle.bm_commands.specs.Queues.{QueuesView, admitted, fresh_queues, stepped, wake}
 
@@ -79,11 +79,11 @@ LostAreSilent =
     → total (told_in p) (effects (stepped (after fresh_queues es) now input.SessionLost).0 more) ≡ 0
 
 -- how many commands stand before that of a process, and whether that has a text to be told
-abbrev pub place : ℕ → List Row → ℕ
+abbrev pub place : ℕ → List CommandRow → ℕ
 place p [] = 0
 place p (r ∷ rs) = if r.process == p then 0 else 1 + place p rs
 
-abbrev pub waits : ℕ → List Row → Bool
+abbrev pub waits : ℕ → List CommandRow → Bool
 waits p [] = false
 waits p (r ∷ rs) = if r.process == p then has_text r else waits p rs
 

@@ -7,13 +7,13 @@ use Rattle.bm_commands.specs.declared.values.Input.{Input}
 use Rattle.bm_commands.specs.declared.values.Input.TheVariants as input
 use Rattle.bm_commands.specs.declared.values.Effect.{Effect}
 use Rattle.bm_commands.specs.declared.values.Effect.TheVariants as effect
-use Rattle.bm_commands.specs.declared.values.Row.{Row}
+use Rattle.bm_commands.specs.declared.values.CommandRow.{CommandRow}
 use Rattle.bm_commands.specs.Rows.{cell, end_effect, fresh_row, has_end, has_text, is_command, is_due, is_gone, is_lost, is_other, is_process, killed, lost, row_wake}
 
 -- the commands in the order of their turns, how many processes were started, the latest time that
 -- was handed in, and whether the worker ends
 pub record QueuesView : Type 0 where
-  pub rows : List Row
+  pub rows : List CommandRow
   pub started : ℕ
   pub now_ms : ℕ
   pub is_ending : Bool
@@ -23,62 +23,62 @@ fresh_queues = record { rows = []; started = 0; now_ms = 0; is_ending = false }
 
 -- the rows, and what is to be done
 abbrev pub Acted : Type 0
-Acted = List Row × Effect
+Acted = List CommandRow × Effect
 
 -- the row at this place is changed
-abbrev pub changed_to : ℕ → ProcessInput → List Row → ℕ → Option Row → Acted
+abbrev pub changed_to : ℕ → ProcessInput → List CommandRow → ℕ → Option CommandRow → Acted
 changed_to now i rows at (Some r) = (slice_set rows at (cell now r i).0, (cell now r i).1)
 changed_to now i rows at None = (rows, effect.Nothing)
 
-abbrev pub changed : ℕ → ProcessInput → List Row → Option ℕ → Acted
+abbrev pub changed : ℕ → ProcessInput → List CommandRow → Option ℕ → Acted
 changed now i rows (Some at) = changed_to now i rows at (slice_get rows at)
 changed now i rows None = (rows, effect.Nothing)
 
 -- a lost one is killed
-abbrev pub killed_to : ℕ → List Row → ℕ → Option Row → Acted
+abbrev pub killed_to : ℕ → List CommandRow → ℕ → Option CommandRow → Acted
 killed_to now rows at (Some r) = (slice_set rows at (killed now r), effect.Kill r.process)
 killed_to now rows at None = (rows, effect.Nothing)
 
-abbrev pub killed_at : ℕ → List Row → ℕ → Acted
+abbrev pub killed_at : ℕ → List CommandRow → ℕ → Acted
 killed_at now rows at = killed_to now rows at (slice_get rows at)
 
 -- one of which nothing is left goes
-abbrev pub forgotten_to : List Row → ℕ → Option Row → Acted
+abbrev pub forgotten_to : List CommandRow → ℕ → Option CommandRow → Acted
 forgotten_to rows at (Some r) = (remove rows at, effect.Forget r.process)
 forgotten_to rows at None = (rows, effect.Nothing)
 
-abbrev pub forgotten_at : List Row → ℕ → Acted
+abbrev pub forgotten_at : List CommandRow → ℕ → Acted
 forgotten_at rows at = forgotten_to rows at (slice_get rows at)
 
-abbrev pub look_to : Option Row → Effect
+abbrev pub look_to : Option CommandRow → Effect
 look_to (Some r) = effect.Look r.process
 look_to None = effect.Nothing
 
-abbrev pub look_at : List Row → ℕ → Effect
+abbrev pub look_at : List CommandRow → ℕ → Effect
 look_at rows at = look_to (slice_get rows at)
 
 -- at a time a lost one is killed, or one that is gone goes, or one is looked at whose time has come
-abbrev pub looks : List Row → Option ℕ → Acted
+abbrev pub looks : List CommandRow → Option ℕ → Acted
 looks rows (Some at) = (rows, look_at rows at)
 looks rows None = (rows, effect.Nothing)
 
-abbrev pub forgets_or : Option ℕ → ℕ → List Row → Acted
+abbrev pub forgets_or : Option ℕ → ℕ → List CommandRow → Acted
 forgets_or (Some at) now rows = forgotten_at rows at
 forgets_or None now rows = looks rows (position (is_due now) rows)
 
-abbrev pub kills_or : Option ℕ → ℕ → List Row → Acted
+abbrev pub kills_or : Option ℕ → ℕ → List CommandRow → Acted
 kills_or (Some at) now rows = killed_at now rows at
 kills_or None now rows = forgets_or (position is_gone rows) now rows
 
-abbrev pub ticked : ℕ → List Row → Acted
+abbrev pub ticked : ℕ → List CommandRow → Acted
 ticked now rows = kills_or (position is_lost rows) now rows
 
 -- an end is told, and its row goes
-abbrev pub told_end_to : List Row → ℕ → Option Row → Acted
+abbrev pub told_end_to : List CommandRow → ℕ → Option CommandRow → Acted
 told_end_to rows at (Some r) = (remove rows at, end_effect r)
 told_end_to rows at None = (rows, effect.Nothing)
 
-abbrev pub told_end_at : List Row → ℕ → Acted
+abbrev pub told_end_at : List CommandRow → ℕ → Acted
 told_end_at rows at = told_end_to rows at (slice_get rows at)
 
 -- the master is told of no other command
@@ -86,31 +86,31 @@ abbrev pub is_none : {A : Type 0} → Option A → Bool
 is_none (Some a) = false
 is_none None = true
 
-abbrev pub is_alone : ℕ → List Row → Bool
+abbrev pub is_alone : ℕ → List CommandRow → Bool
 is_alone process rows = is_none (position (is_other process) rows)
 
 -- a text is told where texts may be told, or of no other command is told; its command goes behind
 -- all others
-abbrev pub told_text_to : Bool → List Row → ℕ → Option Row → Acted
+abbrev pub told_text_to : Bool → List CommandRow → ℕ → Option CommandRow → Acted
 told_text_to may_say rows at (Some r) =
     if may_say || is_alone r.process rows
     then (remove rows at ++ record r { texts = r.texts - 1 } ∷ [], effect.TellText r.process r.pipes.command)
     else (rows, effect.Nothing)
 told_text_to may_say rows at None = (rows, effect.Nothing)
 
-abbrev pub told_text_at : Bool → List Row → ℕ → Acted
+abbrev pub told_text_at : Bool → List CommandRow → ℕ → Acted
 told_text_at may_say rows at = told_text_to may_say rows at (slice_get rows at)
 
-abbrev pub texts_or : Option ℕ → Bool → List Row → Acted
+abbrev pub texts_or : Option ℕ → Bool → List CommandRow → Acted
 texts_or (Some at) may_say rows = told_text_at may_say rows at
 texts_or None may_say rows = (rows, effect.Nothing)
 
-abbrev pub ends_or : Option ℕ → Bool → List Row → Acted
+abbrev pub ends_or : Option ℕ → Bool → List CommandRow → Acted
 ends_or (Some at) may_say rows = told_end_at rows at
 ends_or None may_say rows = texts_or (position has_text rows) may_say rows
 
 -- ends first, and then the texts in turn
-abbrev pub turned : Bool → List Row → Acted
+abbrev pub turned : Bool → List CommandRow → Acted
 turned may_say rows = ends_or (position has_end rows) may_say rows
 
 -- the worker ends: all that it started is killed, once
@@ -156,7 +156,7 @@ sooner (Some a) None = Some a
 sooner (Some a) (Some b) = Some (min a b)
 
 -- by when a tick is wanted at the latest
-abbrev pub wake : List Row → Option ℕ
+abbrev pub wake : List CommandRow → Option ℕ
 wake rows = fold (λ w r. sooner w (row_wake r)) None rows
 
 -- an exit code is told of the command whose pipes gave it

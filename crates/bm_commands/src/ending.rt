@@ -4,7 +4,7 @@ ghost use Rattle.std.specs.Prelude.{◌≡◌};
 ghost use Rattle.bm_commands.specs.Rows.{after_look, coded, end_effect, glanced, held_after, is_blocked, looked, owed_looked, paused, running_looked, stop_looked, swept};
 
 use crate::row::GLANCE_MS;
-use crate::values::{ChildState, Effect, Phase, Row, Seen};
+use crate::values::{ChildState, CommandPhase, CommandRow, Effect, ProcessLook};
 use bm_outbox::{CommandEnd, StopCause, Sweep, held_ms, stop_end};
 
 /// The pause before the next look at a process that is to end: 1, 2, .. 64 milliseconds. While a
@@ -24,10 +24,10 @@ fn after_look(is_stopping: bool, pause_ms: u64) -> u64
 }
 
 /// Nothing has changed, and it is looked at again.
-fn paused(is_stopping: bool, now: u64, row: Row) -> Row
+fn paused(is_stopping: bool, now: u64, row: CommandRow) -> CommandRow
     ensures { result ≡ paused is_stopping now row }
 {
-    Row {
+    CommandRow {
         looked_ms: now,
         pause_ms: after_look(is_stopping, row.pause_ms),
         ..row
@@ -35,14 +35,14 @@ fn paused(is_stopping: bool, now: u64, row: Row) -> Row
 }
 
 /// Whether what its pipes gave can't be told.
-fn is_blocked(row: Row) -> bool
+fn is_blocked(row: CommandRow) -> bool
     ensures { result ≡ is_blocked row }
 {
     row.texts > 0 && !row.has_heard
 }
 
 /// For how long its pipes were held open by now.
-fn held_after(now: u64, row: Row) -> u64
+fn held_after(now: u64, row: CommandRow) -> u64
     ensures { result ≡ held_after now row }
 {
     match row.held_ms {
@@ -53,17 +53,17 @@ fn held_after(now: u64, row: Row) -> u64
 
 /// Its process has ended although its pipes are open. How it ended is known once they were held
 /// open for too long.
-fn glanced(now: u64, code: Option<i32>, row: Row) -> Row
+fn glanced(now: u64, code: Option<i32>, row: CommandRow) -> CommandRow
     ensures { result ≡ glanced now code row }
 {
     let held = held_after(now, row);
     let mut pipes = row.pipes;
     let phase = if pipes.give_up(held) {
-        Phase::Over(CommandEnd::Held(pipes.exit_code(code)))
+        CommandPhase::Over(CommandEnd::Held(pipes.exit_code(code)))
     } else {
-        Phase::Runs
+        CommandPhase::Runs
     };
-    Row {
+    CommandRow {
         pipes,
         has_heard: false,
         held_ms: Some(held),
@@ -75,21 +75,21 @@ fn glanced(now: u64, code: Option<i32>, row: Row) -> Row
 }
 
 /// A command that runs was looked at. Its exit code is known once both its pipes were read.
-fn running_looked(now: u64, child: ChildState, row: Row) -> Row
+fn running_looked(now: u64, child: ChildState, row: CommandRow) -> CommandRow
     ensures { result ≡ running_looked now child row }
 {
     match child {
         ChildState::Runs if row.pipes.are_over() => paused(false, now, row),
         ChildState::Runs => {
-            Row {
+            CommandRow {
                 looked_ms: now,
                 pause_ms: GLANCE_MS,
                 ..row
             }
         }
         ChildState::Ended(code) if row.pipes.are_over() => {
-            Row {
-                phase: Phase::Over(CommandEnd::Code(row.pipes.exit_code(code))),
+            CommandRow {
+                phase: CommandPhase::Over(CommandEnd::Code(row.pipes.exit_code(code))),
                 ..row
             }
         }
@@ -99,7 +99,7 @@ fn running_looked(now: u64, child: ChildState, row: Row) -> Row
 
 /// What is known of the processes of a command that is ended. Its own is asked for its end first,
 /// so that none stays as a zombie; only one that a kill doesn't end isn't awaited.
-fn swept(seen: Seen) -> Sweep
+fn swept(seen: ProcessLook) -> Sweep
     ensures { result ≡ swept seen }
 {
     match (seen.sweep, seen.child) {
@@ -111,15 +111,21 @@ fn swept(seen: Seen) -> Sweep
 
 /// A command that is being ended was looked at. What its pipes still gave isn't told behind its
 /// end.
-fn stop_looked(why: StopCause, since: u64, now: u64, seen: Seen, row: Row) -> Row
+fn stop_looked(
+    why: StopCause,
+    since: u64,
+    now: u64,
+    seen: ProcessLook,
+    row: CommandRow,
+) -> CommandRow
     ensures { result ≡ stop_looked why since now seen row }
 {
     let is_silent = row.texts == 0 && row.pipes.are_over();
     match stop_end(swept(seen), now.saturating_sub(since), is_silent) {
         Some(left) => {
-            Row {
+            CommandRow {
                 texts: 0,
-                phase: Phase::Over(CommandEnd::Stopped(why, left)),
+                phase: CommandPhase::Over(CommandEnd::Stopped(why, left)),
                 ..row
             }
         }
@@ -128,14 +134,14 @@ fn stop_looked(why: StopCause, since: u64, now: u64, seen: Seen, row: Row) -> Ro
 }
 
 /// A command that was killed, of which nobody is told, was looked at.
-fn owed_looked(now: u64, seen: Seen, row: Row) -> Row
+fn owed_looked(now: u64, seen: ProcessLook, row: CommandRow) -> CommandRow
     ensures { result ≡ owed_looked now seen row }
 {
     match (seen.child, seen.sweep) {
         (ChildState::Runs, _) | (_, Sweep::Going) => paused(false, now, row),
         _ => {
-            Row {
-                phase: Phase::Gone,
+            CommandRow {
+                phase: CommandPhase::Gone,
                 ..row
             }
         }
@@ -143,24 +149,24 @@ fn owed_looked(now: u64, seen: Seen, row: Row) -> Row
 }
 
 /// Its process and its sweep were looked at.
-pub(crate) fn looked(now: u64, seen: Seen, row: Row) -> Row
+pub(crate) fn looked(now: u64, seen: ProcessLook, row: CommandRow) -> CommandRow
     ensures { result ≡ looked now seen row }
 {
     match row.phase {
-        Phase::Runs => running_looked(now, seen.child, row),
-        Phase::Stopping(why, since) => stop_looked(why, since, now, seen, row),
-        Phase::Owed => owed_looked(now, seen, row),
-        Phase::Over(_) | Phase::Lost | Phase::Gone => row,
+        CommandPhase::Runs => running_looked(now, seen.child, row),
+        CommandPhase::Stopping(why, since) => stop_looked(why, since, now, seen, row),
+        CommandPhase::Owed => owed_looked(now, seen, row),
+        CommandPhase::Over(_) | CommandPhase::Lost | CommandPhase::Gone => row,
     }
 }
 
 /// What is told of a command whose end is known. An exit code is told of the command whose pipes
 /// gave it.
-pub(crate) fn end_effect(row: Row) -> Effect
+pub(crate) fn end_effect(row: CommandRow) -> Effect
     ensures { result ≡ end_effect row }
 {
     match row.phase {
-        Phase::Over(end) => {
+        CommandPhase::Over(end) => {
             let command = match end {
                 CommandEnd::Code(code) | CommandEnd::Held(code) => code.command(),
                 CommandEnd::Stopped(_, _) => row.pipes.command(),

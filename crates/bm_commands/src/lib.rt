@@ -20,4 +20,4 @@ pub use laws::{
     ticks_wait_for_the_wake, turns_are_fair,
 };
 pub use queues::CommandQueues;
-pub use values::{ChildState, Effect, Input, Phase, ProcessInput, Row, Seen};
+pub use values::{ChildState, CommandPhase, CommandRow, Effect, Input, ProcessInput, ProcessLook};

@@ -5,7 +5,7 @@ ghost use Rattle.bm_commands.specs.Queues.{admitted, ended, fresh_queues, steppe
 
 use crate::row::fresh_row;
 use crate::table::{change, first_wake, lose_all, place_of, place_of_command, tick, turn};
-use crate::values::{Effect, Input, ProcessInput, Row};
+use crate::values::{CommandRow, Effect, Input, ProcessInput};
 use std::alloc::{AllocError, Global};
 use std::marker::Model;
 
@@ -13,7 +13,7 @@ use std::marker::Model;
 /// look.
 #[derive(Drop)]
 pub struct CommandQueues {
-    rows: Vec<Row>,
+    rows: Vec<CommandRow>,
     started: u64,
     /// The latest time that was handed in.
     now_ms: u64,

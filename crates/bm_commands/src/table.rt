@@ -9,61 +9,61 @@ use crate::row::{
     cell, has_end, has_text, is_command, is_due, is_gone, is_lost, is_other, is_process, killed,
     lost,
 };
-use crate::values::{Effect, Phase, ProcessInput, Row};
+use crate::values::{CommandPhase, CommandRow, Effect, ProcessInput};
 
 /// The place of a process.
-pub(crate) fn place_of(rows: &[Row], process: u64) -> Option<usize>
+pub(crate) fn place_of(rows: &[CommandRow], process: u64) -> Option<usize>
     ensures { result ≡ position (is_process process) rows.now }
 {
     rows.iter().position(|row| is_process(process, row))
 }
 
 /// The place of a command of which the master is told.
-pub(crate) fn place_of_command(rows: &[Row], command: u64) -> Option<usize>
+pub(crate) fn place_of_command(rows: &[CommandRow], command: u64) -> Option<usize>
     ensures { result ≡ position (is_command command) rows.now }
 {
     rows.iter().position(|row| is_command(command, row))
 }
 
-fn first_lost(rows: &[Row]) -> Option<usize>
+fn first_lost(rows: &[CommandRow]) -> Option<usize>
     ensures { result ≡ position is_lost rows.now }
 {
     rows.iter().position(|row| is_lost(row))
 }
 
-fn first_gone(rows: &[Row]) -> Option<usize>
+fn first_gone(rows: &[CommandRow]) -> Option<usize>
     ensures { result ≡ position is_gone rows.now }
 {
     rows.iter().position(|row| is_gone(row))
 }
 
-fn first_due(rows: &[Row], now: u64) -> Option<usize>
+fn first_due(rows: &[CommandRow], now: u64) -> Option<usize>
     ensures { result ≡ position (is_due now) rows.now }
 {
     rows.iter().position(|row| is_due(now, row))
 }
 
-fn first_end(rows: &[Row]) -> Option<usize>
+fn first_end(rows: &[CommandRow]) -> Option<usize>
     ensures { result ≡ position has_end rows.now }
 {
     rows.iter().position(|row| has_end(row))
 }
 
-fn first_text(rows: &[Row]) -> Option<usize>
+fn first_text(rows: &[CommandRow]) -> Option<usize>
     ensures { result ≡ position has_text rows.now }
 {
     rows.iter().position(|row| has_text(row))
 }
 
 /// The first other command of which the master is told.
-fn first_other(rows: &[Row], process: u64) -> Option<usize>
+fn first_other(rows: &[CommandRow], process: u64) -> Option<usize>
     ensures { result ≡ position (is_other process) rows.now }
 {
     rows.iter().position(|row| is_other(process, row))
 }
 
 /// Whether the master is told of no other command.
-fn is_alone(rows: &[Row], process: u64) -> bool
+fn is_alone(rows: &[CommandRow], process: u64) -> bool
     ensures { result ≡ is_alone process rows.now }
 {
     match first_other(rows, process) {
@@ -74,7 +74,7 @@ fn is_alone(rows: &[Row], process: u64) -> bool
 
 /// The row at this place is changed as the table of one command says.
 pub(crate) fn change(
-    rows: &mut [Row],
+    rows: &mut [CommandRow],
     place: Option<usize>,
     now: u64,
     input: ProcessInput,
@@ -93,7 +93,7 @@ pub(crate) fn change(
 }
 
 /// Of no command that runs is anybody told any more.
-pub(crate) fn lose_all(rows: &mut [Row])
+pub(crate) fn lose_all(rows: &mut [CommandRow])
     ensures { rows.new ≡ map lost rows.old }
 {
     for row in rows.iter_mut() {
@@ -102,7 +102,7 @@ pub(crate) fn lose_all(rows: &mut [Row])
 }
 
 /// A command whose session was lost is killed.
-fn kill_at(rows: &mut [Row], at: usize, now: u64) -> Effect
+fn kill_at(rows: &mut [CommandRow], at: usize, now: u64) -> Effect
     ensures effect { result ≡ (killed_at now rows.old at).1 }
     ensures rows { rows.new ≡ (killed_at now rows.old at).0 }
 {
@@ -115,7 +115,7 @@ fn kill_at(rows: &mut [Row], at: usize, now: u64) -> Effect
 }
 
 /// A row goes of which nothing is left.
-fn forget_at(rows: &mut Vec<Row>, at: usize) -> Effect
+fn forget_at(rows: &mut Vec<CommandRow>, at: usize) -> Effect
     ensures effect { result ≡ (forgotten_at rows.old.items at).1 }
     ensures rows { rows.new.items ≡ (forgotten_at rows.old.items at).0 }
 {
@@ -128,7 +128,7 @@ fn forget_at(rows: &mut Vec<Row>, at: usize) -> Effect
 }
 
 /// What is done once a time has come. Lost commands are killed first, then processes are looked at.
-pub(crate) fn tick(rows: &mut Vec<Row>, now: u64) -> Effect
+pub(crate) fn tick(rows: &mut Vec<CommandRow>, now: u64) -> Effect
     ensures effect { result ≡ (ticked now rows.old.items).1 }
     ensures rows { rows.new.items ≡ (ticked now rows.old.items).0 }
 {
@@ -144,7 +144,7 @@ pub(crate) fn tick(rows: &mut Vec<Row>, now: u64) -> Effect
     }
 }
 
-fn look_at(rows: &[Row], at: usize) -> Effect
+fn look_at(rows: &[CommandRow], at: usize) -> Effect
     ensures { result ≡ look_at rows.now at }
 {
     if at >= rows.len() {
@@ -154,7 +154,7 @@ fn look_at(rows: &[Row], at: usize) -> Effect
 }
 
 /// The end of the command at this place is told, and its row goes.
-fn tell_end_at(rows: &mut Vec<Row>, at: usize) -> Effect
+fn tell_end_at(rows: &mut Vec<CommandRow>, at: usize) -> Effect
     ensures effect { result ≡ (told_end_at rows.old.items at).1 }
     ensures rows { rows.new.items ≡ (told_end_at rows.old.items at).0 }
 {
@@ -168,7 +168,7 @@ fn tell_end_at(rows: &mut Vec<Row>, at: usize) -> Effect
 
 /// A text of the command at this place is told, where texts may be told or the master is told of
 /// no other command. It goes behind all others.
-fn tell_text_at(rows: &mut Vec<Row>, at: usize, may_say: bool) -> Effect
+fn tell_text_at(rows: &mut Vec<CommandRow>, at: usize, may_say: bool) -> Effect
     ensures effect { result ≡ (told_text_at may_say rows.old.items at).1 }
     ensures rows { rows.new.items ≡ (told_text_at may_say rows.old.items at).0 }
 {
@@ -180,7 +180,7 @@ fn tell_text_at(rows: &mut Vec<Row>, at: usize, may_say: bool) -> Effect
         return Effect::Nothing;
     }
     let _ = rows.remove(at);
-    rows.push_reserved(Row {
+    rows.push_reserved(CommandRow {
         texts: row.texts.saturating_sub(1),
         ..row
     });
@@ -190,7 +190,7 @@ fn tell_text_at(rows: &mut Vec<Row>, at: usize, may_say: bool) -> Effect
 /// Of which command is told next, and what. It is the first whose end is to be told, or else the
 /// first that has a text. Then each command waits for one text of each of the others at the most.
 /// In the order in which things come, one that prints without end would hold back every other end.
-pub(crate) fn turn(rows: &mut Vec<Row>, may_say: bool) -> Effect
+pub(crate) fn turn(rows: &mut Vec<CommandRow>, may_say: bool) -> Effect
     ensures effect { result ≡ (turned may_say rows.old.items).1 }
     ensures rows { rows.new.items ≡ (turned may_say rows.old.items).0 }
 {
@@ -204,15 +204,15 @@ pub(crate) fn turn(rows: &mut Vec<Row>, may_say: bool) -> Effect
 }
 
 /// When the process of a row is to be looked at or killed.
-fn row_wake(row: &Row) -> Option<u64>
+fn row_wake(row: &CommandRow) -> Option<u64>
     ensures { result ≡ row_wake row.now }
 {
     match row.phase {
-        Phase::Runs | Phase::Stopping(_, _) | Phase::Owed => {
+        CommandPhase::Runs | CommandPhase::Stopping(_, _) | CommandPhase::Owed => {
             Some(row.looked_ms.saturating_add(row.pause_ms))
         }
-        Phase::Lost | Phase::Gone => Some(0),
-        Phase::Over(_) => None,
+        CommandPhase::Lost | CommandPhase::Gone => Some(0),
+        CommandPhase::Over(_) => None,
     }
 }
 
@@ -229,7 +229,7 @@ fn sooner(one: Option<u64>, other: Option<u64>) -> Option<u64>
 
 /// When the first of them is to be looked at or killed.
 #[tactic(auto, using(crate::proofs::Changing::wake_more))]
-pub(crate) fn first_wake(rows: &[Row]) -> Option<u64>
+pub(crate) fn first_wake(rows: &[CommandRow]) -> Option<u64>
     ensures { result ≡ wake rows.now }
 {
     let mut first = None;

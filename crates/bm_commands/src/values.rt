@@ -12,7 +12,7 @@ pub enum ChildState {
 
 /// What a look showed of a process, and of the sweep of what it started.
 #[derive(Clone, Copy)]
-pub struct Seen {
+pub struct ProcessLook {
     pub child: ChildState,
     pub sweep: Sweep,
 }
@@ -29,7 +29,7 @@ pub enum ProcessInput {
     /// The master asks for the command's end.
     Interrupted,
     /// It was looked at.
-    Looked(Seen),
+    Looked(ProcessLook),
     /// It wasn't started.
     NotStarted,
     /// It was started, and its pipes can't be read.
@@ -76,7 +76,7 @@ pub enum Effect {
 
 /// Where a command stands.
 #[derive(Clone, Copy)]
-pub enum Phase {
+pub enum CommandPhase {
     Runs,
     /// How it ended is known, and isn't told yet.
     Over(CommandEnd),
@@ -92,7 +92,7 @@ pub enum Phase {
 
 /// A command whose process was started.
 #[derive(Clone, Copy)]
-pub struct Row {
+pub struct CommandRow {
     /// The number of its process, which no other process of the worker has.
     pub process: u64,
     pub pipes: Pipes,
@@ -107,5 +107,5 @@ pub struct Row {
     pub looked_ms: u64,
     /// How many milliseconds later it is looked at again.
     pub pause_ms: u64,
-    pub phase: Phase,
+    pub phase: CommandPhase,
 }

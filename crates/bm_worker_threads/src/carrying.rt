@@ -10,7 +10,7 @@ use crate::host::Host;
 use crate::process_parts::{ProcessParts, place_of};
 use crate::processes::Processes;
 use crate::sweeping::Sweeper;
-use bm_commands::{ChildState, Effect, Input, ProcessInput, Seen};
+use bm_commands::{ChildState, Effect, Input, ProcessInput, ProcessLook};
 use bm_outbox::{Outbox, OutboxEntry, Said, Sweep};
 use std::alloc::{AllocError, Global};
 use std::collections::VecDeque;
@@ -130,11 +130,11 @@ impl Processes {
     }
 
     /// What a look shows of a process. One of which nothing is there has ended.
-    fn look(&mut self, process: u64) -> Seen {
+    fn look(&mut self, process: u64) -> ProcessLook {
         match place_of(self.parts.as_slice(), process) {
             Some(at) => self.parts[at].look(),
             None => {
-                Seen {
+                ProcessLook {
                     child: ChildState::Ended(None),
                     sweep: Sweep::Clean,
                 }

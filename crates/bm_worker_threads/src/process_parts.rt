@@ -4,7 +4,7 @@ ghost use Rattle.std.specs.Prelude.{◌≡◌, position};
 ghost use Rattle.bm_worker_threads.specs.Turns.{is_of};
 
 use crate::sweeping::Sweeper;
-use bm_commands::{ChildState, Seen};
+use bm_commands::{ChildState, ProcessLook};
 use bm_outbox::{Said, Sweep};
 use crossbeam_channel::Sender;
 use std::collections::VecDeque;
@@ -25,7 +25,7 @@ pub(crate) struct ProcessParts {
 
 impl ProcessParts {
     /// What a look shows of it. A process that can't be asked has ended.
-    pub(crate) fn look(&mut self) -> Seen {
+    pub(crate) fn look(&mut self) -> ProcessLook {
         let sweep = match &mut self.sweeper {
             Some(sweeper) => sweeper.look(),
             None => Sweep::Going,
@@ -35,7 +35,7 @@ impl ProcessParts {
             Ok(Some(status)) => ChildState::Ended(status.code()),
             Err(_) => ChildState::Ended(None),
         };
-        Seen { child, sweep }
+        ProcessLook { child, sweep }
     }
 }
 
