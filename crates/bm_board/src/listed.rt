@@ -7,8 +7,8 @@ use std::marker::Model;
 
 /// What has equal copies, which may take memory.
 ///
-/// `Listed::copy` wants it of its items, since one function copies the lists of steps, uses of locks,
-/// words and results. `Clone` can't say that memory is wanting.
+/// `Listed::copy` wants it of its items, since one function copies the lists of steps, uses of
+/// locks, words and results. `Clone` can't say that memory is wanting.
 pub trait Copied: Sized {
     /// An equal value.
     fn copy(&self) -> Result<Self, AllocError>

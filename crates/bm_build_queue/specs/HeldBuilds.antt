@@ -7,8 +7,8 @@ use Rattle.bm_store.specs.declared.chunk.ViewRefusal.{ViewRefusal}
 use Rattle.bm_lane.specs.Ends.{Watched}
 use Rattle.bm_lane.specs.Looks.{GivesState}
 
--- its number, what its viewer has seen, the commands that it started, and how many of them, in
--- their order, were seen to have ended
+-- its number, what its viewer has seen, and the commands that it started. How many of these, in
+-- their order, were seen to have ended.
 pub record HeldState : Type 0 where
   pub number : ℕ
   pub viewer : Watched

@@ -31,8 +31,8 @@ pub enum Cancelled {
 ///
 /// On the board a build is one step, that of its runner, whose outcome is what the runner reports.
 /// Its own steps run in the build's thread, by `run_build`. Steps on the board would bring in the
-/// coordinator between any two of them, and start nothing earlier: a build keeps its slot and its
-/// locks from its first step to its last.
+/// coordinator between any two of them. They would start nothing earlier, since a build keeps slot
+/// and locks from its first step to its last.
 #[derive(Drop)]
 pub struct BuildQueue<Y: Yard> {
     board: Board,
@@ -266,8 +266,8 @@ impl<Y: Yard> BuildQueue<Y> {
     }
 
     /// A build that has its result gives its slot and its locks back. Its viewer goes back to the
-    /// pool of its lane, and the answer is whether it has a place there: one that `next` gave has.
-    /// It takes no memory.
+    /// pool of its lane. The answer is whether it has a place there: one that `next` gave has. It
+    /// takes no memory.
     pub fn release(&mut self, number: u64, viewer: Viewer<Y>) -> bool
         ensures board { self.new.board ≡ after_release self.old.board number }
         ensures released { Releases self.old.board self.new.board number }

@@ -10,8 +10,8 @@ use Rattle.bm_commands.specs.declared.values.Effect.TheVariants as effect
 use Rattle.bm_commands.specs.declared.values.CommandRow.{CommandRow}
 use Rattle.bm_commands.specs.Rows.{cell, end_effect, fresh_row, has_end, has_text, is_command, is_due, is_gone, is_lost, is_other, is_process, killed, lost, row_wake}
 
--- the commands in the order of their turns, how many processes were started, the latest time that
--- was handed in, and whether the worker ends
+-- the commands in the order of their turns, and how many processes were started. The latest time
+-- that was handed in, and whether the worker ends.
 pub record QueuesView : Type 0 where
   pub rows : List CommandRow
   pub started : ℕ

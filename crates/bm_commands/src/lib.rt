@@ -1,7 +1,8 @@
-//! What a worker does with its commands: of which is told next and what, which process is killed
-//! or looked at and when, and how a command ended. A pure step from what the worker's first thread
-//! hands in to what it carries out: it waits for nothing and reads no clock, and texts, processes
-//! and pipes stay with the thread.
+//! What a worker does with its commands: of which is told next and what, and how a command ended.
+//! It says which process is killed or looked at, and when.
+//!
+//! A step goes from what the worker's first thread hands in to what it carries out. It waits for
+//! nothing and reads no clock. Texts, processes and pipes stay with the thread.
 //!
 //! Promised: the table of `Rows.antt` and `Queues.antt`, input for input, and the laws of
 //! `Laws.antt` over whatever comes. A body could still want memory where a command begins. A thread

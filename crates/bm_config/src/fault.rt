@@ -16,8 +16,8 @@ pub enum ConfigFault {
     /// The text is no TOML.
     #[error("syntax")]
     Syntax,
-    /// The value at this key, by the last part of its name, is missing where it mustn't be, or is
-    /// none that the key takes.
+    /// The value at this key, by the last part of its name, is missing where it is needed, or the
+    /// key doesn't take it.
     #[error("{0}")]
     Key(String),
     /// Memory is wanting: nothing is said of the text.

@@ -70,10 +70,9 @@ pub(crate) fn is_known(known: &[Key], name: &str) -> bool
     known.iter().any(|key| key.name() == name)
 }
 
-/// The one of these keys that is meant by a name: the first with the fewest edits, where at most
-/// a third of the name's bytes is edited.
-/// A bound of two edits would find nothing for `halt_on_failure`, and a larger one would find a key
-/// for each short name.
+/// The one of these keys that is meant by a name. It is the first with the fewest edits, where they
+/// are of at most a third of the name's bytes. A bound of two edits would find nothing for
+/// `halt_on_failure`, and a larger one would find a key for each short name.
 pub(crate) fn nearest(alloc: Global, name: &str, known: &[Key]) -> Result<Option<Key>, AllocError>
     ensures { IfOk result (λ key. key ≡ nearest name.now known.now) }
 {

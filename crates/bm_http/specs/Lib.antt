@@ -1,6 +1,6 @@
--- A reader has to believe these. Paths, Targets and HostFields: what stands in a request. Refusals. Requests:
--- what it asks for. Bodies. Replies: what it is answered. Shown: what contracts see of requests,
--- lookups and answers. Laws.
+-- A reader has to believe these. Paths, Targets and HostFields: what stands in a request. Refusals.
+-- Requests: what it asks for. Bodies. Replies: what it is answered. Shown: what contracts see of
+-- requests, lookups and answers. Laws.
 pub mod Paths
 pub mod Targets
 pub mod HostFields

@@ -97,8 +97,8 @@ fn is_bracketed(text: &[u8]) -> bool
     }
 }
 
-/// Whether a field `Host` may hold this (RFC 9112, 3.2): a name, which may be empty, or an IPv6
-/// address in brackets, and maybe a port. No memory is taken.
+/// Whether a field `Host` may hold this (RFC 9112, 3.2). It is a name, which may be empty, or an
+/// IPv6 address in brackets. A port may follow. No memory is taken.
 pub fn is_host(value: &[u8]) -> bool
     ensures { IsTrue result ↔ IsHost value.now }
 {

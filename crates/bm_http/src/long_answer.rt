@@ -168,8 +168,8 @@ impl<Y: Yard> LongAnswer<Y> {
         self.mark.lane()
     }
 
-    /// The next piece of the text, or none exactly at its end. Each piece has some of it. The viewer
-    /// is one of the lane that the answer began at, which has seen no less.
+    /// The next piece of the text, or none exactly at its end. Each piece has some of it. The
+    /// viewer is one of the lane that the answer began at, which has seen no less.
     ///
     /// # Errors
     ///

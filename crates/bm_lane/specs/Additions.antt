@@ -25,8 +25,8 @@ abbrev pub kept_list : Option Addition → List Addition
 kept_list None = []
 kept_list (Some op) = op ∷ []
 
--- what a publisher is to a contract: which history it has, what is shown of it, what is held, and
--- what the published book keeps
+-- what a publisher is to a contract: its history, what is shown of it, what is held, and what the
+-- published book keeps
 pub record Showing : Type 0 where
   pub history : HistoryId
   pub shown : List Item

@@ -8,8 +8,8 @@ use Rattle.bm_store.specs.Kept.{Kept, logs_in}
 use Rattle.bm_store.specs.Book.{book}
 use Rattle.bm_lane.specs.Fronts.{HistoryId}
 
--- a queue and a copy without a lane: which of all they are, how many items the queue takes, how
--- many viewers there will be
+-- a queue and a copy without a lane: which of all they are, how many items the queue takes, and the
+-- number of viewers
 pub record Blanked : Type 0 where
   pub queue : TableId
   pub copy : HistoryId
@@ -38,8 +38,8 @@ pub record Watched : Type 0 where
   pub lane : ℕ
   pub seen : List Item
 
--- what was taken is what was shown and then one held item at most, and the published book is the
--- book of what was shown
+-- what was taken is what was shown and then one held item at most; the published book is that of
+-- what was shown
 pub record IsWritten (w : Written) : Type 0 where
   pub in_order : w.taken ≡ w.shown ++ w.held
   pub few : length w.held ≤ 1

@@ -11,7 +11,8 @@ pub mod Tallies
 pub mod Laws
 -- The others only help proofs: the rules of the queue, of the history and of the published copy.
 -- They also say what the parts of an end are to a contract. Of them, `HistoryId` of Fronts is to be
--- believed: it is the name of a history. So are `no_queue` and `no_copy` of Names: any name will do.
+-- believed: it is the name of a history. So are `no_queue` and `no_copy` of Names: any name will
+-- do.
 pub mod Additions
 pub mod BookReaders
 pub mod Copies

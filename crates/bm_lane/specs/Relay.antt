@@ -10,8 +10,7 @@ use Rattle.bm_lane.specs.declared.relay.Hand.{Hand}
 abbrev pub hand : Bool → Bool → List Item → List Item → Hand
 hand a b put taken = record { puts = a; takes = b; put = put; taken = taken }
 
--- what the pass at a port knows agrees with the lists, where it is the one that may put or the one
--- that may take
+-- what the pass at a port knows agrees with the lists, where it may put or may take
 abbrev pub Fits : ℕ → ℕ → List Item → List Item → ℕ → Hand → Type 0
 Fits writer reader put taken port v =
     (v.puts ≡ true → (port ≡ writer) × (v.put ≡ put))

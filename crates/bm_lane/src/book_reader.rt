@@ -43,8 +43,8 @@ impl Model for BookReader {
     ghost invariant = { λ b. (seen_by b.reader.place ≡ Some b.front) × (b.count ≡ length b.front.log) };
 }
 
-// A look by a reader, which comes back. The answer's type stands among the arguments, since a
-// function that is passed on may give back no other types than those of its arguments.
+// A look by a reader, which comes back. The answer's type stands among the arguments. A function
+// that is passed on may give back no other types than those.
 fn look<Q: Question>(
     reader: CopyReader,
     asked: (&Q, PhantomData<Q::Answer>),

@@ -47,9 +47,9 @@ impl<Y: Yard> Viewer<Y> {
         }
     }
 
-    /// The lines of the log of a command under a name from the place `offset` on, `limit` at most,
-    /// as far as the log goes. The log is that of the book of what the viewer has then seen, which
-    /// is no less than before.
+    /// The lines of a command's log of this name, from the place `offset` on: `limit` at most, as
+    /// far as the log goes. The log is that of the book of what the viewer has then seen, which is
+    /// no less than before.
     ///
     /// `NoLog` where that log isn't there. After `Mem` the viewer may have seen more; after
     /// `Closed`, where the copy couldn't be entered, nothing changed.
@@ -74,8 +74,8 @@ impl<Y: Yard> Viewer<Y> {
         }
     }
 
-    /// A portion of the text of these lines, behind its first `skip` bytes: `most` bytes at most,
-    /// so it may end inside of a line.
+    /// A portion of the text of these lines, behind its first `skip` bytes. It has `most` bytes at
+    /// most, so it may end inside of a line.
     ///
     /// The answers `NoLog`, `Mem` and `Closed` are as those of [`chunk`](Viewer::chunk). `Mem` is
     /// answered also where the first `skip` bytes end inside of a character.

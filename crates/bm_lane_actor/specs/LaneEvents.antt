@@ -28,8 +28,8 @@ event_after Up Down cause = Some (event.Lost cause)
 event_after Cut Down cause = Some (event.Lost cause)
 event_after _ _ cause = None
 
--- What is told of a link that has taken up a lane which stood so before: that a cut session is lost
--- where it doesn't go on, and the login.
+-- What is told of a link that has taken up a lane which stood so before. A cut session is lost
+-- where it doesn't go on; then comes the login.
 abbrev pub greeting : ConnectionState → Bool → Option LaneEvent × LaneEvent
 greeting before true = (None, event.Resumed)
 greeting Cut false = (Some (event.Lost loss.Replaced), event.Attached)

@@ -19,7 +19,7 @@ use Rattle.bm_lane_actor.specs.declared.lane_policy.LaneActs.{LaneActs}
 use Rattle.bm_lane_actor.specs.LoginFates.{login_fate, waiting_fate}
 use Rattle.bm_lane_actor.specs.PeerTimer.{PeerView, action_at, after_action, heard_at, started, wanted_at}
 
--- How long the worker has been silent, whether another link waits for its sign of life, and why a
+-- How long the worker has been silent, and whether another link waits for its sign of life. Why a
 -- cut lane would be given up. Times are in milliseconds.
 pub record PolicyView : Type 0 where
   pub peer : PeerView
@@ -97,8 +97,8 @@ look_after up came read left now p =
 abbrev pub asked : Bool → ℕ → PolicyView → PolicyView
 asked up now p = record p { peer = if up then wanted_at now p.peer else p.peer }
 
--- after a login: the first link that waits is told that the lane is up where it isn't of the lane's
--- own worker, which takes its place
+-- after a login: the first link that waits is told that the lane is up; the lane's own worker takes
+-- its place
 abbrev pub fate_acts : Bool → Bool → LoginFate → LaneActs
 fate_acts up first_own fate.Admit = does link.Nothing second.Admit
 fate_acts up first_own fate.Wait = does (if up then link.Ping else link.Nothing) second.Wait

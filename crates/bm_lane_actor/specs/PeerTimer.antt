@@ -70,8 +70,8 @@ abbrev pub most_glance : Bool → ℕ
 most_glance true = 100
 most_glance false = 60000
 
--- how long an actor waits at its mailbox at most, whose worker needs nothing for so long while it
--- is up, and on which another link may wait
+-- how long an actor waits at its mailbox at most: while up, its worker needs nothing for so long,
+-- and another link may wait
 abbrev pub glance_at : Bool → ℕ → Bool → ℕ
 glance_at true rest is_wanted = max 1 (min rest (most_glance is_wanted))
 glance_at false rest is_wanted = most_glance is_wanted

@@ -19,9 +19,9 @@ use Rattle.bm_lane.specs.Looks.{GivesState}
 use Rattle.bm_lane_actor.specs.StartProgress.{refused_in, settled}
 use Rattle.bm_lane_actor.specs.StepMeter.{MeterView, fresh, given_up_result, is_given_up, meter_after, outcome_of}
 
--- What its viewer has seen of the lane, whether its build's flag was set when it was read last, and
--- the limits of the last step that was started. How far the start of the last step has come. Then
--- an entry for each command that it started, and whether a start was refused.
+-- What its viewer has seen of the lane, and whether its build's flag was set when it was read last.
+-- The limits of the last step that was started, and how far its start has come. Then an entry for
+-- each command that it started, and whether a start was refused.
 pub record PortView : Type 0 where
   pub viewer : Watched
   pub cancelled : Bool
@@ -69,7 +69,7 @@ Begins old limits (Err e) new =
     × (refused_in new.stage ≡ Some e)
 
 -- A step isn't started for this cause. Where its build was cancelled it is told as no command,
--- which has ended so; else, or without memory for that, its start is refused.
+-- which has ended so. Else, or without memory for that, its start is refused.
 abbrev pub Unstarts : PortView → StartRefusal → Bool → PortView → Type 0
 Unstarts old e true new =
     (e ≡ why.Cancelled) × (new.told ≡ old.told ++ first_entry no_command ∷ [])
@@ -136,8 +136,8 @@ Waits old new =
     (new.viewer.lane ≡ old.viewer.lane) × IsPrefix old.viewer.seen new.viewer.seen
     × (new.meter ≡ old.meter) × (new.told ≡ old.told) × (new.refused ≡ old.refused)
 
--- What a build is told of its command, once it has waited for a tick or for that command's end, by
--- the flag as it was read last; of none, that it was cancelled.
+-- What a build is told of its command by the flag as it was read last. It has waited for a tick or
+-- for that command's end. Of no command it is told that it was cancelled.
 abbrev pub Polls : PortView → ℕ → Polled → PortView → Type 0
 Polls old k said new =
     ((k ≡ no_command) × (said ≡ Ended Cancelled))

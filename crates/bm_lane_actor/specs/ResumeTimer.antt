@@ -43,7 +43,6 @@ passed t =
       dismissed = t.dismissed;
     }
 
--- the lane is to be given up: it is cut, and nobody is awaited or as many ticks have passed as the
--- worker may take
+-- the lane is to be given up: it is cut, and nobody is awaited or the worker's ticks have passed
 abbrev pub is_over : TimerView → Bool
 is_over t = option_map_or (λ ticks. t.dismissed || nat_le t.limit ticks) t.cut false

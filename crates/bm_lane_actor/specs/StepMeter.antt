@@ -5,9 +5,9 @@ use Rattle.bm_session.specs.declared.results.Results.TheVariants.{Retry, Excepti
 use Rattle.bm_operator.specs.declared.reasons.StepLimit.{StepLimit}
 use Rattle.bm_operator.specs.declared.reasons.StepLimit.TheVariants.{Bytes, Ticks, Silence}
 
--- The limits of a step, of which 0 is none; the ticks until it reached one, or since; how many
--- bytes its updates had carried, and for how many ticks they carried nothing; and which limit it
--- has reached. Then the ticks since a cancel of its build was seen.
+-- The limits of a step, of which 0 is none, and which of them it has reached. The ticks until it
+-- reached one, or since. How many bytes its updates had carried, and for how many ticks they
+-- carried nothing. Then the ticks since a cancel of its build was seen.
 pub record MeterView : Type 0 where
   pub max_bytes : ℕ
   pub timeout_ticks : ℕ
@@ -76,8 +76,8 @@ abbrev pub is_late : Option ℕ → Bool
 is_late (Some ticks) = nat_le 1000 ticks
 is_late None = false
 
--- 1,000 ticks after a cancel, or after a limit was reached, the end of the command isn't waited for
--- any more, whatever became of its worker
+-- 1,000 ticks after a cancel, or after a limit was reached, nobody waits for the command's end any
+-- more, whatever became of its worker
 abbrev pub is_given_up : MeterView → Bool
 is_given_up m = is_late m.cancelled || (is_some m.reached && nat_le 1000 m.ticks)
 

@@ -43,8 +43,8 @@ pub(crate) struct LaneActor<'a, Y: Yard, T, R: Wait + Clock + Drop> {
     pub(crate) began: Option<Instant>,
     /// What is to be done about the worker's connection, and about a link that waits.
     pub(crate) policy: LanePolicy,
-    /// A link that has logged in while the lane is up, until its worker lives or is given up: as
-    /// the policy says, there is one or none.
+    /// A link that has logged in while the lane is up, until the lane's worker lives or is given
+    /// up. The policy says whether there is one.
     pub(crate) waiting: Option<MasterLink<WorkerStream<R>>>,
     pub(crate) gate: &'a DrainGate<R>,
     /// The number of the lane.

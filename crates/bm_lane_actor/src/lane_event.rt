@@ -70,8 +70,8 @@ pub(crate) fn event_after(
     }
 }
 
-/// What is told of a link that has taken up a lane which stood so before: a session that it ends,
-/// if any, and the login. `is_resumed`: the session goes on.
+/// What is told of a link that has taken up a lane which stood so before. That is a session that it
+/// ends, if any, and the login. `is_resumed`: the session goes on.
 pub(crate) fn greeting(before: ConnectionState, is_resumed: bool) -> (Option<LaneEvent>, LaneEvent)
     ensures { result ≡ greeting before is_resumed }
 {

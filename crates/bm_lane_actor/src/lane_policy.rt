@@ -81,8 +81,9 @@ pub struct LaneActs {
     pub second: SecondAct,
 }
 
-/// The policy of a lane: how long its worker has been silent, whether another link waits for a sign
-/// of life, and why a cut lane would be given up. Times are in milliseconds since some moment.
+/// The policy of a lane: how long its worker has been silent, and whether another link waits for a
+/// sign of life. It knows why a cut lane would be given up. Times are in milliseconds since some
+/// moment.
 #[derive(Drop)]
 pub struct LanePolicy {
     peer: PeerTimer,

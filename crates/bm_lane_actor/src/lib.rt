@@ -10,6 +10,11 @@
 //! Promised: what each call of it does to lane, link and timers, and that the orders without an
 //! answer are those sent again. The loops round it have no clauses: a body could still wait too
 //! long, take a request twice or tell no event.
+//!
+//! Tests show what a channel carries and a flag holds, but for `StartProgress::ask`, `reply` and
+//! `SeenFlag::read`. They show that each update's bytes are counted once. Inside the crate these
+//! have clauses: `accept`, `hand_over`, `CancelPolicy`, `LoginLimit`, `ReadWatch`, `StopOrders`,
+//! `orders::start`, `answer_start`.
 #![tactic(auto)]
 
 mod byte_count;

@@ -42,8 +42,8 @@ const MOST_WRITES: u32 = 10_000;
 
 /// A worker's connection. Nobody waits for its worker for long:
 ///
-/// - Until it has logged in, a read that met nothing is made again, until the time for a login is
-///   over, the master ends, or its place is given to another connection.
+/// - A read of a login that met nothing is made again. It ends with the time for a login, with the
+///   master, or where its place is given to another connection.
 /// - Then a read waits for nothing: who reads is woken once there is more. After the time of a turn
 ///   it says that nothing came, whatever comes. What was read stays with who reads, and the rest is
 ///   read by the next turn.

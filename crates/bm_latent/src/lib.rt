@@ -4,8 +4,8 @@
 //! [`Latent`] is the table of a latent worker (Buildbot manual, "Latent Workers"). Its process is
 //! started once a build wants it, and stopped once it has been idle for long enough.
 //! [`WorkerState`] says which worker takes builds, [`WorkerMachine`] what is done with its program.
-//! [`Deadline`] says when a process that is to end is killed, [`StartTries`] for how long a start
-//! is tried, [`TickCounter`] how many ticks have passed.
+//! [`Deadline`] says when a process that is to end is killed, and [`StartTries`] for how long a
+//! start is tried. [`TickCounter`] counts the ticks that have passed.
 //!
 //! Promised: each call is what `specs/` says. A body could still get away with nothing here; a
 //! driver could, which tells an event too late, twice or never.

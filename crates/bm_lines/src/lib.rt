@@ -1,7 +1,7 @@
 //! Lines of command logs, the names of logs, and the batches of lines that an update carries.
 //!
-//! A log of type `s` in the Buildbot manual is a list of lines, each behind a letter for the stream
-//! that it came from.
+//! A log of type `s` in the Buildbot manual is a list of lines. A letter before each stands for the
+//! stream that it came from.
 //!
 //! Promised: a text is cut at its line ends alone, and a block has just the lines that were added,
 //! in order. A batch has each name once, with all of its lines. A body could still want memory, and

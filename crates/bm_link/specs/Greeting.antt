@@ -18,8 +18,8 @@ use Rattle.bm_link.specs.Sending.{SendsBytes}
 use Rattle.bm_link.specs.declared.fault.LinkFault.{LinkFault}
 use Rattle.bm_link.specs.declared.fault.LinkFault.TheVariants.{BadLogin, BadMessage, Mem}
 
--- the bytes of the login, which is request 0: its name, its password, the session that it asks to
--- resume, and the text that a session is to have which begins by it
+-- the bytes of the login, which is request 0: its name, its password, and the session that it asks
+-- to resume. Then the text of a session that begins by it.
 unfoldable pub auth_bytes : List ℕ → List ℕ → Option (List ℕ) → Option (List ℕ) → List ℕ
 auth_bytes name password session next = written (login_tree name password session next)
 

@@ -17,10 +17,9 @@ OrdersFit =
 abbrev pub AsksFit : Type 0
 AsksFit = (n : ℕ) (a : Ask) → AreShort (texts_of a) → length (ask_bytes n a) ≤ most_bytes
 
--- No session is named, or one by a text that a master keeps. Bounds of names stand twice: as a
--- condition, which laws take as a premise (this one, and `IsLogName` of bm_lines), and as a test, by
--- which a message is read (`is_session`, `is_log_name` of bm_msg). A test alone would stand in each
--- law as an equation.
+-- No session is named, or one by a text that a master keeps. Bounds of names stand twice. Laws take
+-- a condition as a premise: this one, and `IsLogName` of bm_lines. A message is read by a test:
+-- `is_session`, `is_log_name` of bm_msg. A test alone would stand in each law as an equation.
 abbrev pub IsKeepable : Option (List ℕ) → Type 0
 IsKeepable None = Unit {0}
 IsKeepable (Some session) = length session ≤ 64

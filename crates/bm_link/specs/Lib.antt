@@ -29,8 +29,8 @@ pub mod Received
 pub mod Working
 -- What is sent beside messages: pings, and close frames.
 pub mod Frames
--- Laws of what is kept for the next link, of what a fault leaves behind it, of messages with short
--- texts, and of sessions that nobody heard of.
+-- Laws of what is kept for the next link, and of what a fault leaves behind it. Laws of messages
+-- with short texts, and of sessions that nobody heard of.
 pub mod Laws
 pub mod LawsOfFaults
 pub mod LawsOfTexts

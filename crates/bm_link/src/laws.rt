@@ -1,5 +1,5 @@
-//! What a lane carries, what a fault leaves behind it, that short texts fit into a frame, and that a
-//! session which nobody heard of is not resumed, as contracts.
+//! Laws as contracts: what a lane carries, what a fault leaves behind it, and that short texts fit
+//! into a frame. A session which nobody heard of is not resumed.
 
 ghost use Rattle.bm_link.specs.Laws.{WorkersEventsKeep, OrdersAreAdded, SessionsBeginAnew};
 ghost use Rattle.bm_link.specs.LawsOfFaults.{AnswersOnlyWhatWasTaken, CutsWhereAllowed, LaneRefusesByItsTrace, TellsOnlyTheRefusal};
@@ -38,10 +38,10 @@ pub fn short_texts_fit()
     ensures logins { LoginsFit }
 {}
 
-/// A worker asks to resume one text, and names a fresh one in each login. Where it misses the
-/// answer `new`, or that was not sent, the lane keeps no session of the text that it asks for, and
-/// by none of its logins comes to. So each of them is answered `new`, until it hears one: the
-/// session that nobody heard of is never resumed.
+/// A worker asks to resume one text, and names a fresh one in each login. Say it misses the answer
+/// `new`, or that was not sent. Then the lane keeps no session of the text that it asks for, and
+/// comes to none by its logins. So each of them is answered `new`, until it hears one: the session
+/// that nobody heard of is never resumed.
 pub fn unheard_sessions_end<S: Write>()
     ensures new { NewIsAnother S.contents }
     ensures unsent { UnsentIsAnother S.contents }

@@ -9,7 +9,11 @@
 //!
 //! Promised: what each call sends, takes and keeps, and the causes of `BadMessage`, `BadLogin`,
 //! `Closed`, `Full` and `Lane` after the handshake. A body could still tell `Stream`, `Mem` or
-//! `Arena` without cause, or be always quiet: their causes are the ported crates' word.
+//! `Arena` without cause, or be always quiet: their causes are the ported crates' word. It could
+//! fail each start and cut its lane. Tests refuse these bodies (`link_tests`).
+//!
+//! Tests also show which bytes of a handshake are refused, and that an answer is one write. A
+//! close frame always turns `closed` true, and is answered.
 #![tactic(auto)]
 
 mod asks;

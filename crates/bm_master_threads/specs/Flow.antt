@@ -3,8 +3,8 @@ use Rattle.std.specs.Prelude.{Bool, true, false}
 use Rattle.bm_master_threads.specs.declared.coordinator_flow.NextWait.{NextWait}
 use Rattle.bm_master_threads.specs.declared.coordinator_flow.NextWait.TheVariants as wait
 
--- not at all while builds may be started, a tick while ticks count, a second while something is
--- told once one has passed, and else however long it takes
+-- not at all while builds may be started, a tick while ticks count, a second while something waits
+-- for it; else without an end
 abbrev pub next_wait : Bool → Bool → Bool → NextWait
 next_wait true timed counted = wait.Look
 next_wait false true counted = wait.Tick

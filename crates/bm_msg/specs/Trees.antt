@@ -89,8 +89,8 @@ abbrev pub next_session_key : Option (List ℕ) → List TreePair
 next_session_key None = []
 next_session_key (Some s) = at (codes "next_session") (str s) ∷ []
 
--- The tree of a login, which is request 0: that of the `auth`, and behind its keys the text that a
--- session is to have which begins by it.
+-- The tree of a login, which is request 0: that of the `auth`. Behind its keys stands the text that
+-- a session is to have which begins by it.
 abbrev pub login_tree : List ℕ → List ℕ → Option (List ℕ) → Option (List ℕ) → Tree
 login_tree username password session next =
     message_tree 0 (codes "auth")

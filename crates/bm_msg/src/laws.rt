@@ -21,7 +21,8 @@ pub fn written_is_read()
 {}
 
 /// A login without a next session is written as its `auth` alone. Whatever tree the bytes of a
-/// login spell is its `auth`, and names the next session that it named: each has 1 to 64 bytes.
+/// login spell is its `auth`. It names the next session that the login named: each has 1 to 64
+/// bytes.
 pub fn logins_are_read()
     ensures first { FirstLoginsStay }
     ensures read { LoginsAreRead }

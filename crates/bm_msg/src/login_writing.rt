@@ -74,9 +74,9 @@ fn login_pairs(
     Ok(keys)
 }
 
-/// The written form of a login, which is request 0 of its connection: the `auth` with the session
-/// that the worker asks to resume, and then the text that a session is to have which begins by
-/// it. Without the second it is the `auth` alone. What is written is read back, whatever follows.
+/// The written form of a login, which is request 0 of its connection. First comes the `auth` with
+/// the session that the worker asks to resume, then the text of a session that begins by it.
+/// Without the second it is the `auth` alone. What is written is read back, whatever follows.
 ///
 /// # Errors
 ///

@@ -4,7 +4,7 @@ ghost use Rattle.std.specs.Prelude.{◌≡◌, IfOk, string_bytes};
 ghost use Rattle.bm_operator.specs.Remark.{build_cancelled, build_ended, build_missing, build_started, build_unstarted, build_waits, log_number, step_ended, step_failed, step_refused, step_started, step_stopped};
 ghost use Rattle.bm_operator.specs.Told.{shaped};
 
-use crate::field::{Field, Shape, shaped};
+use crate::field::{RemarkField, Shape, shaped};
 use crate::log_id::LogId;
 use crate::reasons::{StartRefusal, StepLimit};
 use crate::step_at::StepAt;
@@ -18,7 +18,7 @@ pub(crate) fn build_missing(alloc: Global, shape: Shape, build: u64) -> Result<S
         alloc,
         shape,
         "build_not_there",
-        &[Field::Number("build ", "build", u128::from(build))],
+        &[RemarkField::Number("build ", "build", u128::from(build))],
         " is not there",
     )
 }
@@ -36,8 +36,8 @@ pub(crate) fn build_waits(
         shape,
         "build_waits",
         &[
-            Field::Number("build ", "build", u128::from(build)),
-            Field::Name(" waits for ", "worker", worker),
+            RemarkField::Number("build ", "build", u128::from(build)),
+            RemarkField::Name(" waits for ", "worker", worker),
         ],
         "",
     )
@@ -51,7 +51,7 @@ pub(crate) fn build_unstarted(alloc: Global, shape: Shape, build: u64) -> Result
         alloc,
         shape,
         "build_waits_for_thread",
-        &[Field::Number("build ", "build", u128::from(build))],
+        &[RemarkField::Number("build ", "build", u128::from(build))],
         " waits for a thread",
     )
 }
@@ -69,8 +69,8 @@ pub(crate) fn build_started(
         shape,
         "build_started",
         &[
-            Field::Number("build ", "build", u128::from(build)),
-            Field::Name(" started on ", "worker", worker),
+            RemarkField::Number("build ", "build", u128::from(build)),
+            RemarkField::Name(" started on ", "worker", worker),
         ],
         "",
     )
@@ -89,8 +89,8 @@ pub(crate) fn build_ended(
         shape,
         "build_ended",
         &[
-            Field::Number("build ", "build", u128::from(build)),
-            Field::Word(" ended ", "result", how.name()),
+            RemarkField::Number("build ", "build", u128::from(build)),
+            RemarkField::Word(" ended ", "result", how.name()),
         ],
         "",
     )
@@ -104,7 +104,7 @@ pub(crate) fn build_cancelled(alloc: Global, shape: Shape, build: u64) -> Result
         alloc,
         shape,
         "build_cancelled",
-        &[Field::Number("build ", "build", u128::from(build))],
+        &[RemarkField::Number("build ", "build", u128::from(build))],
         " to be cancelled",
     )
 }
@@ -123,10 +123,10 @@ pub(crate) fn step_started(
         shape,
         "step_started",
         &[
-            Field::Number("build ", "build", u128::from(build)),
-            Field::Number(" step started, log ", "log", log.number()),
-            Field::Member("place", step.place),
-            Field::Name(": ", "step", step.name),
+            RemarkField::Number("build ", "build", u128::from(build)),
+            RemarkField::Number(" step started, log ", "log", log.number()),
+            RemarkField::Member("place", step.place),
+            RemarkField::Name(": ", "step", step.name),
         ],
         "",
     )
@@ -146,10 +146,10 @@ pub(crate) fn step_refused(
         shape,
         "step_not_started",
         &[
-            Field::Number("build ", "build", u128::from(build)),
-            Field::Word(" step not started, ", "cause", why.text()),
-            Field::Member("place", step.place),
-            Field::Name(": ", "step", step.name),
+            RemarkField::Number("build ", "build", u128::from(build)),
+            RemarkField::Word(" step not started, ", "cause", why.text()),
+            RemarkField::Member("place", step.place),
+            RemarkField::Name(": ", "step", step.name),
         ],
         "",
     )
@@ -171,11 +171,11 @@ pub(crate) fn step_stopped(
         shape,
         "step_stopped",
         &[
-            Field::Number("build ", "build", u128::from(build)),
-            Field::Word(" step stopped, ", "cause", limit.text()),
-            Field::Number(", log ", "log", log.number()),
-            Field::Member("place", step.place),
-            Field::Name(": ", "step", step.name),
+            RemarkField::Number("build ", "build", u128::from(build)),
+            RemarkField::Word(" step stopped, ", "cause", limit.text()),
+            RemarkField::Number(", log ", "log", log.number()),
+            RemarkField::Member("place", step.place),
+            RemarkField::Name(": ", "step", step.name),
         ],
         "",
     )
@@ -198,12 +198,12 @@ pub(crate) fn step_failed<'a>(
         shape,
         "step_failed",
         &[
-            Field::Number("build ", "build", u128::from(build)),
-            Field::Name(" step failed on ", "worker", worker),
-            Field::Name(", ", "cause", said),
-            Field::Number(", log ", "log", log.number()),
-            Field::Member("place", step.place),
-            Field::Name(": ", "step", step.name),
+            RemarkField::Number("build ", "build", u128::from(build)),
+            RemarkField::Name(" step failed on ", "worker", worker),
+            RemarkField::Name(", ", "cause", said),
+            RemarkField::Number(", log ", "log", log.number()),
+            RemarkField::Member("place", step.place),
+            RemarkField::Name(": ", "step", step.name),
         ],
         "",
     )
@@ -224,11 +224,11 @@ pub(crate) fn step_ended(
         shape,
         "step_ended",
         &[
-            Field::Number("build ", "build", u128::from(build)),
-            Field::Word(" step ended ", "result", how.name()),
-            Field::Number(", log ", "log", log.number()),
-            Field::Member("place", step.place),
-            Field::Name(": ", "step", step.name),
+            RemarkField::Number("build ", "build", u128::from(build)),
+            RemarkField::Word(" step ended ", "result", how.name()),
+            RemarkField::Number(", log ", "log", log.number()),
+            RemarkField::Member("place", step.place),
+            RemarkField::Name(": ", "step", step.name),
         ],
         "",
     )

@@ -14,7 +14,7 @@ use std::net::SocketAddr;
 
 /// A field of a remark: the words before it in the line, its key in the object, and its value.
 #[derive(Clone, Copy)]
-pub(crate) enum Field<'a> {
+pub(crate) enum RemarkField<'a> {
     Number(&'a str, &'a str, u128),
     /// A text from outside, as a worker's name: `one_line` writes it in the line, JSON in the
     /// object.
@@ -39,7 +39,7 @@ pub(crate) fn shaped(
     alloc: Global,
     shape: Shape,
     kind: &str,
-    fields: &[Field<'_>],
+    fields: &[RemarkField<'_>],
     tail: &str,
 ) -> Result<String, AllocError>
     ensures { IfOk result (λ s. string_bytes s ≡ shaped shape record {
@@ -54,7 +54,7 @@ pub(crate) fn shaped(
     }
 }
 
-fn line_of(alloc: Global, fields: &[Field<'_>], tail: &str) -> Result<String, AllocError>
+fn line_of(alloc: Global, fields: &[RemarkField<'_>], tail: &str) -> Result<String, AllocError>
     ensures { IfOk result (λ s. string_bytes s
         ≡ flat_map field_text (fields_view fields.now) ++ (tail.now ++ 10 ∷ [])) }
 {
@@ -68,16 +68,16 @@ fn line_of(alloc: Global, fields: &[Field<'_>], tail: &str) -> Result<String, Al
 }
 
 // Appends a field as the line has it.
-fn push_text(alloc: Global, line: &mut String, field: &Field<'_>) -> Result<(), AllocError>
+fn push_text(alloc: Global, line: &mut String, field: &RemarkField<'_>) -> Result<(), AllocError>
     ensures { OnOk result (string_bytes line.new
         ≡ string_bytes line.old ++ field_text (field_view field.now)) }
 {
     match *field {
-        Field::Number(lead, _, number) => write!(line, "{lead}{number}"),
-        Field::Name(lead, _, name) => push_name(alloc, line, lead, name),
-        Field::Word(lead, _, word) => write!(line, "{lead}{word}"),
-        Field::Address(lead, _, address) => write!(line, "{lead}{address}"),
-        Field::Member(..) => Ok(()),
+        RemarkField::Number(lead, _, number) => write!(line, "{lead}{number}"),
+        RemarkField::Name(lead, _, name) => push_name(alloc, line, lead, name),
+        RemarkField::Word(lead, _, word) => write!(line, "{lead}{word}"),
+        RemarkField::Address(lead, _, address) => write!(line, "{lead}{address}"),
+        RemarkField::Member(..) => Ok(()),
     }
 }
 
@@ -92,7 +92,12 @@ fn push_name(alloc: Global, line: &mut String, lead: &str, name: &str) -> Result
 
 // The object of these fields. It is written field by field: a tree of values would sort its
 // members, and the kind would not stand first.
-fn object_of(alloc: Global, ms: u64, kind: &str, fields: &[Field<'_>]) -> Result<String, AllocError>
+fn object_of(
+    alloc: Global,
+    ms: u64,
+    kind: &str,
+    fields: &[RemarkField<'_>],
+) -> Result<String, AllocError>
     ensures { IfOk result (λ s. string_bytes s ≡ codes "{\"remark\":\"" ++ (kind.now
         ++ (codes "\",\"ms\":" ++ (decimal ms
         ++ (flat_map member_text (fields_view fields.now) ++ codes "}\n"))))) }
@@ -101,7 +106,7 @@ fn object_of(alloc: Global, ms: u64, kind: &str, fields: &[Field<'_>]) -> Result
     format!(in alloc; "{{\"remark\":\"{kind}\",\"ms\":{ms}{members}}}\n")
 }
 
-fn members_of(alloc: Global, fields: &[Field<'_>]) -> Result<String, AllocError>
+fn members_of(alloc: Global, fields: &[RemarkField<'_>]) -> Result<String, AllocError>
     ensures { IfOk result (λ s. string_bytes s ≡ flat_map member_text (fields_view fields.now)) }
 {
     let mut members = String::new(alloc);
@@ -112,17 +117,21 @@ fn members_of(alloc: Global, fields: &[Field<'_>]) -> Result<String, AllocError>
 }
 
 // Appends a field as the object has it.
-fn push_member(alloc: Global, members: &mut String, field: &Field<'_>) -> Result<(), AllocError>
+fn push_member(
+    alloc: Global,
+    members: &mut String,
+    field: &RemarkField<'_>,
+) -> Result<(), AllocError>
     ensures { OnOk result (string_bytes members.new
         ≡ string_bytes members.old ++ member_text (field_view field.now)) }
 {
     match *field {
-        Field::Number(_, key, number) => write!(members, ",\"{key}\":{number}"),
-        Field::Name(_, key, text) | Field::Word(_, key, text) => {
+        RemarkField::Number(_, key, number) => write!(members, ",\"{key}\":{number}"),
+        RemarkField::Name(_, key, text) | RemarkField::Word(_, key, text) => {
             push_quoted(alloc, members, key, text)
         }
-        Field::Address(_, key, address) => push_address(alloc, members, key, address),
-        Field::Member(key, number) => write!(members, ",\"{key}\":{number}"),
+        RemarkField::Address(_, key, address) => push_address(alloc, members, key, address),
+        RemarkField::Member(key, number) => write!(members, ",\"{key}\":{number}"),
     }
 }
 

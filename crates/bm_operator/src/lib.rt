@@ -3,13 +3,13 @@
 //! Written: the line `cancel I` ([`read_cancel`]) and the words of a latent worker's program
 //! ([`place_master`]). Read: standard output ([`OutputLine`]), standard error ([`Remark`], with its
 //! reasons, [`StepEvent`] and [`LogId`]) and the exit status. [`RateLimit`] says how many lines a
-//! second are let through, [`RefusalLimit`] which refused connections are told one by one, and
-//! [`WaitNotice`] when it is told that something waits.
+//! second are let through, and [`RefusalLimit`] which refused connections are told one by one.
+//! [`WaitNotice`] says when it is told that something waits.
 //!
-//! Promised: each text, byte for byte, each remark's object of JSON with the fields of its line, and
-//! that a name never ends a line or moves a cursor (`one_line`). A body could still want memory.
-//! `Remark::write` and `OutputLine::write` have no clause: a body could write another line there, and
-//! only tests would see it.
+//! Promised: each text, byte for byte, and each remark's object of JSON with the fields of its
+//! line. No name ends a line or moves a cursor (`one_line`). A body could still want memory.
+//! `Remark::write` and `OutputLine::write` have no clause: a body could write another line there,
+//! and only tests would see it.
 #![tactic(auto)]
 
 mod build_parts;

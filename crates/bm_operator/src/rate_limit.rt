@@ -60,8 +60,8 @@ impl RateLimit {
         }
     }
 
-    /// A thing happens in this second that is left out, however few there were: it is counted, up to
-    /// 2^64-1.
+    /// A thing happens in this second that is left out, however few there were: it is counted, up
+    /// to 2^64-1.
     pub fn leave_out(&mut self, second: u64)
         ensures { self.new ≡ left_out_after self.old second }
     {

@@ -4,7 +4,7 @@ ghost use Rattle.std.specs.Prelude.{◌≡◌, ◌==◌, if◌then◌else◌, If
 ghost use Rattle.bm_operator.specs.Remark.{connection_refused, counted, input_unknown, login_refused, misspelt_key, more_refused, not_told, paused, unknown_key};
 ghost use Rattle.bm_operator.specs.Told.{shaped};
 
-use crate::field::{Field, Shape, shaped};
+use crate::field::{RemarkField, Shape, shaped};
 use crate::reasons::LoginRefusal;
 use std::alloc::{AllocError, Global};
 use std::net::SocketAddr;
@@ -23,9 +23,9 @@ pub(crate) fn login_refused(
         shape,
         "login_refused",
         &[
-            Field::Word("login refused, ", "cause", why.text()),
-            Field::Address(", from ", "from", from),
-            Field::Name(": ", "name", name),
+            RemarkField::Word("login refused, ", "cause", why.text()),
+            RemarkField::Address(", from ", "from", from),
+            RemarkField::Name(": ", "name", name),
         ],
         "",
     )
@@ -44,8 +44,8 @@ pub(crate) fn connection_refused(
         shape,
         "connection_refused",
         &[
-            Field::Word("connection refused, ", "cause", why.text()),
-            Field::Address(", from ", "from", from),
+            RemarkField::Word("connection refused, ", "cause", why.text()),
+            RemarkField::Address(", from ", "from", from),
         ],
         "",
     )
@@ -58,7 +58,7 @@ pub(crate) fn more_refused(alloc: Global, shape: Shape, count: u64) -> Result<St
         alloc,
         shape,
         "more_connections_refused",
-        &[Field::Number("", "count", u128::from(count))],
+        &[RemarkField::Number("", "count", u128::from(count))],
         " more connections refused",
     )
 }
@@ -70,7 +70,7 @@ pub(crate) fn not_told(alloc: Global, shape: Shape, count: u64) -> Result<String
         alloc,
         shape,
         "remarks_not_told",
-        &[Field::Number("", "count", u128::from(count))],
+        &[RemarkField::Number("", "count", u128::from(count))],
         " remarks not told",
     )
 }
@@ -97,13 +97,13 @@ pub(crate) fn counted(
         shape,
         "configuration_read",
         &[
-            Field::Number("", "workers", u128::from(workers)),
-            Field::Number(
+            RemarkField::Number("", "workers", u128::from(workers)),
+            RemarkField::Number(
                 plural(workers, " worker, ", " workers, "),
                 "builds",
                 u128::from(builds),
             ),
-            Field::Number(
+            RemarkField::Number(
                 plural(builds, " build, ", " builds, "),
                 "steps",
                 u128::from(steps),
@@ -133,8 +133,8 @@ pub(crate) fn unknown_key<'a>(
         shape,
         "unknown_key",
         &[
-            Field::Name("", "where", place),
-            Field::Name(": unknown key \"", "key", key),
+            RemarkField::Name("", "where", place),
+            RemarkField::Name(": unknown key \"", "key", key),
         ],
         "\"",
     )
@@ -155,9 +155,9 @@ pub(crate) fn misspelt_key<'a>(
         shape,
         "unknown_key",
         &[
-            Field::Name("", "where", place),
-            Field::Name(": unknown key \"", "key", key),
-            Field::Name("\", near \"", "near", near),
+            RemarkField::Name("", "where", place),
+            RemarkField::Name(": unknown key \"", "key", key),
+            RemarkField::Name("\", near \"", "near", near),
         ],
         "\"",
     )

@@ -4,7 +4,7 @@ ghost use Rattle.std.specs.Prelude.{◌≡◌, IfOk, string_bytes};
 ghost use Rattle.bm_operator.specs.Remark.{dismissed, filled, logged_in, program_ended, program_failed, program_started, resumed, shut_down, worker_cut, worker_lost};
 ghost use Rattle.bm_operator.specs.Told.{shaped};
 
-use crate::field::{Field, Shape, shaped};
+use crate::field::{RemarkField, Shape, shaped};
 use crate::reasons::{LossCause, ProgramRefusal};
 use std::alloc::{AllocError, Global};
 
@@ -15,7 +15,7 @@ pub(crate) fn logged_in(alloc: Global, shape: Shape, worker: &str) -> Result<Str
         alloc,
         shape,
         "worker_logged_in",
-        &[Field::Name("worker ", "worker", worker)],
+        &[RemarkField::Name("worker ", "worker", worker)],
         " logged in",
     )
 }
@@ -27,7 +27,7 @@ pub(crate) fn resumed(alloc: Global, shape: Shape, worker: &str) -> Result<Strin
         alloc,
         shape,
         "worker_resumed",
-        &[Field::Name("worker ", "worker", worker)],
+        &[RemarkField::Name("worker ", "worker", worker)],
         " resumed",
     )
 }
@@ -45,8 +45,8 @@ pub(crate) fn worker_cut(
         shape,
         "worker_cut",
         &[
-            Field::Name("worker ", "worker", worker),
-            Field::Word(" cut, ", "cause", cause.text()),
+            RemarkField::Name("worker ", "worker", worker),
+            RemarkField::Word(" cut, ", "cause", cause.text()),
         ],
         "",
     )
@@ -66,8 +66,8 @@ pub(crate) fn worker_lost(
         shape,
         "worker_lost",
         &[
-            Field::Name("worker ", "worker", worker),
-            Field::Word(" lost, ", "cause", cause.text()),
+            RemarkField::Name("worker ", "worker", worker),
+            RemarkField::Word(" lost, ", "cause", cause.text()),
         ],
         "",
     )
@@ -81,7 +81,7 @@ pub(crate) fn dismissed(alloc: Global, shape: Shape, worker: &str) -> Result<Str
         alloc,
         shape,
         "worker_told_to_shut_down",
-        &[Field::Name("worker ", "worker", worker)],
+        &[RemarkField::Name("worker ", "worker", worker)],
         " told to shut down",
     )
 }
@@ -94,7 +94,7 @@ pub(crate) fn shut_down(alloc: Global, shape: Shape, worker: &str) -> Result<Str
         alloc,
         shape,
         "worker_shut_down",
-        &[Field::Name("worker ", "worker", worker)],
+        &[RemarkField::Name("worker ", "worker", worker)],
         " shut down",
     )
 }
@@ -107,7 +107,7 @@ pub(crate) fn filled(alloc: Global, shape: Shape, worker: &str) -> Result<String
         alloc,
         shape,
         "worker_full",
-        &[Field::Name("worker ", "worker", worker)],
+        &[RemarkField::Name("worker ", "worker", worker)],
         " full",
     )
 }
@@ -123,7 +123,7 @@ pub(crate) fn program_started(
         alloc,
         shape,
         "program_started",
-        &[Field::Name("program of ", "worker", worker)],
+        &[RemarkField::Name("program of ", "worker", worker)],
         " started",
     )
 }
@@ -141,8 +141,8 @@ pub(crate) fn program_failed(
         shape,
         "program_not_started",
         &[
-            Field::Name("program of ", "worker", worker),
-            Field::Word(" not started, ", "cause", why.text()),
+            RemarkField::Name("program of ", "worker", worker),
+            RemarkField::Word(" not started, ", "cause", why.text()),
         ],
         "",
     )
@@ -155,7 +155,7 @@ pub(crate) fn program_ended(alloc: Global, shape: Shape, worker: &str) -> Result
         alloc,
         shape,
         "program_ended",
-        &[Field::Name("program of ", "worker", worker)],
+        &[RemarkField::Name("program of ", "worker", worker)],
         " ended",
     )
 }

@@ -45,7 +45,7 @@ told_core (entry.Text k said) c = with_reports (text k said.letter said.text ∷
 told_core (entry.End k e) c = without_command k (with_reports (reports_of k (finish_of e)) c)
 
 -- telling an item: its command runs, the window has the places, and its requests have the next
--- numbers; or the window lacks the places, or its command runs no more, and nothing changed
+-- numbers. Or nothing changed, since the window lacks the places or its command runs no more.
 abbrev pub Tells : OutboxEntry → Core → Result Progress AllocError → Core → Type 0
 Tells i c (Ok (progress.Text s)) c2 =
     (refusal c (command_of i) (length (reports_in i)) ≡ None)

@@ -3,8 +3,8 @@ use Rattle.std.specs.Prelude.{ℕ, ◌+◌, ◌-◌, ◌*◌, min, nat_lt, Bool,
 use Rattle.bm_outbox.specs.declared.tries.ConnectFault.{ConnectFault}
 use Rattle.bm_outbox.specs.declared.tries.ConnectFault.TheVariants as fault
 
--- the tries in a row, when the last of them began, the pause before its next connect, whether a login
--- was answered, and when that of the connection that stands was
+-- the tries in a row, when the last of them began, and the pause before its next connect. Whether a
+-- login was answered, and when that of the connection that stands was.
 pub record TriesState : Type 0 where
   pub made : ℕ
   pub begun_ms : ℕ

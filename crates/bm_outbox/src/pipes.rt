@@ -96,8 +96,8 @@ impl Pipes {
     }
 }
 
-/// An exit code that may be told of a command: its pipes give it once both have come to their ends,
-/// or are waited for no more, and nothing else does.
+/// An exit code that may be told of a command. Its pipes alone give it, once both have come to
+/// their ends or are waited for no more.
 #[derive(Clone, Copy)]
 pub struct ExitCode {
     command: u64,

@@ -101,9 +101,9 @@ impl Tries {
     /// A try ends with its share of the time, or by a login that is refused. Before a login was
     /// answered each connect is a try. The pauses of a try grow from 10 milliseconds to a second.
     /// Where a connection is lost that lasted for a try's share behind the answer to its login, the
-    /// count starts afresh. So no number of cuts ends a worker that hears no message since it has no
-    /// builds. One that was answered and dropped at once is part of its try, so that a master that
-    /// does so is not called without end.
+    /// count starts afresh. So no number of cuts ends a worker that hears no message since it has
+    /// no builds. One that was answered and dropped at once is part of its try. So a master that
+    /// does that isn't called for ever.
     pub fn again(&mut self, why: ConnectFault, now_ms: u64) -> Option<u64>
         ensures pause { result ≡ pause_before why now_ms (after_connection now_ms self.old) }
         ensures tries { self.new ≡ after_fault why now_ms (after_connection now_ms self.old) }

@@ -21,8 +21,8 @@ nothing_passed = record { sent = []; arrived = 0; answered = [] }
 abbrev pub sending : List ℕ → Passage → Passage
 sending ns l = record { sent = l.sent ++ ns; arrived = l.arrived; answered = l.answered }
 
--- of len requests the first h were taken: what was sent is first some of these, up to the turn,
--- then the others in order
+-- of len requests the first h were taken: first some of these were sent, up to the turn, then the
+-- others in order
 pub record IsInOrder (h len : ℕ) (l : Passage) : Type 0 where
   pub turn : ℕ
   pub few : l.arrived ≤ turn

@@ -1,5 +1,5 @@
--- Why a worker can say nothing of a command with a number of 2^63 or more: no tree is the message
--- of such a request.
+-- Why a worker can say nothing of a command with a number of 2^63 or more: such a request has no
+-- tree.
 use Rattle.std.proofs.Common.{◌<◌, ◌^◌, Some, None, arith}
 use Rattle.std.specs.Prelude.{codes, pos}
 use Rattle.bm_lines.specs.declared.letter.Letter.TheVariants.{O}

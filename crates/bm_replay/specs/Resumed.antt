@@ -3,10 +3,10 @@
 --
 -- Two things they take for granted of the world. The worker's core is never restarted inside a
 -- session: each connection that resumes meets the core that the last one had. And no session is
--- resumed of whose `new` the worker didn't hear, so its core is new from the Up of the session on
+-- resumed of whose `new` the worker didn't hear. So its core is new from the Up of the session on
 -- that it resumes. A worker that names a fresh next session in each login but its first has that by
--- `bm_link`'s `unheard_sessions_end`. For another one it says that no cut drops the answer `new`
--- to the `auth` that follows a giving up. What an old core says until it hears `new` counts as said
+-- `bm_link`'s `unheard_sessions_end`. For another one it says that no cut drops the answer `new` to
+-- the `auth` that follows a giving up. What an old core says until it hears `new` counts as said
 -- before that Up. A session that nobody heard of is an Up and a Down without requests between.
 use Rattle.std.specs.Prelude.{ℕ, ◌+◌, Bool, true, false, ◌==◌, not, ◌&&◌, nat_lt, List, [], ◌∷◌, ◌++◌, length, take, Option, Some, None, if◌then◌else◌, option_map, unwrap_or, slice_get, fold, filter_map}
 use Rattle.std.specs.List.{list_any}
@@ -52,9 +52,9 @@ abbrev pub is_possible : Linked → Happening → Bool
 -- a connection keeps the order
 is_possible x (Do (Deliver n)) = is_next x.link n
 is_possible x (Do a) = is_allowed x.scene a
--- only what the lane took over this connection is answered over it. A cut may lose answers: one
+-- only what the lane took over this connection is answered over it. A cut may lose answers. One
 -- that lies in the worker's socket already is learned after the cut too, and none once another
--- connection began
+-- connection began.
 is_possible x (Learn n) = list_any (λ (s : Sent). s.seq == n) (take x.link.arrived x.link.sent)
 
 -- What follows

@@ -6,35 +6,35 @@
 //! schedule. Of each part of a schedule the list has who supplies it, and what stays the
 //! transport's.
 //!
-//! - *Each step of the lane is a step of the interleaving*: `bm_lane`'s clauses on the reader's
-//!   end: every event goes through it (`with_event`), and no other call of a link touches the lane.
-//! - *The event that is delivered is that of the request's bytes (`as_heard`)*: `Comes`, with the
-//!   law `bytes_are_the_event`.
+//! - *Each step of the lane is a step of the interleaving.* By `bm_lane`'s clauses on the reader's
+//!   end every event goes through it (`with_event`). No other call of a link touches the lane.
+//! - *The event that is delivered is that of the request's bytes (`as_heard`).* That is `Comes`,
+//!   with the law `bytes_are_the_event`.
 //! - *None is passed over: a request that reaches the lane is the next of those sent, or one that
-//!   was taken*: `Turned`: a binary message is taken, waits (and is then the next), or the link has
-//!   failed and adds nothing but the lane's end.
+//!   was taken.* By `Turned` a binary message is taken, or waits and is then the next. Or the link
+//!   has failed, and adds nothing but the lane's end.
 //! - *The worker's requests are sent in the order of their numbers, and after a cut the unanswered
-//!   ones first*: `SendsAt`: exactly the bytes of the request that `bm_work` made; in which order
-//!   they are handed to it is `bm_worker_session`'s (`SendsNext`, `BeginsBy`, `InStep`).
-//! - *A request is answered only once the trace took it, and an answer reaches the worker over the
-//!   connection that brought the request*: Heard: the lane took the event, and the link that read
-//!   it sent the answer's bytes. After a fault an answer to what a read gave, or a beginning, left
-//!   only for an event that the lane took. That is `Takes` and the law `faults_leave_no_more`.
-//! - *A command runs once, in the session in which its start was taken, and not after a refusal*:
-//!   `Starts`: an order leaves only where the lane took its Go, with that order's and that
-//!   command's numbers. `Worked`: the core heard exactly the message that was read. That a number
+//!   ones first.* By `SendsAt` exactly the bytes of the request leave that `bm_work` made. In which
+//!   order they are handed to it is `bm_worker_session`'s (`SendsNext`, `BeginsBy`, `InStep`).
+//! - *A request is answered only once the trace took it, over the connection that brought it.* By
+//!   `Heard` the lane took the event, and the link that read it sent the answer's bytes. After a
+//!   fault an answer to what a read gave, or a beginning, left only for an event that the lane
+//!   took. That is `Takes` and the law `faults_leave_no_more`.
+//! - *A command runs once, in the session in which its start was taken, and not after a refusal.*
+//!   By `Starts` an order leaves only where the lane took its Go, with that order's and that
+//!   command's numbers. By `Worked` the core heard exactly the message that was read. That a number
 //!   runs once is `bm_work`'s (`heard`).
-//! - *A response is the one to the order that was heard*: Heard at the worker: the bytes of the
-//!   core's response were sent; `Comes` at the master, as for a request.
-//! - *A session is new, or goes on, at both ends alike*: `Attaches` writes how it took the lane up
-//!   (`login_bytes`), `Greets` reads it; what the worker then forgets or sends again is
+//! - *A response is the one to the order that was heard.* By the worker's `Heard` the bytes of the
+//!   core's response were sent. At the master it is `Comes`, as for a request.
+//! - *A session is new, or goes on, at both ends alike.* `Attaches` writes how it took the lane up
+//!   (`login_bytes`), and `Greets` reads it. What the worker then forgets or sends again is
 //!   `bm_outbox`'s (`Begins`).
-//! - *After a cut the unanswered orders are given again under their numbers*: `Attaches` sends what
-//!   is carried, which a `LaneState` keeps to be what is pending (`carries_what_is_pending`).
-//! - *A cut loses only what is on its way*: the transport's, and that a failed link's socket isn't
-//!   used again: every call of a failed link answers `Closed`.
-//! - *What is read is what the other end wrote, in order*: the transport's (TCP and the operating
-//!   system); `tungstenite`'s `Reads` and `Writes` say which bytes a message is.
+//! - *After a cut the unanswered orders are given again under their numbers.* `Attaches` sends what
+//!   is carried. A `LaneState` keeps that to be what is pending (`carries_what_is_pending`).
+//! - *A cut loses only what is on its way.* That is the transport's. A failed link's socket isn't
+//!   used again, since every call of that link answers `Closed`.
+//! - *What is read is what the other end wrote, in order.* That is the transport's (TCP and the
+//!   operating system). `tungstenite`'s `Reads` and `Writes` say which bytes a message is.
 
 ghost use Rattle.bm_replay.specs.Wire.{BytesAreRead, BytesAreTheEvent};
 ghost use Rattle.bm_replay.specs.Laws.{SaidIsLogged, AllSaidIsLogged, OtherLogsAreEmpty};

@@ -6,7 +6,8 @@
 //!
 //! A body could still take one script line for another, and answer it in other words. What is read
 //! of a line and what is written for it is only tested. A definition of it would write the table of
-//! texts once more.
+//! texts once more. Inside the crate `read_hex`, `read_event`, `read_up_to` and `cut_line` have
+//! clauses.
 #![tactic(auto)]
 
 mod answers;

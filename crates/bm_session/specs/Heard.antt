@@ -11,8 +11,8 @@ use Rattle.bm_session.specs.declared.event.Body.TheVariants.{Auth, Update, Compl
 use Rattle.bm_session.specs.declared.event.Event.{Event}
 use Rattle.bm_session.specs.declared.event.Event.TheVariants.{In}
 
--- a login, an update by the lines and the exit code that it carries, or a complete; what only a
--- master asks is no operation
+-- a login, a complete, or an update by the lines and the exit code that it carries; what only a
+-- master asks is none
 abbrev pub body_of : Asked → Body
 body_of (auth username password session) = Auth
 body_of (update command fields) = Update command (carried fields) (last_rc fields)

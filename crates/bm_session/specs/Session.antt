@@ -34,8 +34,8 @@ needed Cut = 2
 needed _ = 3
 
 -- the plan is for this session as it is: the event is accepted, and the plan says what the trace
--- says. It need not be of the session that made it: one whose trace answers and accepts the event
--- alike, and that has the room, may commit it without harm.
+-- says. Another session than the one that made it may commit it without harm. The trace of that one
+-- answers and accepts the event alike, and it has the room.
 pub record IsPlanFor (s : SessionState) (p : Planned) : Type 0 where
   pub accepted : refusal s.trace p.event ≡ None
   pub answered : p.sent ≡ reply s.trace p.event

@@ -72,8 +72,8 @@ with_told k r o =
 abbrev pub ends_as : Open → Bool → Results
 ends_as o fault = if o.stopped then Cancelled else if fault then Exception else o.told
 
--- how a command ended, where its own end is kept, if it had one: without one it is open, or its
--- session was given up
+-- how a command ended, by its own end where it had one: without one it is open, or its session was
+-- given up
 abbrev pub outcome_from : Option Results → Bool → Option Results
 outcome_from (Some r) is_open = Some r
 outcome_from None true = None

@@ -132,9 +132,9 @@ impl Session {
         self.table.outcome(command)
     }
 
-    /// The numbers of the requests that the session had, with the first verdicts, as sorted ranges
-    /// of which no two overlap or could be one. While the session is neither up nor cut there are
-    /// none.
+    /// The numbers of the requests that the session had, with the first verdicts. They are sorted
+    /// ranges, of which no two overlap or could be one. While the session is neither up nor cut
+    /// there are none.
     pub fn seen(&self) -> &[Seen]
         ensures holds { HoldsSeen result.now self.now.trace }
         ensures none { (up_of self.now.trace || cut_of self.now.trace) ≡ false → result.now ≡ [] }

@@ -167,8 +167,8 @@ impl Book {
         }
     }
 
-    /// A portion of the content of these lines: behind its first `skip` bytes, `most` bytes at
-    /// most, and up to the end of a character. `Mem` also where `skip` lies inside of one.
+    /// A portion of the content of these lines, behind its first `skip` bytes. It has `most` bytes
+    /// at most, and goes up to the end of a character. `Mem` also where `skip` lies inside of one.
     pub fn portion(
         &self,
         k: u64,

@@ -118,8 +118,8 @@ FailsRow (rows.Array s) bytes f inside = inside 1 s
 FailsRow (rows.Map s) bytes f inside = inside 2 s
 
 -- The first fault from the left is f, where arrays and maps may nest so deep. Inside one of them,
--- the first values are spelled by trees that nest no deeper, and the next value, of those that are
--- counted, fails.
+-- the first values are spelled by trees that nest no deeper. The next of the values that are
+-- counted fails.
 abbrev pub FailsWithin : ℕ → List ℕ → DecodeError → Type 0
 FailsWithin zero [] f = f ≡ Truncated
 FailsWithin zero (b ∷ bytes) f = FailsRow (row b) bytes f (λ each s. f ≡ TooDeep)

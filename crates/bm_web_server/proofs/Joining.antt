@@ -35,8 +35,8 @@ same-pieces [] (m ∷ ms) h = absurd h
 same-pieces (p ∷ ps) [] h = absurd h
 same-pieces (p ∷ ps) (m ∷ ms) h = let first = h.0 in let rest = same-pieces ps ms h.1 in cc
 
--- what a server of `hyper` wrote for a request, where a body may follow: all of the text that the
--- body of the response tells
+-- what a server of `hyper` wrote for a request, where a body may follow: all of the text that this
+-- body tells
 module _ {S R F B E : Type 0} (w : Words S R F B (List ℕ) PieceError E) (text : B → List ℕ)
     (tells : (b : B) (xs : List (Result (Frame (List ℕ)) PieceError)) (last : Option (Result (Frame (List ℕ)) PieceError)) → w.yields b xs last → Tells (text b) xs last)
     (service : S) (head : Asked.Parts) (written : Whole Parts) where

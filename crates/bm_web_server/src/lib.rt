@@ -11,6 +11,9 @@
 //! The pieces of a long answer that is told to its end are its text, joined.
 //!
 //! A body could still close a connection early, serve nobody, or keep no limit: tests show these.
+//! They show that no answer waits for an acknowledgement, and that readers of long logs take turns.
+//! A client that closes its side gets the whole answer. Inside the crate the service of a
+//! connection has clauses.
 #![tactic(auto)]
 
 mod admission;

@@ -25,8 +25,8 @@ pub struct LogService<Y: Yard> {
     // A lock for each lane: whoever holds it may take the lane's viewer.
     // One lock for whole looks would have each lane's readers wait for those of all others.
     turns: Vec<Mutex<()>>,
-    // Held for a moment alone. What a lock guards is known by its type, and that each viewer is of
-    // its place's lane is a fact of all of them. So all lie under one lock.
+    // Held for a moment alone. What a lock guards is known by its type. That each viewer is of its
+    // place's lane is a fact of all of them, so all lie under one lock.
     viewers: Mutex<LaneViewers<Y>>,
     ghost some: { 0 < lanes },
 }

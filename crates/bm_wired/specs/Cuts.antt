@@ -160,8 +160,8 @@ CutsAreLogged =
     → Goes (apart id capacity resumable) ss x
     → IsPrefix (log x.wired.lane.trace k stdio) (said x.told k)
 
--- It is all of that, and viewers see it, for a command of the lane's session, where that is the
--- session of the worker's core, nothing is unanswered, and all is shown.
+-- Take a command of the lane's session, which is that of the worker's core. It is all of that, and
+-- viewers see it, where nothing is unanswered and all is shown.
 abbrev pub AllIsLogged : Type 0
 AllIsLogged =
     (id capacity : ℕ) (resumable : Bool) (ss : List Step) (x : Joined) (k : ℕ)

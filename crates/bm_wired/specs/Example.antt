@@ -44,8 +44,8 @@ up_to_answering = Turn ∷ []
 abbrev pub up_to_looking : List Move
 up_to_looking = Listen ∷ Drain ∷ Drain ∷ Look ∷ []
 
--- What a look of a viewer that saw what is shown finds of the first line of the log of command 0: a
--- chunk of it, or none where that log isn't there (`GivesChunk` of bm_lane).
+-- What a look finds of the first line of the log of command 0, by a viewer that saw what is shown.
+-- It is a chunk, or none where that log isn't there (`GivesChunk` of bm_lane).
 abbrev pub first_seen : Wired → Option Chunk
 first_seen w = lines_of_book (take w.shown w.lane.put) 0 stdio 0 1
 

@@ -1,5 +1,5 @@
--- Messages are read back as they were meant: by a worker those of its master, and by a lane and its
--- link those of the worker.
+-- Messages are read back as they were meant: by a worker its master's, and by a lane and its link
+-- the worker's.
 use Rattle.std.specs.Prelude.{◌≡◌, ◌<◌, ◌^◌, ℕ, List, [], ◌∷◌, length, codes, nat_le, false, Option, Some, None, is_some, if◌then◌else◌}
 use Rattle.std.specs.FinMap.{get}
 use Rattle.std.specs.Str.{IsUtf8}
@@ -182,8 +182,8 @@ pub record AreEvent (bytes : List ℕ) (e : Event) : Type 0 where
   pub is : IsEventOf bytes e
   pub alone : (other : Event) → IsEventOf bytes other → other ≡ e
 
--- what request n reports: the lines of a text in the log stdio, an exit code, or the end of a
--- command and whether it went wrong
+-- what request n reports: lines of the log stdio, an exit code, or a command's end and whether it
+-- went wrong
 abbrev pub event_of_report : ℕ → Report → Event
 event_of_report n (text k letter t) = In n (Update k (with_item stdio (lines_of letter t) []) None)
 event_of_report n (code k z) = In n (Update k [] (Some z))

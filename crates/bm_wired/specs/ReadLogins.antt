@@ -15,8 +15,8 @@ abbrev pub IsNameable : Option (List ℕ) → Type 0
 IsNameable None = Unit {0}
 IsNameable (Some session) = IsUtf8 session × (1 ≤ length session) × (length session ≤ 64)
 
--- The bytes of a login are read as a login. Whatever login a master reads in them, it is request 0,
--- with this name and password, this session to resume, and this text for a new one.
+-- The bytes of a login are read as a login. Whatever login a master reads in them, it is request 0.
+-- It has this name and password, this session to resume, and this text for a new one.
 abbrev pub LoginsAreRead : Type 0
 LoginsAreRead =
     (name password : List ℕ) (session next : Option (List ℕ))

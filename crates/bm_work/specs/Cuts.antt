@@ -1,4 +1,6 @@
--- A pipe's bytes, cut into texts: after each line end, and after 16,384 bytes of a line.
+-- A pipe's bytes, cut into texts: after each line end, and after 16,384 bytes of a line. So a line
+-- of exactly 16,384 bytes and its `\n` are two texts. Each text is decoded by itself. U+FFFD stands
+-- for bytes that are not UTF-8, as Unicode's maximal subparts have it.
 use Rattle.std.specs.Prelude.{ℕ, ◌+◌, ◌==◌, Bool, ◌||◌, List, [], ◌∷◌, ◌++◌, length, map, Option, Some, None, option_map, if◌then◌else◌}
 use Rattle.std.specs.Str.Lossy.{utf8_lossy}
 

@@ -2,7 +2,7 @@
 use Rattle.std.specs.Prelude.{◌≡◌, ℕ, ◌+◌, List, ◌++◌, length}
 use Rattle.bm_work.specs.Stream.{Report, stream_from, said}
 
--- What is said later follows with the next numbers: so the requests of all calls of a session, one
+-- What is said later follows with the next numbers. So the requests of all calls of a session, one
 -- after the other, are its stream.
 abbrev pub StreamsJoin : Type 0
 StreamsJoin =

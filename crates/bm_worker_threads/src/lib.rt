@@ -1,14 +1,17 @@
 //! What a build worker does around its session: processes of commands, and a thread for each of
 //! their pipes and for its connection. One mailbox tells it of all of them.
 //!
-//! What is decided of commands is `bm_commands`: here its effects are carried out, and what is told
-//! is put into the session's outbox, which `bm_worker_session` sends. Promised: what the machine
-//! tells next is what waits next, of the command that it names, and a command begins with the line
-//! of its words.
+//! `bm_commands` decides about commands. Here its effects are carried out, and what is told is put
+//! into the session's outbox, which `bm_worker_session` sends.
 //!
-//! A body could still leave mail lying, read no pipe, count its time wrongly, leave an effect
-//! undone, end nothing that a command started, or never come back. A thread, a pipe, a process and
-//! a script have no contract: the tests of `worker_tests` and of the programs stand in for that.
+//! Promised: what the machine tells next is what waits next, of the command that it names. A
+//! command begins with the line of its words. Tests show public calls, but for their safety.
+//! `Processes::turn` and `new_session` have clauses that no caller sees.
+//!
+//! A body could still leave mail lying, read no pipe, count its time wrongly, or leave an effect
+//! undone. It could end nothing that a command started, or never come back. Threads, pipes,
+//! processes and scripts have no contract: `worker_tests` and the tests of the programs stand in
+//! for that.
 #![tactic(auto)]
 
 mod arguments;

@@ -3,7 +3,7 @@
 ghost use Rattle.bm_world.specs.Laws.{VisibleLogsGrow, DrainedLogsAreWhole, LooksNeverShrink};
 ghost use Rattle.bm_world.specs.Laws.{RefusalsAreNotMemory};
 
-/// What viewers see of a log is a prefix of what they see after more drains; once everything is
+/// What viewers see of a log is a prefix of what they see after more drains. Once everything is
 /// drained it is the whole log.
 pub fn visible_logs_grow()
     ensures grows { VisibleLogsGrow }

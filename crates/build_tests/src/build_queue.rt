@@ -94,8 +94,8 @@ fn is_alone<Y: Yard>(queue: &mut BuildQueue<Y>) -> bool {
         && queue.cancel(0) == Cancelled::Running
 }
 
-/// Whether a build that is reported keeps its slot, so that no other one starts until it is released,
-/// and gives it back then.
+/// Whether a build that is reported keeps its slot, so that no other one starts until it is
+/// released, and gives it back then.
 fn is_released<Y: Yard>(
     queue: &mut BuildQueue<Y>,
     number: u64,

@@ -1,4 +1,4 @@
--- The states that the callers of a session ask for are met: each event was taken where it came, and
+-- The states that the callers of a session ask for are met. Each event was taken where it came, and
 -- the completed command has ended.
 use Rattle.std.specs.Prelude.{◌≡◌, ◌∷◌, [], true, Some, refl}
 use Rattle.bm_session.specs.declared.event.Event.TheVariants.{Up, Go, Down}

@@ -39,8 +39,8 @@ pub fn busy_lane_keeps_its_link<S: Read + Write + Drop, Y: Yard, R: Wait>(
     link.turn(rt, alloc, arena, reader, resume_state)
 }
 
-/// An event that a turn calls noted was taken by the lane: the one that waited, or else that of the
-/// message which was read.
+/// An event that a turn calls noted was taken by the lane. It is the one that waited, or else that
+/// of the message which was read.
 pub fn noted_event_was_taken<S: Read + Write + Drop, Y: Yard, R: Wait>(
     link: &mut MasterLink<S>,
     rt: &R,
@@ -120,8 +120,8 @@ pub fn failed_link_hears_nothing<S: Read + Write + Drop, Y: Yard, R: Wait>(
     }
 }
 
-/// A turn that fails cuts the lane, behind the event that it took at most, where the session's text
-/// is kept and no message was bad.
+/// A turn that fails cuts the lane, behind the event that it took at most. This holds where the
+/// session's text is kept and no message was bad.
 pub fn session_is_cut_after_a_fault<S: Read + Write + Drop, Y: Yard, R: Wait>(
     link: &mut MasterLink<S>,
     rt: &R,
@@ -213,8 +213,8 @@ pub fn order_is_kept_as_it_was_sent<S: Read + Write + Drop, Y: Yard, R: Wait>(
     link.interrupt(rt, alloc, reader, resume_state, command)
 }
 
-/// An order that a link gave is sent again by the next one, under its number and by its bytes. It is
-/// behind all orders before it. That is so where the login resumes the session.
+/// An order that a link gave is sent again by the next one, under its number and by its bytes. It
+/// is behind all orders before it. That is so where the login resumes the session.
 pub fn order_is_sent_again<S: Read + Write + Drop, Y: Yard, R: Wait>(
     link: &mut MasterLink<S>,
     next: &mut MasterLink<S>,

@@ -9,8 +9,8 @@ use bm_session::Results;
 use std::alloc::Global;
 use std::process::Abort;
 
-/// An event of a worker, whether it takes builds then, what is done with its process, and whether
-/// the builds that wait are given up.
+/// An event of a worker, and whether it takes builds then. What is done with its process, and
+/// whether the builds that wait are given up.
 type Row = (WorkerEvent, bool, ProcessAction, bool);
 
 /// Whether what is done at the row's event is that of the row.

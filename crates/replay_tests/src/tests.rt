@@ -1,5 +1,5 @@
-//! Replays whose input comes in pieces, fails or is refused. What the lines of a script are answered
-//! is data: `tests/replay`.
+//! Replays whose input comes in pieces, fails or is refused. What the lines of a script are
+//! answered is data: `tests/replay`.
 
 ghost use Rattle.std.specs.Prelude.{◌≤◌};
 

@@ -40,8 +40,8 @@ fn new_step(alloc: Global, script: Script) -> Result<Step, AllocError> {
     }
 }
 
-/// What is seen of a world: how many events were taken, how command 0 ended, and the lines of its
-/// log `stdio` that viewers see.
+/// What is seen of a world: how many events were taken, and how command 0 ended. And the lines of
+/// its log `stdio` that viewers see.
 #[derive(Drop)]
 struct Seen {
     events: usize,

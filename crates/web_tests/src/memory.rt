@@ -40,8 +40,8 @@ impl Outcome {
 /// How many lines a log has, and how it ended.
 type State = (u64, Option<Results>);
 
-/// What is seen of the first viewer's lane without memory: the logs of its two commands, and how
-/// many items the viewer has seen then.
+/// What is seen of the first viewer's lane without memory: the logs of its two commands, and the
+/// viewer's count of items.
 #[derive(Clone, Copy, PartialEq)]
 pub struct Look {
     states: [Option<State>; 3],

@@ -22,8 +22,8 @@ fn a_handshake_comes_in_pieces(rt: HostRuntime) {
 /// So often a handshake is read that comes byte by byte. Then it is taken for an attack.
 pub(crate) const MOST_READS: u32 = 65;
 
-/// Where a handshake comes byte by byte, a stream that fails is told at each read, and behind the
-/// last of them the handshake is a bad one.
+/// Where a handshake comes byte by byte, a stream that fails is told at each read. Behind the last
+/// of them the handshake is a bad one.
 #[test]
 fn a_handshake_of_single_bytes_fails_at_each_read(rt: HostRuntime) {
     for reads in 0..=MOST_READS {

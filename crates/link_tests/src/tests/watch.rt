@@ -42,7 +42,7 @@ pub(crate) struct Step {
     pub is_late: bool,
 }
 
-/// What was answered so far: as it should be until the stream came to its end, then that, and then
+/// What was answered so far: as it should be until the stream came to its end. Then that, and then
 /// that the link is closed.
 #[derive(Clone, Copy)]
 pub(crate) struct Watch {

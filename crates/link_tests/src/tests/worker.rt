@@ -139,7 +139,7 @@ fn fault_over(alloc: Global, stream: Script) -> Option<LinkFault> {
 }
 
 /// Where the answer to a worker's handshake comes byte by byte, a stream that fails is told at each
-/// call: its request is written and flushed, and then the answer is read. Behind the last of these
+/// call. Its request is written and flushed, and then the answer is read. Behind the last of these
 /// reads it is a bad one.
 #[test]
 fn an_agreement_of_single_bytes_fails_at_each_call(rt: HostRuntime) {
@@ -272,8 +272,8 @@ pub(super) struct Answered {
     pub attached: Attached,
 }
 
-/// Whether a worker that asks for the session `s`, and names this next one, sends this login, and
-/// takes the answer as what it tells.
+/// Whether a worker that asks for the session `s`, and names this next one, sends this login. And
+/// whether it takes the answer as what it tells.
 pub(super) fn logs_in_by(
     alloc: Global,
     next: Option<&str>,

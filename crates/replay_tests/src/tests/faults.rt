@@ -173,8 +173,8 @@ fn input_that_is_too_long_answers_nothing(rt: HostRuntime) {
     assert!(rt; replay(rt.alloc(), 4, Endless).is(1, "", ""));
 }
 
-/// What is read of a comment of so many bytes and a line `up`, three bytes with the line end, where
-/// `most` bytes may come.
+/// What is read of a comment of so many bytes and a line `up`, where `most` bytes may come. The
+/// line has three bytes with its end.
 fn commented(alloc: Global, left: usize, most: usize) -> io::Result<Vec<u8>> {
     let end: &[u8] = b"\nup";
     read_up_to(most, alloc, &mut Comments { left }.chain(end))
@@ -214,8 +214,8 @@ fn input_with_a_byte_too_many_is_refused(rt: HostRuntime) {
     }
 }
 
-/// The status of a replay of 13 bytes of answers where the output has room for so many, or none
-/// where a fault is told.
+/// The status of a replay of 13 bytes of answers where the output has room for so many. None where
+/// a fault is told.
 fn status_in_room(alloc: Global, room: usize) -> Option<u8> {
     let input: &[u8] = b"up\ngo\n";
     let mut faults = Vec::new(alloc);

@@ -123,7 +123,7 @@ fn lanes_settle_with_their_own_ends(rt: HostRuntime) -> Result<(), Fail> {
     Ok(())
 }
 
-// Whether the ends of the first lane are known as its own, and are not with an end of the other or
+// Whether the ends of the first lane are known as its own. They are not with an end of the other or
 // without a viewer.
 fn are_apart<Y: Yard, W: Wait + Drop>(one: &Ends<Y, W>, two: &Ends<Y, W>) -> bool {
     let (ours, theirs) = (one.viewers.as_slice(), two.viewers.as_slice());

@@ -21,7 +21,7 @@ struct Told {
     refused: u64,
 }
 
-/// A gate with one answer for each lane, which counts what it is asked, and what it is told of the
+/// A gate with one answer for each lane. It counts what it is asked, and what it is told of the
 /// lanes that it lets.
 #[derive(Drop)]
 struct Always {

@@ -75,7 +75,7 @@ fn may_want(order: Order) -> bool {
     !matches!(order, Order::Cut | Order::Down)
 }
 
-// Gives the order. After want of memory the lane is as before, and the same call is made again:
+// Gives the order. After want of memory the lane is as before, and the same call is made again.
 // `hear` in its place would hide a call that always wants memory.
 fn give<Y: Yard, R: Wait>(
     rt: &R,

@@ -122,8 +122,8 @@ fn refused_end_is_a_fault_and_nothing_else_is_lost(rt: HostRuntime) {
     assert!(rt; outcome == Outcome::Ended);
 }
 
-/// Whether the end of a command is told behind its text and the line that says why, by a second
-/// call where memory was wanting. Nothing of it waits before.
+/// Whether the end of a command is told behind its text and the line that says why. Where memory
+/// was wanting, a second call tells it. Nothing of it waits before.
 fn is_interrupted(alloc: Global, worker: &mut Worker, outbox: &mut Outbox) -> bool {
     pushes_again(alloc, outbox)
         && (stops(alloc, outbox) || stops(alloc, outbox))

@@ -16,8 +16,8 @@ const CLOSING: &[u8] = b"\x88\x80\0\0\0\0";
 /// The pong that answers that ping.
 const PONG: &[u8] = b"\x8a\x01a";
 
-/// A ping between the pieces of an update is a turn of its own, and its pong goes out before the
-/// answer to the update.
+/// A ping between the pieces of an update is a turn of its own. Its pong goes out before the answer
+/// to the update.
 #[test]
 fn a_ping_between_pieces_is_answered(rt: HostRuntime) {
     static ROWS: [Row; 8] = [

@@ -303,7 +303,8 @@ impl LinkedWorker {
 /// What the second link reads behind its handshake.
 static SECOND: [&[u8]; 6] = [RESUMED, ORDER, ANSWER, ANSWER_ONE, ANSWER_TWO, ANSWER_THREE];
 
-/// Whether this is the message in the frame at the place, whose first six bytes are the frame's own.
+/// Whether this is the message in the frame at the place, whose first six bytes are the frame's
+/// own.
 fn is_request(sent: &Sent, place: usize) -> bool {
     match REQUESTS.get(place) {
         Some(frame) => { frame.get(6..) == Some(sent.bytes.as_slice()) && sent.seq == place as u64 }

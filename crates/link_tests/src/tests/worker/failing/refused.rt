@@ -40,7 +40,7 @@ impl LinkedWorker {
 }
 
 /// Whether the acts come to their end. Where a request for memory is refused, what came before it
-/// is right, the link is closed after it, and the core has lost nothing. Then the acts are done
+/// is right. The link is closed after it, and the core has lost nothing. Then the acts are done
 /// once more.
 fn is_played_or_ended(alloc: Global, login: &Login) -> bool {
     match refused_right(seen(alloc, login, End::Refused)) {
