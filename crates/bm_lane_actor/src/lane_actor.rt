@@ -59,6 +59,8 @@ pub(crate) struct LaneActor<'a, Y: Yard, T, R: Wait + Clock + Drop> {
     pub(crate) stops: StopOrders,
     /// The ticks of a lane that is cut, from the cut on.
     pub(crate) ticks: Option<TickCounter>,
+    /// Where it waits.
+    pub(crate) mailbox: Mailbox<WorkerStream<R>>,
 }
 
 /// An arena for a lane's messages.
@@ -68,12 +70,12 @@ fn arena_of(alloc: Global) -> Bump {
     arena
 }
 
-/// Serves a lane until it gets the signal `Leave`. It waits at the mailbox alone. It obeys each
-/// request, and hears the worker once the signal `Readable` says that a read may give something. It
-/// asks a silent one for a sign of life, and counts ticks while the lane is cut. After each event
-/// it wakes the gate. What happens to the lane it tells before it takes or answers a request after
-/// that. With timed reads between, each order would wait for a read, and each idle lane would wake
-/// often.
+/// Serves a lane until it gets the signal `Leave`. It waits in one place, where its mailbox and its
+/// worker's connections wake it. It obeys each request, and hears the worker once a read may give
+/// something. It asks a silent one for a sign of life, and counts ticks while the lane is cut.
+/// After each event it wakes the gate. What happens to the lane it tells before it takes or answers
+/// a request after that. With timed reads between, each order would wait for a read, and each idle
+/// lane would wake often.
 ///
 /// Then the mailbox is shut, and a login that waits is told `busy`. The worker is told by a close
 /// frame, the session is given up, and the lane's end comes back.
@@ -81,7 +83,7 @@ pub fn serve_lane<Y, T, R>(
     rt: &R,
     alloc: Global,
     state: LaneState<Y, WorkerStream<R>>,
-    mailbox: &Mailbox<WorkerStream<R>>,
+    mailbox: Mailbox<WorkerStream<R>>,
     gate: &DrainGate<R>,
     events: T,
 ) -> ReaderEnd<Y>
@@ -89,7 +91,7 @@ where
     Y: Yard,
     T: EventSink + Drop,
     R: Wait + Clock + Drop,
-    requires { state.lane.lane ≡ mailbox.now }
+    requires { state.lane.lane ≡ mailbox }
 {
     let mut actor = LaneActor {
         rt,
@@ -106,13 +108,14 @@ where
         reads: ReadWatch::new(),
         stops: StopOrders::new(alloc),
         ticks: None,
+        mailbox,
     };
     for _ in rt.forever() {
-        if !actor.goes_on(mailbox) {
+        if !actor.goes_on() {
             break;
         }
     }
-    mailbox.shut();
+    actor.mailbox.shut();
     actor.follows(LaneInput::PutOff);
     actor.leave()
 }
@@ -124,20 +127,29 @@ where
     R: Wait + Clock + Drop,
 {
     /// Waits at the mailbox, and does what comes. False once it is told to leave.
-    fn goes_on(&mut self, mailbox: &Mailbox<WorkerStream<R>>) -> bool {
-        if mailbox.takes(LaneSignal::Leave) {
+    fn goes_on(&mut self) -> bool {
+        if self.mailbox.takes(LaneSignal::Leave) {
             return false;
         }
-        self.takes_signals(mailbox);
+        self.takes_signals();
         self.watch();
         self.send_stop();
         let awaited = self.state.awaited(self.reads.may_give());
         self.count_ticks(awaited);
         let next = match awaited {
-            Awaited::Request | Awaited::Glance => mailbox.wait_for(self.rt, self.glance()),
-            Awaited::Message => mailbox.look(self.rt),
-            Awaited::Tick => mailbox.wait_for(self.rt, Duration::from_millis(TICK_MS)),
+            Awaited::Request | Awaited::Glance => {
+                let most = self.glance();
+                self.mailbox.wait_for(self.rt, most)
+            }
+            Awaited::Message => self.mailbox.look(self.rt),
+            Awaited::Tick => {
+                let most = Duration::from_millis(TICK_MS);
+                self.mailbox.wait_for(self.rt, most)
+            }
         };
+        if self.mailbox.has_arrival() {
+            self.reads.told();
+        }
         self.takes(next)
     }
 
@@ -166,17 +178,14 @@ where
     }
 
     /// Signals come before each request that lies in the mailbox.
-    fn takes_signals(&mut self, mailbox: &Mailbox<WorkerStream<R>>) {
-        if mailbox.takes(LaneSignal::Readable) {
-            self.reads.told();
-        }
-        if mailbox.takes(LaneSignal::ShutDown) {
+    fn takes_signals(&mut self) {
+        if self.mailbox.takes(LaneSignal::ShutDown) {
             self.follows(LaneInput::ShutDown);
             self.state.shut_down(self.alloc);
             self.reads.told();
             self.expire();
         }
-        if mailbox.takes(LaneSignal::Ended) {
+        if self.mailbox.takes(LaneSignal::Ended) {
             let is_up = self.is_up();
             self.follows(LaneInput::Ended { is_up });
             self.state.dismiss();
@@ -213,7 +222,6 @@ where
                 self.follows(LaneInput::PutOff);
                 let _ = answer.send(self.rt, ());
             }
-            LaneRequest::Look => {}
         }
     }
 
@@ -250,7 +258,7 @@ where
         }
     }
 
-    /// Whether a read of the link gives nothing until `Readable` comes.
+    /// Whether a read of the link gives nothing until something comes.
     fn is_drained(&self) -> bool {
         match self.state.stream() {
             Some(stream) => stream.is_drained(),

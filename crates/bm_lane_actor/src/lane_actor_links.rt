@@ -7,7 +7,7 @@ use crate::lane_policy::{LaneActs, LaneInput, LinkAct, SecondAct};
 use crate::stream::WorkerStream;
 use bm_lane::Yard;
 use bm_latent::millis;
-use bm_link::{Attached, MasterLink};
+use bm_link::{Attached, LinkFault, MasterLink};
 use bm_operator::LossCause;
 use std::sync::Wait;
 use std::time::Clock;
@@ -107,8 +107,16 @@ where
         self.does(acts);
     }
 
-    /// A link comes. Where the lane is up it is looked first whether that still holds.
+    /// A link comes. Where the lane is up it is looked first whether that still holds. One whose
+    /// arrivals the system doesn't tell is let go.
     pub(crate) fn attach(&mut self, link: MasterLink<WorkerStream<R>>) {
+        let stream = link.get_ref();
+        if self.mailbox.watch(stream.connection()).is_err() {
+            let from = stream.from();
+            return self
+                .events
+                .tell(LaneEvent::Declined(LinkFault::Stream, from));
+        }
         if self.is_up() {
             self.turn();
             self.watch();

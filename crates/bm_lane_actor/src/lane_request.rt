@@ -38,15 +38,11 @@ pub enum LaneRequest<S> {
     Settle(Sender<(), Global>),
     /// The master ends: tell a login that waits `busy`, and answer.
     PutOff(Sender<(), Global>),
-    /// Nothing: it wakes the actor, which looks at its signals first.
-    Look,
 }
 
 /// What a lane's actor is told before the messages in its mailbox. Who tells it never waits.
 #[derive(Clone, Copy, PartialEq, Eq)]
 pub enum LaneSignal {
-    /// A read of a connection of the lane's worker won't wait, or may have ended.
-    Readable,
     /// Ask the worker to shut down: from then on its session isn't resumed.
     ShutDown,
     /// The worker's process has ended: its session isn't resumed.

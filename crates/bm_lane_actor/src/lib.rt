@@ -2,10 +2,10 @@
 //!
 //! A lane has one actor, in a thread of its own ([`serve_lane`]), which alone calls the lane's
 //! link. Requests and links come to it by a [`Mailbox`], and it answers each until it is told to
-//! leave. It waits at its mailbox alone: who waits for all sockets tells it of arrivals. [`log_in`]
-//! brings a new connection there, [`LanePort`] a build. [`DrainGate`] lets the pool of writers
-//! sleep, and calls builds. What an actor decides is in [`LaneState`] and [`LanePolicy`], what a
-//! port decides in `CancelPolicy` and [`StepMeter`].
+//! leave. It waits in one place for its mailbox and for its worker's connections. [`log_in`] brings
+//! a new connection there, [`LanePort`] a build. [`DrainGate`] lets the pool of writers sleep, and
+//! calls builds. What an actor decides is in [`LaneState`] and [`LanePolicy`], what a port decides
+//! in `CancelPolicy` and [`StepMeter`].
 //!
 //! Promised: what each call of it does to lane, link and timers, and that the orders without an
 //! answer are those sent again. The loops round it have no clauses: a body could still wait too
@@ -17,6 +17,7 @@
 //! `orders::start`, `answer_start`.
 #![tactic(auto)]
 
+mod arrivals;
 mod byte_count;
 mod cancel_policy;
 mod connection_state;

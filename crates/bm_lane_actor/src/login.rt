@@ -133,7 +133,7 @@ where
         return Err(LinkFault::Closed);
     };
     let stream = worker.link.get_ref();
-    if stream.set_logged_in(worker.place).is_err() {
+    if stream.set_logged_in().is_err() {
         return Err(LinkFault::Stream);
     }
     hand_over(rt, alloc, handle, users, worker, refused)

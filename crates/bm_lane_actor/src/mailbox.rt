@@ -3,12 +3,18 @@
 ghost use Rattle.std.specs.Prelude.{◌≡◌, ◌==◌, false, All, IfOk, IfSome, IfNone};
 ghost use Rattle.bm_session.specs.Trace.{below};
 
+use crate::arrivals::{Arrivals, open_arrivals};
 use crate::lane_request::{LaneRequest, LaneSignal};
 use bm_latent::TICK_MS;
 use bm_link::MasterLink;
-use crossbeam_channel::{Receiver, RecvTimeoutError, SendTimeoutError, Sender, bounded};
+use crossbeam_channel::{
+    Receiver, RecvTimeoutError, SendTimeoutError, Sender, TryRecvError, bounded,
+};
+use mio::Waker;
 use std::alloc::{AllocError, Global};
+use std::io;
 use std::marker::Model;
+use std::net::{Net, TcpStream};
 use std::sync::atomic::{AtomicBool, Ordering};
 use std::sync::{Arc, Wait};
 use std::time::{Clock, Duration};
@@ -22,7 +28,6 @@ const ATTACH_MS: u64 = 1_000;
 /// Which signals were given, and not taken.
 #[derive(Drop)]
 struct SignalFlags {
-    readable: AtomicBool,
     shut_down: AtomicBool,
     ended: AtomicBool,
     leave: AtomicBool,
@@ -31,7 +36,6 @@ struct SignalFlags {
 impl SignalFlags {
     fn new() -> SignalFlags {
         SignalFlags {
-            readable: AtomicBool::new(false),
             shut_down: AtomicBool::new(false),
             ended: AtomicBool::new(false),
             leave: AtomicBool::new(false),
@@ -40,7 +44,6 @@ impl SignalFlags {
 
     fn flag(&self, signal: LaneSignal) -> &AtomicBool {
         match signal {
-            LaneSignal::Readable => &self.readable,
             LaneSignal::ShutDown => &self.shut_down,
             LaneSignal::Ended => &self.ended,
             LaneSignal::Leave => &self.leave,
@@ -66,6 +69,7 @@ pub struct LaneHandle<S> {
     signals: Arc<SignalFlags, Global>,
     /// Set once the actor has left.
     is_shut: Arc<AtomicBool, Global>,
+    waker: Arc<Waker, Global>,
 }
 
 impl<S> Model for LaneHandle<S> {
@@ -83,6 +87,7 @@ pub struct Mailbox<S> {
     receiver: Receiver<LaneRequest<S>, Global>,
     signals: Arc<SignalFlags, Global>,
     is_shut: Arc<AtomicBool, Global>,
+    arrivals: Arrivals,
 }
 
 impl<S> Model for Mailbox<S> {
@@ -93,30 +98,34 @@ impl<S> Model for Mailbox<S> {
     ghost view = { λ m. m.lane };
 }
 
-/// The mailbox of a lane's actor, by both its ends.
-pub fn open_mailbox<S: Drop>(
+/// The mailbox of a lane's actor, by both its ends. None where descriptors or memory are wanting.
+pub fn open_mailbox<S: Drop, N: Net>(
+    rt: &N,
     alloc: Global,
     lane: u64,
-) -> Result<(LaneHandle<S>, Mailbox<S>), AllocError>
-    ensures handle { IfOk result (λ ends. ends.0 ≡ lane) }
-    ensures mailbox { IfOk result (λ ends. ends.1 ≡ lane) }
+) -> Option<(LaneHandle<S>, Mailbox<S>)>
+    ensures handle { IfSome result (λ ends. ends.0 ≡ lane) }
+    ensures mailbox { IfSome result (λ ends. ends.1 ≡ lane) }
 {
-    let (sender, receiver) = bounded(alloc, MOST_REQUESTS)?;
-    let is_shut = Arc::new(alloc, AtomicBool::new(false))?;
-    let signals = Arc::new(alloc, SignalFlags::new())?;
+    let (arrivals, waker) = open_arrivals(rt, alloc)?;
+    let (sender, receiver) = bounded(alloc, MOST_REQUESTS).ok()?;
+    let is_shut = Arc::new(alloc, AtomicBool::new(false)).ok()?;
+    let signals = Arc::new(alloc, SignalFlags::new()).ok()?;
     let handle = LaneHandle {
         lane,
         sender,
-        signals: Arc::try_clone(&signals)?,
-        is_shut: Arc::try_clone(&is_shut)?,
+        signals: Arc::try_clone(&signals).ok()?,
+        is_shut: Arc::try_clone(&is_shut).ok()?,
+        waker: Arc::new(alloc, waker).ok()?,
     };
     let mailbox = Mailbox {
         lane,
         receiver,
         signals,
         is_shut,
+        arrivals,
     };
-    Ok((handle, mailbox))
+    Some((handle, mailbox))
 }
 
 /// The mailboxes of lane 0, lane 1 and so on, by both their ends.
@@ -126,19 +135,19 @@ pub struct Mailboxes<S: Drop> {
     pub mailboxes: Vec<Mailbox<S>>,
 }
 
-/// The mailboxes of so many lanes.
-pub fn open_mailboxes<S: Drop>(alloc: Global, lanes: usize) -> Result<Mailboxes<S>, AllocError>
-    ensures handles { IfOk result (λ all. all.handles.items ≡ below lanes) }
-    ensures mailboxes { IfOk result (λ all. all.mailboxes.items ≡ below lanes) }
+/// The mailboxes of so many lanes. None where descriptors or memory are wanting.
+pub fn open_mailboxes<S: Drop, N: Net>(rt: &N, alloc: Global, lanes: usize) -> Option<Mailboxes<S>>
+    ensures handles { IfSome result (λ all. all.handles.items ≡ below lanes) }
+    ensures mailboxes { IfSome result (λ all. all.mailboxes.items ≡ below lanes) }
 {
     let mut handles = Vec::new(alloc);
     let mut mailboxes = Vec::new(alloc);
     for lane in 0..lanes {
-        let (handle, mailbox) = open_mailbox(alloc, lane as u64)?;
-        handles.push(handle)?;
-        mailboxes.push(mailbox)?;
+        let (handle, mailbox) = open_mailbox(rt, alloc, lane as u64)?;
+        handles.push(handle).ok()?;
+        mailboxes.push(mailbox).ok()?;
     }
-    Ok(Mailboxes { handles, mailboxes })
+    Some(Mailboxes { handles, mailboxes })
 }
 
 /// The handle of the lane of this number. None where there is none.
@@ -159,6 +168,7 @@ impl<S: Drop> LaneHandle<S> {
             sender: self.sender.clone()?,
             signals: Arc::try_clone(&self.signals)?,
             is_shut: Arc::try_clone(&self.is_shut)?,
+            waker: Arc::try_clone(&self.waker)?,
         })
     }
 
@@ -172,7 +182,16 @@ impl<S: Drop> LaneHandle<S> {
     /// Sends the actor a request, once its mailbox has room. It answers false where the actor has
     /// left.
     pub fn tell<R: Wait>(&self, rt: &R, request: LaneRequest<S>) -> bool {
-        !self.is_shut() && self.sender.send(rt, request).is_ok()
+        if self.is_shut() || self.sender.send(rt, request).is_err() {
+            return false;
+        }
+        self.wake();
+        true
+    }
+
+    /// Wakes the actor, or has its next wait end at once.
+    fn wake(&self) {
+        let _ = self.waker.wake();
     }
 
     /// Hands the actor a link that has logged in. It comes back where the mailbox has no room for
@@ -186,7 +205,10 @@ impl<S: Drop> LaneHandle<S> {
             .sender
             .send_timeout(rt, LaneRequest::Attach(link), most)
         {
-            Ok(()) => HandOver::Taken,
+            Ok(()) => {
+                self.wake();
+                HandOver::Taken
+            }
             Err(SendTimeoutError::Timeout(LaneRequest::Attach(link))) => HandOver::Back(link),
             Err(_) => HandOver::Left,
         }
@@ -194,9 +216,9 @@ impl<S: Drop> LaneHandle<S> {
 
     /// Gives the actor a signal, and doesn't wait for it. Where the mailbox is full the actor looks
     /// at it all the same, after its next request. One that it has yet to take wakes it once.
-    pub fn signal<R: Wait>(&self, rt: &R, signal: LaneSignal) {
+    pub fn signal(&self, signal: LaneSignal) {
         if !self.signals.flag(signal).swap(true, Ordering::SeqCst) {
-            let _ = self.sender.try_send(rt, LaneRequest::Look);
+            self.wake();
         }
     }
 
@@ -249,20 +271,37 @@ impl<S: Drop> Mailbox<S> {
         self.signals.flag(signal).swap(false, Ordering::SeqCst)
     }
 
-    /// The next request, if it comes within this time.
-    pub(crate) fn wait_for<R: Wait + Clock>(&self, rt: &R, most: Duration) -> NextRequest<S> {
-        match self.receiver.recv_timeout(rt, most) {
-            Ok(request) => NextRequest::Request(request),
-            Err(RecvTimeoutError::Timeout) => NextRequest::Nothing,
-            Err(RecvTimeoutError::Disconnected) => NextRequest::Left,
+    /// From now on a wait ends by what comes on this connection, or by its end.
+    ///
+    /// # Errors
+    ///
+    /// The system refuses, and nothing has changed.
+    pub(crate) fn watch(&self, stream: &TcpStream) -> io::Result<()> {
+        self.arrivals.watch(stream)
+    }
+
+    /// Whether something came on a connection of the lane's worker, or may have. It is told once.
+    pub(crate) fn has_arrival(&mut self) -> bool {
+        self.arrivals.take()
+    }
+
+    /// The next request, if there is one within this time. The wait ends early where a signal is
+    /// given, or something comes on a connection.
+    pub(crate) fn wait_for<R: Wait + Clock>(&mut self, rt: &R, most: Duration) -> NextRequest<S> {
+        match self.look(rt) {
+            NextRequest::Nothing => {}
+            next => return next,
         }
+        self.arrivals.wait(rt, most);
+        self.look(rt)
     }
 
     /// The next request, if there is one.
     pub(crate) fn look<R: Wait>(&self, rt: &R) -> NextRequest<S> {
         match self.receiver.try_recv(rt) {
             Ok(request) => NextRequest::Request(request),
-            Err(_) => NextRequest::Nothing,
+            Err(TryRecvError::Empty) => NextRequest::Nothing,
+            Err(TryRecvError::Disconnected) => NextRequest::Left,
         }
     }
 }

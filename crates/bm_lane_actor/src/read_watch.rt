@@ -1,7 +1,7 @@
 //! Whether a read of a lane's link may give something, of which nobody is told any more.
 
 ghost use Rattle.std.specs.Prelude.{◌≡◌, true, false};
-ghost use Rattle.bm_lane_actor.specs.ReadWatch.{goes_on, is_drained, is_told_after};
+ghost use Rattle.bm_lane_actor.specs.ReadWatch.{goes_on, is_drained};
 
 use bm_link::{LinkFault, Turn};
 use std::marker::Model;
@@ -11,7 +11,7 @@ use std::marker::Model;
 pub(crate) enum LastRead {
     /// Bytes, or the stream's end.
     Gave,
-    /// The connection had nothing, or has failed: whoever waits is told of what comes from then on.
+    /// The connection had nothing, or has failed: the actor is woken by what comes from then on.
     MetNothing,
     /// Nothing was read: the time for that was over.
     NotMade,
@@ -27,23 +27,9 @@ pub(crate) fn is_drained(last: LastRead) -> bool
     }
 }
 
-/// Whether arrivals are told to whoever waits for all sockets, behind a read and that of before.
-/// They are told from a read that met nothing on, since the actor may sleep then. Two reads in a
-/// row that gave something show an actor that doesn't sleep: telling it would only wake the other
-/// thread.
-pub(crate) fn is_told_after(before: LastRead, last: LastRead, is_told: bool) -> bool
-    ensures { result ≡ is_told_after before last is_told }
-{
-    match (before, last) {
-        (_, LastRead::MetNothing) => true,
-        (LastRead::Gave, LastRead::Gave) => false,
-        _ => is_told,
-    }
-}
-
 /// Whether a read of the link may give something. An arrival is told once, and not again before all
 /// of it was read. So it is over only with a turn by whose last read the connection had nothing.
-/// Told for as long as something is there, each socket would be put off and on at each turn.
+/// Told for as long as something is there, no wait for room in the lane would last.
 #[derive(Drop)]
 pub(crate) struct ReadWatch {
     may_give: bool,

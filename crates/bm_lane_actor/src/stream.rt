@@ -3,13 +3,10 @@
 ghost use Rattle.std.specs.Io.{WritesAtMost};
 
 use crate::pending_login::PendingLogin;
-use crate::read_watch::{LastRead, is_drained, is_told_after};
-use mio::unix::SourceFd;
-use mio::{Interest, Registry, Token};
+use crate::read_watch::{LastRead, is_drained};
 use std::alloc::Global;
 use std::io::{ErrorKind, Read, Write};
 use std::net::{SocketAddr, TcpStream};
-use std::os::fd::AsRawFd;
 use std::sync::atomic::{AtomicBool, AtomicU64, Ordering};
 use std::sync::{Arc, Wait};
 use std::time::{Clock, Duration, Instant};
@@ -61,11 +58,6 @@ pub struct WorkerStream<R> {
     /// Whether its place was given to another one before it logged in.
     pending: Arc<PendingLogin, Global>,
     is_logged_in: AtomicBool,
-    /// Where its arrivals are told once it has logged in, and under which lane's number.
-    sockets: Arc<Registry, Global>,
-    lane: AtomicU64,
-    /// Whether they are told there.
-    is_told: AtomicBool,
     /// How many reads gave something. Any byte is a sign of life: a pong may wait behind a long
     /// message.
     heard: AtomicU64,
@@ -91,12 +83,11 @@ fn meets_nothing(kind: ErrorKind) -> bool {
 
 impl<R: Clock> WorkerStream<R> {
     /// A connection from this address, whose time for the login begins. It ends with what sets the
-    /// flag. Its arrivals are told at `sockets` once it has logged in.
+    /// flag.
     pub fn new(
         rt: R,
         stream: TcpStream,
         from: SocketAddr,
-        sockets: Arc<Registry, Global>,
         is_over: Arc<AtomicBool, Global>,
         pending: Arc<PendingLogin, Global>,
     ) -> WorkerStream<R> {
@@ -111,9 +102,6 @@ impl<R: Clock> WorkerStream<R> {
             login_ends,
             pending,
             is_logged_in: AtomicBool::new(false),
-            sockets,
-            lane: AtomicU64::new(0),
-            is_told: AtomicBool::new(false),
             heard: AtomicU64::new(0),
             is_given_up: AtomicBool::new(false),
             last_read: LastRead::NotMade,
@@ -129,43 +117,16 @@ impl<R: Clock> WorkerStream<R> {
     }
 
     /// The worker has logged in: the time for that no longer counts, and from now on no call waits
-    /// in the system. Whoever waits at the registry is told of each arrival, under the number of
-    /// the worker's lane.
-    pub(crate) fn set_logged_in(&self, lane: usize) -> io::Result<()> {
+    /// in the system.
+    pub(crate) fn set_logged_in(&self) -> io::Result<()> {
         self.stream.set_nonblocking(true)?;
-        self.lane.store(lane as u64, Ordering::SeqCst);
         self.is_logged_in.store(true, Ordering::SeqCst);
-        self.tell_arrivals(true)
-    }
-
-    /// Has its arrivals told at the registry from now on, or no more.
-    fn tell_arrivals(&self, is_told: bool) -> io::Result<()> {
-        let fd = self.stream.as_raw_fd();
-        let mut source = SourceFd(&fd);
-        if is_told {
-            let lane = Token(self.lane.load(Ordering::SeqCst) as usize);
-            self.sockets
-                .register(&mut source, lane, Interest::READABLE)?;
-        } else {
-            self.sockets.deregister(&mut source)?;
-        }
-        self.is_told.store(is_told, Ordering::SeqCst);
         Ok(())
     }
 
-    /// Notes what a read came to, behind that of before.
-    ///
-    /// # Errors
-    ///
-    /// The registry refuses to tell arrivals, or to tell none: it goes on as it did.
-    fn notes(&mut self, before: LastRead, last: LastRead) -> io::Result<()> {
-        self.last_read = last;
-        let was_told = self.is_told.load(Ordering::SeqCst);
-        let is_told = is_told_after(before, last, was_told);
-        if is_told == was_told || !self.is_logged_in() {
-            return Ok(());
-        }
-        self.tell_arrivals(is_told)
+    /// What an actor waits at.
+    pub(crate) fn connection(&self) -> &TcpStream {
+        &self.stream
     }
 
     /// A count that grows with what comes from the worker.
@@ -311,7 +272,6 @@ impl<R: Wait + Clock> WorkerStream<R> {
 impl<R: Clock> Read for WorkerStream<R> {
     fn read(&mut self, buf: &mut [u8]) -> io::Result<usize> {
         self.spent = Duration::from_secs(0);
-        let before = self.last_read;
         self.last_read = LastRead::NotMade;
         for _ in 0..MOST_READS {
             if self.is_ended() {
@@ -323,13 +283,13 @@ impl<R: Clock> Read for WorkerStream<R> {
             match self.stream.read(buf) {
                 Ok(count) => {
                     self.has_heard();
-                    let _ = self.notes(before, LastRead::Gave);
+                    self.last_read = LastRead::Gave;
                     return Ok(count);
                 }
                 Err(error) if self.reads_again(error.kind()) => {}
                 Err(error) => {
                     self.turn_began = None;
-                    self.notes(before, LastRead::MetNothing)?;
+                    self.last_read = LastRead::MetNothing;
                     return Err(error);
                 }
             }

@@ -1,11 +1,11 @@
-//! New connections of workers, and what comes on those that have logged in.
+//! New connections of workers, up to their logins.
 ghost use Rattle.std.specs.Thread.{IsSend, IsSync};
 
 use crate::events::{MasterEvent, RefusedConnection};
 use crate::shared_state::SharedState;
 use crate::sockets::{LISTENER, SocketEvents};
 use bm_lane::Yard;
-use bm_lane_actor::{LOGIN_MS, LaneSignal, PendingLogin, WorkerStream, log_in, refusal_in};
+use bm_lane_actor::{LOGIN_MS, PendingLogin, WorkerStream, log_in, refusal_in};
 use bm_operator::LoginRefusal;
 use std::net::{SocketAddr, TcpListener, TcpStream};
 use std::sync::atomic::Ordering;
@@ -74,16 +74,15 @@ where
     };
     let number = pending.number();
     let own = Arc::try_clone(&pending).ok();
-    let sockets = Arc::try_clone(&shared.sockets.connections).ok();
     let is_over = Arc::try_clone(&shared.is_over).ok();
-    let (Some(own), Some(sockets), Some(is_over)) = (own, sockets, is_over) else {
+    let (Some(own), Some(is_over)) = (own, is_over) else {
         shared.logins.leave(rt, number);
         return refuse(shared, from, LoginRefusal::Memory);
     };
     // Before the time for the login begins, so that one which ran out is told as that, however late
     // its thread starts.
     let began = Instant::now(rt).ok();
-    let stream = WorkerStream::new(*rt, stream, from, sockets, is_over, own);
+    let stream = WorkerStream::new(*rt, stream, from, is_over, own);
     let thread = scope.spawn(move || {
         let stream = stream;
         welcome(shared, stream, from, began, &pending);
@@ -126,23 +125,16 @@ where
     unreachable!()
 }
 
-// Tells each lane on whose connections something came. True where connections wait to be accepted.
-fn tell_lanes<Y: Yard, R: Wait + Clock + Drop>(
-    shared: &SharedState<Y, R>,
-    sockets: &SocketEvents,
-) -> bool {
+// Whether connections wait to be accepted.
+fn has_connections(sockets: &SocketEvents) -> bool {
     let mut has_come = false;
     for event in sockets.events.iter() {
-        let place = event.token().0;
-        if let Some(lane) = shared.lanes.get(place) {
-            lane.signal(&shared.rt, LaneSignal::Readable);
-        }
-        has_come = has_come || place == LISTENER;
+        has_come = has_come || event.token().0 == LISTENER;
     }
     has_come
 }
 
-// Accepts connections and tells the lanes of arrivals, until the master ends.
+// Accepts connections until the master ends.
 fn serve_sockets<'s, E, Y, R>(
     scope: &Scope<'s, E>,
     shared: &'s SharedState<Y, R>,
@@ -164,15 +156,13 @@ where
         if sockets.poll.poll(&mut sockets.events, most).is_err() {
             thread::sleep(&shared.rt, pause);
         }
-        let has_come = tell_lanes(shared, &sockets);
-        if has_come || is_paused {
+        if has_connections(&sockets) || is_paused {
             is_paused = accept_all(scope, shared, listener, is_paused);
         }
     }
 }
 
-/// Accepts connections, and tells the lanes what comes on them, until the master ends. Then those
-/// that have not logged in end too.
+/// Accepts connections until the master ends. Then those that have not logged in end too.
 pub fn accept_connections<Y, R>(
     shared: &SharedState<Y, R>,
     listener: TcpListener,

@@ -94,7 +94,7 @@ where
     // Has the worker told to shut down.
     fn dismiss(&self, at: usize) {
         if let Some(lane) = self.shared.lanes.get(at) {
-            lane.signal(&self.shared.rt, LaneSignal::ShutDown);
+            lane.signal(LaneSignal::ShutDown);
             let name = self.name(at);
             self.remark(&Remark::Dismissed { worker: name });
         }
@@ -112,7 +112,7 @@ where
         let name = self.name(at);
         self.remark(&Remark::ProgramEnded { worker: name });
         if let Some(lane) = self.shared.lanes.get(at) {
-            lane.signal(&self.shared.rt, LaneSignal::Ended);
+            lane.signal(LaneSignal::Ended);
         }
         self.hears(at, WorkerInput::Ended);
     }

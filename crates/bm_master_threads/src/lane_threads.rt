@@ -47,7 +47,7 @@ where
     let lane = state.lane() as usize;
     let reporter = LaneReporter { rt, events, lane };
     scope
-        .spawn(move || serve_lane(rt, alloc, state, &mailbox, gate, reporter))
+        .spawn(move || serve_lane(rt, alloc, state, mailbox, gate, reporter))
         .ok()
 }
 
@@ -137,13 +137,13 @@ impl<Y: Yard> LaneThreads<Y> {
         let mut readers = room;
         shared.is_over.store(true, Ordering::SeqCst);
         for lane in shared.lanes.iter() {
-            lane.signal(rt, LaneSignal::Leave);
+            lane.signal(LaneSignal::Leave);
         }
         for actor in actors {
             let _ = readers.push(actor.join(rt));
         }
         if let Some(acceptor) = acceptor {
-            shared.sockets.wake();
+            shared.acceptor.wake();
             acceptor.join(rt);
         }
         shared.drain_gate.stop();

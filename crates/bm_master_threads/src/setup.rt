@@ -117,10 +117,10 @@ where
     I: Drop,
     O: Drop,
 {
-    let all = open_mailboxes(alloc, ends.states.len()).ok();
+    let all = open_mailboxes(rt, alloc, ends.states.len());
     let (events, all) = open_events(alloc).ok().zip(all)?;
     let (sender, events) = events;
-    let (sockets, registry) = open_sockets(rt, alloc, &streams.workers)?;
+    let (sockets, acceptor) = open_sockets(rt, alloc, &streams.workers)?;
     let Mailboxes { handles, mailboxes } = all;
     let DealtLanes {
         states,
@@ -136,7 +136,7 @@ where
         remarks,
     } = streams;
     let coordinator = coordinator_of(alloc, &config, at, pools, events, output, remarks);
-    let shared = SharedState::new(rt, alloc, config, handles, sender, registry, writers);
+    let shared = SharedState::new(rt, alloc, config, handles, sender, acceptor, writers);
     let (made, logs) = shared.zip(coordinator).zip(logs_of(alloc, web_viewers))?;
     let (shared, coordinator) = made;
     let (served, logs) = logs;

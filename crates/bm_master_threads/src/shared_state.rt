@@ -1,7 +1,7 @@
 //! What all threads of a master share.
 
 use crate::events::EventSender;
-use crate::sockets::SocketRegistry;
+use crate::sockets::AcceptorWaker;
 use crate::web::WebStop;
 use bm_board::Build;
 use bm_config::Config;
@@ -50,8 +50,8 @@ pub struct SharedState<Y: Yard, R: Wait + Clock + Drop> {
     pub lanes: Vec<LaneHandle<WorkerStream<R>>>,
     /// By what the coordinator is reached.
     pub events: EventSender<Y>,
-    /// By what the acceptor is woken, and told of connections.
-    pub sockets: SocketRegistry,
+    /// By what the acceptor is woken.
+    pub acceptor: AcceptorWaker,
     /// The connections without a login, and how many of them there may be.
     pub logins: LoginLimit,
     /// The writers' ends, which the pool drains.
@@ -72,7 +72,7 @@ impl<Y: Yard, R: Wait + Clock + Copy + Drop> SharedState<Y, R> {
         config: Config,
         lanes: Vec<LaneHandle<WorkerStream<R>>>,
         events: EventSender<Y>,
-        sockets: SocketRegistry,
+        acceptor: AcceptorWaker,
         writers: Vec<Mutex<WriterEnd<Y, R>>>,
     ) -> Option<SharedState<Y, R>> {
         let drain_gate = DrainGate::new(*rt, alloc, writers.len(), config.writers as usize).ok();
@@ -93,7 +93,7 @@ impl<Y: Yard, R: Wait + Clock + Copy + Drop> SharedState<Y, R> {
             users,
             lanes,
             events,
-            sockets,
+            acceptor,
             logins,
             writers,
             drain_gate,

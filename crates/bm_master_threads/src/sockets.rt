@@ -1,22 +1,19 @@
-//! What the acceptor waits for: a connection, an arrival on one, or the master's end. It waits for
-//! all sockets. A thread for each would be a second owner, and a poll in each actor a second thing
-//! to wait at.
+//! What the acceptor waits for: a connection, or the master's end.
 
 use mio::unix::SourceFd;
-use mio::{Events, Interest, Poll, Registry, Token, Waker};
+use mio::{Events, Interest, Poll, Token, Waker};
 use std::alloc::Global;
 use std::net::{Net, TcpListener};
 use std::os::fd::AsRawFd;
-use std::sync::Arc;
 
-/// What the listener is called in an event. Connections have the numbers of their lanes.
-pub const LISTENER: usize = usize::MAX;
+/// What the listener is called in an event.
+pub const LISTENER: usize = 0;
 
 /// What the master's end is called.
-const END: usize = usize::MAX - 1;
+const END: usize = 1;
 
 /// How many events are told at once.
-const MOST_EVENTS: usize = 256;
+const MOST_EVENTS: usize = 2;
 
 /// Where the acceptor waits.
 #[derive(Drop)]
@@ -27,11 +24,9 @@ pub struct SocketEvents {
     pub events: Events<Global>,
 }
 
-/// By what others have the acceptor woken.
+/// By what others wake the acceptor.
 #[derive(Drop)]
-pub struct SocketRegistry {
-    /// Where a connection has its arrivals told.
-    pub connections: Arc<Registry, Global>,
+pub struct AcceptorWaker {
     waker: Waker,
 }
 
@@ -41,7 +36,7 @@ pub fn open_sockets<R: Net>(
     rt: &R,
     alloc: Global,
     listener: &TcpListener,
-) -> Option<(SocketEvents, SocketRegistry)> {
+) -> Option<(SocketEvents, AcceptorWaker)> {
     let poll = Poll::new(rt).ok()?;
     let events = Events::with_capacity(alloc, MOST_EVENTS).ok()?;
     let fd = listener.as_raw_fd();
@@ -49,14 +44,10 @@ pub fn open_sockets<R: Net>(
         .register(&mut SourceFd(&fd), Token(LISTENER), Interest::READABLE)
         .ok()?;
     let waker = Waker::new(poll.registry(), Token(END)).ok()?;
-    let connections = Arc::new(alloc, poll.registry().try_clone().ok()?).ok()?;
-    Some((
-        SocketEvents { poll, events },
-        SocketRegistry { connections, waker },
-    ))
+    Some((SocketEvents { poll, events }, AcceptorWaker { waker }))
 }
 
-impl SocketRegistry {
+impl AcceptorWaker {
     /// Wakes the acceptor, which then looks whether the master ends.
     pub fn wake(&self) {
         let _ = self.waker.wake();

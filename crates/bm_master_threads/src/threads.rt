@@ -5,8 +5,7 @@
 //! | first | the web's socket | with the coordinator, which it joins |
 //! | pool | nothing: it drains the shared writers' ends | once the gate is stopped |
 //! | actor, one a lane | the lane's state and its mailbox | once its mailbox is told `Leave` |
-//! | acceptor | the workers' listener; it waits for all their sockets | woken once `is_over` is set
-//! |
+//! | acceptor | the workers' listener | woken once `is_over` is set |
 //! | coordinator | builds, workers, output and remarks | once all builds and the input have ended |
 //! | input | standard input | with it |
 //!
@@ -41,7 +40,7 @@ pub struct ThreadOwned<Y: Yard, R: Wait + Clock + Drop, I, O> {
     pub mailboxes: Vec<Mailbox<WorkerStream<R>>>,
     /// The acceptor's. Its `accept` doesn't wait.
     pub workers: TcpListener,
-    /// The acceptor's: where it waits for all of the workers' sockets.
+    /// The acceptor's: where it waits.
     pub sockets: SocketEvents,
     /// The first thread's: where it serves, and what.
     pub web: TcpListener,
