@@ -30,7 +30,6 @@ pub fn wired_is_schedule()
 /// each log is a beginning of what was reported of its command, over all sessions. Viewers see all
 /// that was reported of a command of the lane's session under three premises. That is the session
 /// of the worker's core, nothing is unanswered, and all is shown.
-/// worker's core, nothing is unanswered, and all is shown.
 pub fn cuts_are_logged()
     ensures schedule { CutsAreSchedules }
     ensures prefix { CutsAreLogged }
