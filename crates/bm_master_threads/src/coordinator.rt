@@ -3,7 +3,7 @@ ghost use Rattle.std.specs.Prelude.{◌≡◌, IfSome};
 ghost use Rattle.bm_build_queue.specs.BuildQueue.{AreResults};
 ghost use Rattle.std.specs.Thread.{IsSend, IsSync};
 
-use crate::coordinator_flow::{NextWait, next_wait};
+use crate::coordinator_flow::{CoordinatorFlow, FlowInput, FlowStep, NextWait, next_wait};
 use crate::events::{EventReceiver, MasterEvent};
 use crate::held_builds::HeldBuilds;
 use crate::host::MasterHost;
@@ -74,12 +74,8 @@ pub struct Coordinator<'s, Y: Yard, R: Wait + Clock + Drop, O> {
     pub began: Option<Instant>,
     /// The ticks since then.
     pub ticks: TickCounter,
-    /// Whether the queue is to be looked at, since builds may be wanted or started that were not
-    /// before.
-    pub is_stale: bool,
-    /// Whether standard input has ended.
-    pub is_closed: bool,
-    pub has_reported: bool,
+    /// What is to be done next.
+    pub flow: CoordinatorFlow,
     pub has_failed: bool,
 }
 
@@ -118,8 +114,8 @@ where
             || self.workers.iter().any(|worker| worker.is_timed())
     }
 
-    // Does what follows from an event. Each event has the queue looked at, but Step, Refused,
-    // Cancelling, Paused and Misread.
+    // Does what follows from an event. The queue is looked at behind those of lanes and builds, but
+    // not behind those that are only told.
     fn hear(&mut self, event: MasterEvent<Y>) {
         match event {
             MasterEvent::Step(step) => return self.hear_step(&step),
@@ -132,20 +128,52 @@ where
             MasterEvent::Lane(worker, event) => self.hear_lane(worker, event),
             MasterEvent::Ended(build) => self.hear_build(build),
             MasterEvent::Cancel(number) => self.cancel(number),
-            MasterEvent::InputEnded => self.is_closed = true,
+            MasterEvent::InputEnded => return self.flow.hears(FlowInput::InputEnded),
         }
-        self.is_stale = true;
+        self.flow.hears(FlowInput::Changed);
     }
 
     // The next event, if it comes in time.
     fn next_event(&self, events: &EventReceiver<Y>) -> Option<MasterEvent<Y>> {
         let rt = &self.shared.rt;
         let is_counted = self.refusals.is_left_out() || self.is_waited_for();
-        match next_wait(self.is_stale, self.is_timed(), is_counted) {
-            NextWait::Look => events.look(rt),
+        match next_wait(self.is_timed(), is_counted) {
             NextWait::Tick => events.wait_for(rt, Duration::from_millis(TICK_MS)),
             NextWait::Second => events.wait_for(rt, Duration::from_secs(COUNTED_SECONDS)),
             NextWait::Event => events.wait(rt),
+        }
+    }
+
+    // Starts each build that can be started, and tells of those that wait.
+    fn start<E>(&mut self, scope: &Scope<'s, E>) {
+        self.start_builds(scope);
+        let is_over = self.queue.is_over();
+        self.flow.hears(FlowInput::Started { is_over });
+        self.tell_waits();
+    }
+
+    // Waits for the next event, and does what follows from it and from the ticks that have passed.
+    fn wait(&mut self, events: &EventReceiver<Y>) {
+        if self.is_waited_for() {
+            self.tell_waits();
+        }
+        let is_timed = self.is_timed();
+        let event = self.next_event(events);
+        let ticks = self.ended_ticks();
+        if is_timed {
+            if self.is_short() {
+                self.flow.hears(FlowInput::Changed);
+            }
+            self.release_free();
+            for _ in 0..ticks {
+                self.tick();
+            }
+        }
+        if let Some(event) = event {
+            self.hear(event);
+        }
+        if self.refusals.is_left_out() {
+            self.tell_left_out();
         }
     }
 
@@ -153,32 +181,11 @@ where
     fn serve<E>(&mut self, scope: &Scope<'s, E>, events: &EventReceiver<Y>) {
         let shared = self.shared;
         for _ in shared.rt.forever() {
-            if self.is_stale {
-                self.is_stale = false;
-                self.start_builds(scope);
-                self.report();
-                self.tell_waits();
-            } else if self.is_waited_for() {
-                self.tell_waits();
-            }
-            if self.is_closed && self.has_reported {
-                break;
-            }
-            let is_timed = self.is_timed();
-            let event = self.next_event(events);
-            let ticks = self.ended_ticks();
-            if is_timed {
-                self.is_stale = self.is_stale || self.is_short();
-                self.release_free();
-                for _ in 0..ticks {
-                    self.tick();
-                }
-            }
-            if let Some(event) = event {
-                self.hear(event);
-            }
-            if self.refusals.is_left_out() {
-                self.tell_left_out();
+            match self.flow.take() {
+                FlowStep::Start => self.start(scope),
+                FlowStep::Report => self.report(),
+                FlowStep::Wait => self.wait(events),
+                FlowStep::Leave => break,
             }
         }
         self.release_all();
@@ -244,9 +251,7 @@ where
                 refusals: RefusalLimit::new(shared.alloc, MOST_REFUSALS),
                 began: Instant::now(&shared.rt).ok(),
                 ticks: TickCounter::new(TICK_MS, 0),
-                is_stale: true,
-                is_closed: false,
-                has_reported: false,
+                flow: CoordinatorFlow::new(),
                 has_failed,
             };
             coordinator.serve(scope, &events);

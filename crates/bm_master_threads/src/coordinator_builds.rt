@@ -3,6 +3,7 @@
 use crate::build_start::{BuildStart, StartFate};
 use crate::build_thread::start_build;
 use crate::coordinator::Coordinator;
+use crate::coordinator_flow::FlowInput;
 use crate::events::FinishedBuild;
 use crate::host::MasterHost;
 use crate::unstarted_build::UnstartedBuild;
@@ -137,7 +138,7 @@ where
                 return;
             };
             self.release(build);
-            self.is_stale = true;
+            self.flow.hears(FlowInput::Changed);
         }
     }
 
@@ -185,12 +186,8 @@ where
         }
     }
 
-    /// Writes the results once every build has one.
+    /// Writes the results of all builds.
     pub fn report(&mut self) {
-        if self.has_reported || !self.queue.is_over() {
-            return;
-        }
-        self.has_reported = true;
         for number in 0..self.queue.builds() {
             if let Some(result) = self.queue.result(number) {
                 let line = OutputLine::Build { number, result };

@@ -1,6 +1,7 @@
 //! What the coordinator does about workers: those that are started on demand, and their processes.
 
 use crate::coordinator::Coordinator;
+use crate::coordinator_flow::FlowInput;
 use crate::events::EventReceiver;
 use crate::host::MasterHost;
 use crate::worker_process::StartFailure;
@@ -42,7 +43,7 @@ where
         let action = effect.action;
         self.queue.set_ready(at, action.ready);
         if action.gives_up {
-            self.is_stale = true;
+            self.flow.hears(FlowInput::Changed);
             self.give_up(at);
         }
         match action.process {

@@ -8,7 +8,7 @@
 //!
 //! A body could still start a thread too few, end one too early, or drop an event. The threads'
 //! work is put together here, and only tested. Inside the crate `BuildTask`, `BuildStart`,
-//! `next_wait`, `leave` and `end` have clauses.
+//! `CoordinatorFlow`, `next_wait`, `leave` and `end` have clauses.
 #![tactic(auto)]
 
 mod acceptor;
