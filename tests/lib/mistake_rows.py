@@ -108,6 +108,7 @@ WORDS = {
     "run with a cursor": (["./run", FIRST, "\x1b[2J"], 2, "unrecognized arguments: \\x1b[2J"),
     "follow of a build without its number": (["./follow", "127.0.0.1:1", "--build"], 2, "usage: ./follow"),
     "follow of a log without a name": (["./follow", "127.0.0.1:1", "0", ""], 2, "usage: ./follow"),
+    "follow of an id above all": (["./follow", "127.0.0.1:1", "18446744073709551616"], 2, "no id of a log: 18446744073709551616"),
     "follow over TLS": (["./follow", "https://127.0.0.1:1", "0"], 2, "no address: https://127.0.0.1:1"),
     "follow of a port too many": (["./follow", "127.0.0.1:99999", "0"], 2, "no address: 127.0.0.1:99999"),
     "check with an option": (["./check", "--lists"], 2, "usage: ./check"),
