@@ -123,7 +123,7 @@ WORDS = {
     "bolgrudi-alone with an option": ([f"{BIN}/bolgrudi-alone", "--user"], 2, "usage: bolgrudi-alone"),
     "master-service alone": (["packaging/lib/master-service"], 2, "usage: master-service"),
 }
-HELPED = ["./serve", "./run", "./follow", "./check"]
+HELPED = ["./serve", "./run", "./follow", "./check", "./package"]
 
 # Steps that go wrong, each the only one of its build: its keys, and what is told of the build. All
 # run under one master, in a folder with the files `script`, whose shell isn't there, and `noise`.
