@@ -2,6 +2,7 @@
 thing that happens."""
 
 import os
+import shutil
 import sys
 import threading
 
@@ -61,12 +62,16 @@ class Board:
         builds = list(builds.values())
         running = [build for build in builds if "began" in build and "result" not in build]
         over = sum("result" in build for build in builds)
-        rows = [f"build {build['number']} on {plain(build['worker'])}: {plain(build.get('step', ''))}" for build in running[:MOST_SHOWN]]
-        if len(running) > MOST_SHOWN:
-            rows.append(f"and {len(running) - MOST_SHOWN} more")
+        # What is wider or higher than the terminal could not be drawn anew: below the builds are two
+        # lines, and that of the cursor.
+        columns, lines = shutil.get_terminal_size()
+        most = max(1, min(MOST_SHOWN, lines - 3))
+        rows = [f"build {build['number']} on {plain(build['worker'])}: {plain(build.get('step', ''))}" for build in running[:most]]
+        if len(running) > most:
+            rows.append(f"and {len(running) - most} more")
         with self.lock:
             self.wipe()
-            self.rows = [row[:100] for row in rows + [f"{over} of {len(builds)} builds over"]]
+            self.rows = [row[:columns] for row in rows + [f"{over} of {len(builds)} builds over"]]
             self.draw()
 
     def wipe(self):

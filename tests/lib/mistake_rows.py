@@ -108,6 +108,7 @@ WORDS = {
     "run with a cursor": (["./run", FIRST, "\x1b[2J"], 2, "unrecognized arguments: \\x1b[2J"),
     "follow of a build without its number": (["./follow", "127.0.0.1:1", "--build"], 2, "usage: ./follow"),
     "follow of a log without a name": (["./follow", "127.0.0.1:1", "0", ""], 2, "usage: ./follow"),
+    "follow of an id above all": (["./follow", "127.0.0.1:1", "18446744073709551616"], 2, "no id of a log: 18446744073709551616"),
     "follow over TLS": (["./follow", "https://127.0.0.1:1", "0"], 2, "no address: https://127.0.0.1:1"),
     "follow of a port too many": (["./follow", "127.0.0.1:99999", "0"], 2, "no address: 127.0.0.1:99999"),
     "check with an option": (["./check", "--lists"], 2, "usage: ./check"),
@@ -122,7 +123,7 @@ WORDS = {
     "bolgrudi-alone with an option": ([f"{BIN}/bolgrudi-alone", "--user"], 2, "usage: bolgrudi-alone"),
     "master-service alone": (["packaging/lib/master-service"], 2, "usage: master-service"),
 }
-HELPED = ["./serve", "./run", "./follow", "./check"]
+HELPED = ["./serve", "./run", "./follow", "./check", "./package"]
 
 # Steps that go wrong, each the only one of its build: its keys, and what is told of the build. All
 # run under one master, in a folder with the files `script`, whose shell isn't there, and `noise`.
