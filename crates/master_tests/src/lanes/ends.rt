@@ -8,7 +8,7 @@ use bm_lane_actor::{Mailboxes, open_mailboxes};
 use bm_lanes::{DealtLanes, deal, open_all};
 use std::alloc::{AllocGlobal, Global};
 use std::marker::Brand;
-use std::net::TcpStream;
+use std::net::{Net, TcpStream};
 use std::sync::Wait;
 use std::test::Fail;
 
@@ -25,20 +25,20 @@ fn are_two(mailboxes: &Mailboxes<TcpStream>) -> bool {
     }
 }
 
-fn are_open_again(alloc: Global) -> bool {
-    let mailboxes: Result<Mailboxes<TcpStream>, _> = match open_mailboxes(alloc, 2) {
-        Err(_) => open_mailboxes(alloc, 2),
+fn are_open_again<N: Net>(rt: &N, alloc: Global) -> bool {
+    let mailboxes: Option<Mailboxes<TcpStream>> = match open_mailboxes(rt, alloc, 2) {
+        None => open_mailboxes(rt, alloc, 2),
         mailboxes => mailboxes,
     };
     match mailboxes {
-        Ok(mailboxes) => are_two(&mailboxes),
-        Err(_) => false,
+        Some(mailboxes) => are_two(&mailboxes),
+        None => false,
     }
 }
 
 #[test]
 fn refused_doors_are_opened_again(rt: HostRuntime) {
-    assert!(rt; are_open_again(rt.alloc()));
+    assert!(rt; are_open_again(&rt, rt.alloc()));
 }
 
 /// Whether each end of one lane lies where it belongs.
