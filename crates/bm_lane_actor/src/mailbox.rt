@@ -143,9 +143,12 @@ pub fn open_mailboxes<S: Drop, N: Net>(rt: &N, alloc: Global, lanes: usize) -> O
     let mut handles = Vec::new(alloc);
     let mut mailboxes = Vec::new(alloc);
     for lane in 0..lanes {
-        let (handle, mailbox) = open_mailbox(rt, alloc, lane as u64)?;
-        handles.push(handle).ok()?;
-        mailboxes.push(mailbox).ok()?;
+        let Some((handle, mailbox)) = open_mailbox(rt, alloc, lane as u64) else {
+            return None;
+        };
+        if handles.push(handle).is_err() || mailboxes.push(mailbox).is_err() {
+            return None;
+        }
     }
     Some(Mailboxes { handles, mailboxes })
 }
