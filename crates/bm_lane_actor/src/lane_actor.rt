@@ -259,7 +259,7 @@ where
     }
 
     /// Whether a read of the link gives nothing until something comes.
-    fn is_drained(&self) -> bool {
+    pub(crate) fn is_drained(&self) -> bool {
         match self.state.stream() {
             Some(stream) => stream.is_drained(),
             None => true,

@@ -97,12 +97,14 @@ where
         self.policy.step(input, now)
     }
 
-    /// Does what is due about a silent worker, and goes on with a link that waits.
+    /// Does what is due about a silent worker, and goes on with a link that waits. A turn may read
+    /// nothing, as where the lane has no room: what the worker has said meanwhile still lies there.
     pub(crate) fn watch(&mut self) {
         let mut acts = self.look(false);
         if acts.link == LinkAct::Read {
             self.turn();
-            acts = self.look(true);
+            let is_read = self.is_drained();
+            acts = self.look(is_read);
         }
         self.does(acts);
     }
