@@ -40,7 +40,7 @@ answer-short = lit< tt
 
 -- ---- their frames
 
-abbrev Framed : Role → List ℕ → Type 0
+abbrev pub Framed : Role → List ℕ → Type 0
 Framed role m = (frame : List ℕ) × IsFrameOf role m frame
 
 start-frame : Framed Server (start_bytes 0 0 words)
@@ -52,7 +52,7 @@ reply-frame = messages_have_frames Client (reply 0 work.Done) reply-short
 report-frame : Framed Client (sent 0 report).bytes
 report-frame = messages_have_frames Client (sent 0 report).bytes report-short
 
-answer-frame : Framed Server (answer_bytes 0 (exception_text Done))
+pub answer-frame : Framed Server (answer_bytes 0 (exception_text Done))
 answer-frame = messages_have_frames Server (answer_bytes 0 (exception_text Done)) answer-short
 
 -- ---- what a step writes
@@ -63,16 +63,16 @@ idle role bytes = ([], refl, sym (append-nil bytes))
 wrote : (role : Role) (m : List ℕ) (f : Framed role m) → Writes role (m ∷ []) [] f.0
 wrote role m f = (f.0, (f.0, [], f.1, sym (append-nil f.0), refl), refl)
 
-abbrev over : Joined → List ℕ → List ℕ → OverBytes
+abbrev pub over : Joined → List ℕ → List ℕ → OverBytes
 over x up down = record { ends = x; up = up; down = down }
 
 -- ---- the run
 
 module _ (id capacity : ℕ) where
-  abbrev one_byte : List ℕ
+  abbrev pub one_byte : List ℕ
   one_byte = take 1 answer-frame.0
 
-  cutting : GoesOver (bytes_apart id capacity true) (up_to_one_byte entry-hello) (over (x9 id capacity) [] one_byte)
+  pub cutting : GoesOver (bytes_apart id capacity true) (up_to_one_byte entry-hello) (over (x9 id capacity) [] one_byte)
   cutting = (
     over (x1 id capacity) [] [],
     (s1 id capacity, idle Client [], idle Server []),
@@ -107,7 +107,7 @@ module _ (id capacity : ℕ) where
     ),
   )
 
-  going-on : GoesOver (over (x9 id capacity) [] one_byte) up_to_its_end (over (x18 id capacity) [] [])
+  pub going-on : GoesOver (over (x9 id capacity) [] one_byte) up_to_its_end (over (x18 id capacity) [] [])
   going-on = (
     over (x10 id capacity) [] one_byte,
     (s10 id capacity, idle Client [], idle Server one_byte),
@@ -142,13 +142,16 @@ module _ (id capacity : ℕ) where
     ),
   )
 
+  pub one-byte : length one_byte ≡ 1
+  one-byte = let some : 0 < length answer-frame.0 = not-empty Server (answer_bytes 0 (exception_text Done)) answer-frame.0 answer-frame.1 in length-take-le 1 answer-frame.0 (omega arith)
+
   shows : ShowsOnceOverBytes (bytes_apart id capacity true)
   shows = record {
     entry = entry-hello;
     is = refl;
     cut = over (x9 id capacity) [] one_byte;
     cutting = cutting;
-    part = let some : 0 < length answer-frame.0 = not-empty Server (answer_bytes 0 (exception_text Done)) answer-frame.0 answer-frame.1 in length-take-le 1 answer-frame.0 (omega arith);
+    part = one-byte;
     logged = refl;
     unanswered = refl;
     end = over (x18 id capacity) [] [];
