@@ -12,10 +12,11 @@ use Rattle.bm_value.specs.Writing.{unsigned, str_head, array_head, map_head}
 use Rattle.bm_work.specs.Replies.{reply}
 use Rattle.bm_work.specs.Stream.{sent, request_bytes}
 use Rattle.bm_work.specs.declared.worker_answer.WorkerAnswer.TheVariants as work
-use Rattle.bm_wired.specs.Bytes.{IsFrameOf, Writes, OverBytes, GoesOver, bytes_apart}
+use Rattle.bm_wired.specs.Bytes.{Writes, OverBytes, GoesOver, bytes_apart}
 use Rattle.bm_wired.specs.BytesExample.{up_to_one_byte, up_to_its_end, ShowsOnceOverBytes, BytesShowLines}
 use Rattle.bm_wired.specs.Cuts.{Joined}
 use Rattle.bm_wired.specs.Example.{words, report}
+use Rattle.bm_wired.specs.Service.{IsFrameOf}
 use Rattle.bm_wired.proofs.CutExample.{x1, x2, x3, x4, x5, x6, x7, x8, x9, x10, x11, x12, x13, x14, x15, x16, x17, x18, v3, v4, v5, v6, v7, v8, v15, v16, v17, v18, m3, m4, m5, m6, m7, m8, m15, m16, s1, s2, s10, s11, s12, s13, s14}
 use Rattle.bm_wired.proofs.Example.{entry-hello}
 use Rattle.bm_wired.proofs.Frames.{not-empty, messages_have_frames}

@@ -37,8 +37,7 @@ use Rattle.bm_wired.specs.Wired.{Wired, Move, Moves, AreSendable, bytes_in, repl
 use Rattle.bm_wired.specs.Wired as wired
 use Rattle.bm_wired.proofs.Bytes.{bytes_are_logged, all_bytes_are_logged}
 use Rattle.bm_wired.proofs.Joint.{passed-rest}
-use Rattle.bm_wired.proofs.Parts.{all-map}
-use Rattle.bm_wired.proofs.ServiceWords.{old_link, backlog_of, same-answers, same-reply, sayable, hears-only, are, frames, nothing, silent, idle, ends, over, untold, append, same-opening}
+use Rattle.bm_wired.proofs.ServiceWords.{old_link, backlog_of, same-reply, hears-only, are, frames, nothing, silent, idle, ends, over, untold, append, same-opening}
 
 -- it leads there over bytes
 pub record Led (x : Service) (box : List OutboxEntry) (us ds : List (List ℕ)) (y : Service) : Type 0 where
@@ -97,10 +96,8 @@ led-Inquire x box us ds y a few room h =
 -- a turn of the lane, which takes a frame
 led-Turn : (x : Service) (box : List OutboxEntry) (us ds : List (List ℕ)) → (y : Service) (m frame rest : List ℕ) (e : Event) → IsFrameOf Client m frame → x.up ≡ frame ++ rest → IsEventOf m e → refusal x.lane.trace e ≡ None
     → Writes (record x { lane = with_event x.lane e; carried = carried_after x.carried e; up = rest }) [] (answers_to_send (reply x.lane.trace e)) y → Led x box us ds y
-led-Turn x box us ds y m frame rest e f at event ok h =
-    let r = reply x.lane.trace e in
-    let sent = wired.answers_to_send r in
-    let w : Writes (record x { lane = with_event x.lane e; carried = carried_after x.carried e; up = rest }) [] sent y = subst (λ q. Writes (record x { lane = with_event x.lane e; carried = carried_after x.carried e; up = rest }) [] q y) (same-answers r) h in
+led-Turn x box us ds y m frame rest e f at event ok w =
+    let sent = answers_to_send (reply x.lane.trace e) in
     let z : Wired = record (ends x box [] []).wired { lane = with_event x.lane e; carried = carried_after x.carried e; down = sent } in
     let there : Service = record x { lane = with_event x.lane e; carried = carried_after x.carried e; up = rest ++ joined w.0; down = x.down ++ joined w.1 } in
     let ds2 = passed x.whole [] sent in
@@ -113,7 +110,7 @@ led-Turn x box us ds y m frame rest e f at event ok h =
       (
         z,
         tt,
-        (m, [], e, Ok r, with_event x.lane e, refl, event, (refl, refl, ok), refl),
+        (m, [], e, Ok (reply x.lane.trace e), with_event x.lane e, refl, event, (refl, refl, ok), refl),
         ap (λ q. record (ends there box [] ds2) { told = q }) (untold x) ∙ ap (λ q. record (ends there box q ds2) { told = x.told ++ drop (length x.core.reports) x.core.reports }) (sym (passed-rest x.whole m [])),
       ),
       ap (λ q. rest ++ q) (nothing Client x.whole w.0 w.2) ∙ append-nil rest,
@@ -133,7 +130,7 @@ led-Tell x box us ds y entry p core say stands tells h =
       ds2 = ds2;
       goes = (
         over x (entry ∷ []) ds2 ds2,
-        wrote x box us ds (wired.Wait (entry ∷ [])) (record (ends x box [] []).wired { outbox = entry ∷ [] }) x.told x tt ((all-map IsSayable wired.IsSayable (reports_in entry) sayable say, tt), refl) (untold x) (silent x x refl),
+        wrote x box us ds (wired.Wait (entry ∷ [])) (record (ends x box [] []).wired { outbox = entry ∷ [] }) x.told x tt ((say, tt), refl) (untold x) (silent x x refl),
         (
           over y (waits_on entry [] p) us2 ds2,
           wrote x (entry ∷ []) ds2 ds2 wired.Tell (record (ends x box [] []).wired { core = core; outbox = waits_on entry [] p; up = bytes_in (requests_of p) }) (x.told ++ drop (length x.core.reports) core.reports) y

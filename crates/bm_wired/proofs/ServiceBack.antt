@@ -1,6 +1,6 @@
 -- A run over bytes is a run from socket to socket: what is in the queues was written.
 use Rattle.std.proofs.Common.{◌≡◌, refl, sym, ◌∙◌, ap, subst, ℕ, ◌+◌, Bool, true, false, List, [], ◌∷◌, ◌++◌, length, take, drop, inl, inr, append-nil}
-use Rattle.std.specs.Prelude.{if◌then◌else◌, Option, Some, None, Result, Ok, Err}
+use Rattle.std.specs.Prelude.{if◌then◌else◌, Option, Result, Ok, Err}
 use lib.Seq.{take-nil}
 use mathlib.Core.List.{Forall₂}
 use mathlib.Core.List.Forall₂.{nil, cons}
@@ -18,7 +18,6 @@ use Rattle.bm_link.specs.Attaching.{taken_up}
 use Rattle.bm_link.specs.Orders.{start_bytes, interrupt_bytes}
 use Rattle.bm_link.specs.Received.{AreSaid, hearing_of}
 use Rattle.bm_link.specs.declared.asks.Ask.{Ask}
-use Rattle.bm_outbox.specs.OutboxEntries.{reports_in}
 use Rattle.bm_outbox.specs.Telling.{waits_on, TellsNext}
 use Rattle.bm_outbox.specs.declared.outbox_entry.OutboxEntry.{OutboxEntry}
 use Rattle.bm_outbox.specs.declared.progress.Progress.{Progress}
@@ -28,10 +27,9 @@ use Rattle.bm_session.specs.declared.event.Event.{Event}
 use Rattle.bm_session.specs.declared.event.Event.TheVariants.{Go, Stop}
 use Rattle.bm_session.specs.declared.reply.Reply.{Reply}
 use Rattle.bm_work.specs.Core.{Core, new_core, unanswered_requests}
-use Rattle.bm_work.specs.Stream.{Report, text, code, over as ending}
 use Rattle.bm_work.specs.declared.sent.Sent.{Sent}
 use Rattle.bm_worker_session.specs.Sessions.{requests_of}
-use Rattle.bm_wired.specs.Service.{Service, Step, Goes, Link, Apart, Greeted, Stands, opening, Writes, IsFrameOf, answers_to_send, IsSayable}
+use Rattle.bm_wired.specs.Service.{Service, Step, Goes, Link, Apart, Greeted, Stands, opening, Writes, IsFrameOf, answers_to_send}
 use Rattle.bm_wired.specs.Service as of
 use Rattle.bm_wired.specs.ServiceAsBytes.{link_of, as_service, OverBytesIsService}
 use Rattle.bm_wired.specs.Bytes.{OverBytes, GoesOver, StepsOver, AreFrames, left, holding, bytes_apart}
@@ -41,8 +39,7 @@ use Rattle.bm_wired.specs.Cuts as cut
 use Rattle.bm_wired.specs.Wired.{Wired, EntryIsSayable, TurnsBy, bytes_in, reply_in}
 use Rattle.bm_wired.specs.Wired as wired
 use Rattle.bm_wired.proofs.Joint.{drop-whole, passed-same, passed-rest}
-use Rattle.bm_wired.proofs.Parts.{all-map}
-use Rattle.bm_wired.proofs.ServiceWords.{same-answers, same-reply, hears-only, new-begun}
+use Rattle.bm_wired.proofs.ServiceWords.{same-reply, hears-only, new-begun}
 use Rattle.bm_wired.proofs.Ways.{writes-none}
 
 -- ---- frames
@@ -165,17 +162,17 @@ turn-by : (x y : OverBytes) (m f rest : List ℕ) (w : Wired) (others : List (Li
     → y.up ≡ left y.ends.wired.up f rest → raw.Writes Server y.ends.wired.down x.down y.down → Came x y
 turn-by x y m f rest w others e (Ok r) lane say frame front event none hears by at-w l b =
     let answer = reply x.ends.wired.lane.trace e in
-    let sent = wired.answers_to_send answer in
+    let sent = answers_to_send answer in
     let z : Wired = record (holding x.ends [] []).wired { lane = with_event x.ends.wired.lane e; carried = carried_after x.ends.wired.carried e; down = sent } in
     let there : Service = record (as_service x) { lane = with_event x.ends.wired.lane e; carried = carried_after x.ends.wired.carried e; up = rest } in
-    let is-z : w ≡ z = by ∙ ap (λ q. record z { lane = lane; up = q; down = wired.answers_to_send r }) none ∙ ap (λ q. record z { lane = q; down = wired.answers_to_send r }) hears.0 ∙ ap (λ q. record z { down = wired.answers_to_send q }) hears.1 in
+    let is-z : w ≡ z = by ∙ ap (λ q. record z { lane = lane; up = q; down = answers_to_send r }) none ∙ ap (λ q. record z { lane = q; down = answers_to_send r }) hears.0 ∙ ap (λ q. record z { down = answers_to_send q }) hears.1 in
     let is = at-w ∙ ap (after_move (holding x.ends (m ∷ []) [])) is-z in
     let gone : y.ends.wired.up ≡ [] = ap (λ (q : Joined). q.wired.up) is ∙ passed-rest x.ends.whole m [] in
     let up : y.up ≡ rest = l ∙ ap (λ q. left q f rest) gone in
     let w2 : Writes there [] sent (as_service y) = wrote there (as_service y) [] sent
     (subst (λ q. raw.Writes Client q rest y.up) (sym (passed-same x.ends.whole [])) (wrote-none rest y.up up))
     (subst (λ (q : Joined). raw.Writes Server q.wired.down x.down y.down) is b) (moved x y (m ∷ []) [] z is refl) in (
-      of.Turn m f rest e frame front event hears.2 (subst (λ q. Writes there [] q (as_service y)) (sym (same-answers answer)) w2),
+      of.Turn m f rest e frame front event hears.2 w2,
       waits-on y (after_move (holding x.ends (m ∷ []) []) z) is say,
     )
 turn-by x y m f rest w others e (Err back) lane say frame front event none hears by at-w l b =
@@ -223,12 +220,6 @@ came-Listen x y say h =
 
 -- ---- what the worker tells
 
-meant : (r : Report) → wired.IsSayable r → IsSayable r
-meant (text k letter t) h = h
-meant (code k z) h = h
-meant (ending k None) h = h
-meant (ending k (Some fault)) h = h
-
 still-waits : (first : OutboxEntry) (rest : List OutboxEntry) (p : Result Progress AllocError) → AllByRecursion EntryIsSayable (first ∷ rest) → AllByRecursion EntryIsSayable (waits_on first rest p)
 still-waits first rest (Ok (progress.Text s)) h = h.1
 still-waits first rest (Ok (progress.End v)) h = h.1
@@ -249,7 +240,7 @@ tell-by (first ∷ rest) x y p box2 core say stands tells at-w a b =
     let v : Wired = record (holding x.ends [] []).wired { core = core; up = bytes_in (requests_of p) } in
     let there : Service = record (as_service x) { core = core; told = x.ends.told ++ drop (length x.ends.wired.core.reports) core.reports } in
     let is = at-w ∙ ap (after_move (holding x.ends [] [])) (ap (λ q. record v { outbox = q }) tells.1) in (
-      of.Tell first p core (all-map wired.IsSayable IsSayable (reports_in first) meant say.0) stands tells.0
+      of.Tell first p core say.0 stands tells.0
           (wrote there (as_service y) (bytes_in (requests_of p)) []
           (subst (λ (q : Joined). raw.Writes Client q.wired.up x.up y.up) is a)
           (subst (λ (q : Joined). raw.Writes Server q.wired.down x.down y.down) is b)

@@ -14,20 +14,16 @@ use Rattle.bm_msg.specs.declared.incoming.Incoming.TheVariants.{Message, BadArgs
 use Rattle.bm_msg.specs.Meaning.{meaning}
 use Rattle.bm_outbox.specs.declared.outbox_entry.OutboxEntry.{OutboxEntry}
 use Rattle.bm_session.specs.Trace.{joined}
-use Rattle.bm_session.specs.declared.reply.Reply.{Reply}
-use Rattle.bm_session.specs.declared.reply.Reply.TheVariants as replied
 use Rattle.bm_work.specs.Core.{Core, heard, heard_request, heard_bad}
 use Rattle.std.specs.FinMap.{get}
-use Rattle.bm_work.specs.Stream.{Report, text, code, over as ending}
 use Rattle.bm_work.specs.declared.sent.Sent.{Sent}
 use Rattle.bm_work.specs.declared.worker_answer.WorkerAnswer.{WorkerAnswer}
-use Rattle.bm_wired.specs.Service.{Service, Step, Link, Apart, Greeted, Stands, opening, Writes, IsFrameOf, answers_to_send, IsSayable}
+use Rattle.bm_wired.specs.Service.{Service, Step, Link, Apart, Greeted, Stands, opening, Writes, IsFrameOf}
 use Rattle.bm_wired.specs.Bytes.{OverBytes, GoesOver, AreFrames, bytes_apart}
 use Rattle.bm_wired.specs.Bytes as raw
 use Rattle.bm_wired.specs.Cuts.{Joined, passed}
 use Rattle.bm_wired.specs.Cuts as cut
 use Rattle.bm_wired.specs.Wired.{reply_in}
-use Rattle.bm_wired.specs.Wired as wired
 use Rattle.bm_wired.proofs.Joint.{drop-whole}
 
 -- ---- words
@@ -42,21 +38,9 @@ backlog_of Apart = []
 backlog_of (Greeted resumed) = []
 backlog_of (Stands backlog) = backlog
 
-pub same-answers : (r : Reply) → answers_to_send r ≡ wired.answers_to_send r
-same-answers replied.Silent = refl
-same-answers (replied.Answer n v) = refl
-same-answers (replied.Start n k) = refl
-same-answers (replied.Interrupt n k) = refl
-
 pub same-reply : (bytes : Option (List ℕ)) → option_to_list bytes ≡ reply_in bytes
 same-reply None = refl
 same-reply (Some bytes) = refl
-
-pub sayable : (r : Report) → IsSayable r → wired.IsSayable r
-sayable (text k letter t) h = h
-sayable (code k z) h = h
-sayable (ending k None) h = h
-sayable (ending k (Some fault)) h = h
 
 pub new-begun : (resumable : Bool) → new_carried resumable ≡ begun (new_carried resumable) None
 new-begun true = refl
