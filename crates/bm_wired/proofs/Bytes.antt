@@ -17,9 +17,10 @@ use Rattle.bm_session.specs.declared.event.Event.{Event}
 use Rattle.bm_session.specs.declared.event.Event.TheVariants.{Go, Stop}
 use Rattle.bm_session.specs.declared.reply.Reply.{Reply}
 use Rattle.bm_worker_session.specs.Sessions.{requests_of}
-use Rattle.bm_wired.specs.Bytes.{OverBytes, holding, StepsOver, GoesOver, Writes, IsFrameOf, left, bytes_apart, BytesAreMessages, BytesAreLogged, AllBytesAreLogged}
+use Rattle.bm_wired.specs.Bytes.{OverBytes, holding, StepsOver, GoesOver, Writes, left, bytes_apart, BytesAreMessages, BytesAreLogged, AllBytesAreLogged}
 use Rattle.bm_wired.specs.Cuts.{Joined, Step, Make, Resend, Break, Leave, Lose, Meet, Begin, Apart, IsFree, Steps, Goes, passed, begun_by, apart}
-use Rattle.bm_wired.specs.Wired.{Wired, Move, Moves, Start, Interrupt, Inquire, Turn, Wait, Tell, Listen, Drain, Look, Orders, TurnsBy, answers_to_send, reply_in, bytes_in, ordered}
+use Rattle.bm_wired.specs.Wired.{Wired, Move, Moves, Start, Interrupt, Inquire, Turn, Wait, Tell, Listen, Drain, Look, Orders, TurnsBy, reply_in, bytes_in, ordered}
+use Rattle.bm_wired.specs.Service.{IsFrameOf, answers_to_send}
 use Rattle.bm_wired.proofs.Joint.{take-front, passed-same, passed-rest}
 use Rattle.bm_wired.proofs.CutMain.{cuts_are_logged, all_is_logged}
 use Rattle.bm_wired.proofs.Ways.{Way, IsNext, empty-way, way-cut, way-writes, way-reads, way-take, writes-none}

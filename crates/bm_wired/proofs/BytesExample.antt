@@ -12,10 +12,11 @@ use Rattle.bm_value.specs.Writing.{unsigned, str_head, array_head, map_head}
 use Rattle.bm_work.specs.Replies.{reply}
 use Rattle.bm_work.specs.Stream.{sent, request_bytes}
 use Rattle.bm_work.specs.declared.worker_answer.WorkerAnswer.TheVariants as work
-use Rattle.bm_wired.specs.Bytes.{IsFrameOf, Writes, OverBytes, GoesOver, bytes_apart}
+use Rattle.bm_wired.specs.Bytes.{Writes, OverBytes, GoesOver, bytes_apart}
 use Rattle.bm_wired.specs.BytesExample.{up_to_one_byte, up_to_its_end, ShowsOnceOverBytes, BytesShowLines}
 use Rattle.bm_wired.specs.Cuts.{Joined}
 use Rattle.bm_wired.specs.Example.{words, report}
+use Rattle.bm_wired.specs.Service.{IsFrameOf}
 use Rattle.bm_wired.proofs.CutExample.{x1, x2, x3, x4, x5, x6, x7, x8, x9, x10, x11, x12, x13, x14, x15, x16, x17, x18, v3, v4, v5, v6, v7, v8, v15, v16, v17, v18, m3, m4, m5, m6, m7, m8, m15, m16, s1, s2, s10, s11, s12, s13, s14}
 use Rattle.bm_wired.proofs.Example.{entry-hello}
 use Rattle.bm_wired.proofs.Frames.{not-empty, messages_have_frames}
@@ -40,7 +41,7 @@ answer-short = lit< tt
 
 -- ---- their frames
 
-abbrev Framed : Role → List ℕ → Type 0
+abbrev pub Framed : Role → List ℕ → Type 0
 Framed role m = (frame : List ℕ) × IsFrameOf role m frame
 
 start-frame : Framed Server (start_bytes 0 0 words)
@@ -52,7 +53,7 @@ reply-frame = messages_have_frames Client (reply 0 work.Done) reply-short
 report-frame : Framed Client (sent 0 report).bytes
 report-frame = messages_have_frames Client (sent 0 report).bytes report-short
 
-answer-frame : Framed Server (answer_bytes 0 (exception_text Done))
+pub answer-frame : Framed Server (answer_bytes 0 (exception_text Done))
 answer-frame = messages_have_frames Server (answer_bytes 0 (exception_text Done)) answer-short
 
 -- ---- what a step writes
@@ -63,16 +64,16 @@ idle role bytes = ([], refl, sym (append-nil bytes))
 wrote : (role : Role) (m : List ℕ) (f : Framed role m) → Writes role (m ∷ []) [] f.0
 wrote role m f = (f.0, (f.0, [], f.1, sym (append-nil f.0), refl), refl)
 
-abbrev over : Joined → List ℕ → List ℕ → OverBytes
+abbrev pub over : Joined → List ℕ → List ℕ → OverBytes
 over x up down = record { ends = x; up = up; down = down }
 
 -- ---- the run
 
 module _ (id capacity : ℕ) where
-  abbrev one_byte : List ℕ
+  abbrev pub one_byte : List ℕ
   one_byte = take 1 answer-frame.0
 
-  cutting : GoesOver (bytes_apart id capacity true) (up_to_one_byte entry-hello) (over (x9 id capacity) [] one_byte)
+  pub cutting : GoesOver (bytes_apart id capacity true) (up_to_one_byte entry-hello) (over (x9 id capacity) [] one_byte)
   cutting = (
     over (x1 id capacity) [] [],
     (s1 id capacity, idle Client [], idle Server []),
@@ -107,7 +108,7 @@ module _ (id capacity : ℕ) where
     ),
   )
 
-  going-on : GoesOver (over (x9 id capacity) [] one_byte) up_to_its_end (over (x18 id capacity) [] [])
+  pub going-on : GoesOver (over (x9 id capacity) [] one_byte) up_to_its_end (over (x18 id capacity) [] [])
   going-on = (
     over (x10 id capacity) [] one_byte,
     (s10 id capacity, idle Client [], idle Server one_byte),
@@ -142,13 +143,16 @@ module _ (id capacity : ℕ) where
     ),
   )
 
+  pub one-byte : length one_byte ≡ 1
+  one-byte = let some : 0 < length answer-frame.0 = not-empty Server (answer_bytes 0 (exception_text Done)) answer-frame.0 answer-frame.1 in length-take-le 1 answer-frame.0 (omega arith)
+
   shows : ShowsOnceOverBytes (bytes_apart id capacity true)
   shows = record {
     entry = entry-hello;
     is = refl;
     cut = over (x9 id capacity) [] one_byte;
     cutting = cutting;
-    part = let some : 0 < length answer-frame.0 = not-empty Server (answer_bytes 0 (exception_text Done)) answer-frame.0 answer-frame.1 in length-take-le 1 answer-frame.0 (omega arith);
+    part = one-byte;
     logged = refl;
     unanswered = refl;
     end = over (x18 id capacity) [] [];

@@ -20,7 +20,8 @@ use Rattle.bm_work.specs.declared.sent.Sent.{Sent}
 use Rattle.bm_worker_session.specs.Sessions.{requests_of}
 use Rattle.bm_replay.specs.Schedule.{Worker, Say, Finish, is_running, have_ended, requests_taken, is_schedule_from, after}
 use Rattle.bm_wired.specs.Cuts.{Joined, Link, Stands, passed}
-use Rattle.bm_wired.specs.Wired.{Wired, Moves, Tell, bytes_in, EntryIsSayable, IsSayable}
+use Rattle.bm_wired.specs.Wired.{Wired, Moves, Tell, bytes_in, EntryIsSayable}
+use Rattle.bm_wired.specs.Service.{IsSayable}
 use Rattle.bm_wired.proofs.Sim.{Upward, asks_up, answers_up, up_bytes, FitsUp, Past}
 use Rattle.bm_wired.proofs.Parts.{all-append, all-map, map-both}
 use Rattle.bm_wired.proofs.Tells.{accepted-runs, get-at, get-after, get-end, fits-more, filled, past-text, past-end}

@@ -26,7 +26,8 @@ use Rattle.bm_replay.specs.Wire.{CanBeSaid}
 use Rattle.bm_replay.proofs.Sessions.{started-below}
 use Rattle.bm_replay.proofs.SmallNumbers.{IsSmall, small}
 use Rattle.bm_wired.specs.Cuts.{Joined, passed}
-use Rattle.bm_wired.specs.Wired.{Wired, Moves, Turn, TurnsBy, answers_to_send, IsSayable}
+use Rattle.bm_wired.specs.Wired.{Wired, Moves, Turn, TurnsBy}
+use Rattle.bm_wired.specs.Service.{answers_to_send, IsSayable}
 use Rattle.bm_wired.proofs.Sim.{Upward, asks_up, answers_up, up_bytes, FitsUp, answers_down, lane_of}
 use Rattle.bm_wired.proofs.Framework.{takes}
 use Rattle.bm_wired.proofs.Parts.{all-map, past-push, taken-stays}

@@ -15,8 +15,8 @@ use Rattle.websocket.specs.declared.protocol.frame.coding.OpCode.TheVariants.{Da
 use Rattle.websocket.specs.declared.protocol.state.WebSocketState.TheVariants.{Active}
 use Rattle.websocket.proofs.RoundTripLemmas.{read_step_written}
 use Rattle.websocket.proofs.StreamLemmas.{read_step-append, TookFrame, TookFrame_from_read}
-use Rattle.bm_wired.specs.Bytes.{IsFrameOf}
 use Rattle.bm_wired.specs.Frames.{Awaits, MessagesHaveFrames, FramesAreRead, PartsAreNotRead, FramesAreApart}
+use Rattle.bm_wired.specs.Service.{IsFrameOf}
 
 -- ---- a frame is read
 

@@ -17,7 +17,8 @@ use Rattle.bm_replay.specs.Schedule.{Worker, Scene, Act, new_worker, was_started
 use Rattle.bm_replay.proofs.Agreement.{Agree}
 use Rattle.bm_replay.proofs.Sessions.{was_started-push, requests_taken-push, was_refused-push}
 use Rattle.bm_wired.specs.Cuts.{Joined, Link, Greeted, Stands, passed}
-use Rattle.bm_wired.specs.Wired.{EntryIsSayable, IsSayable, bytes_in}
+use Rattle.bm_wired.specs.Wired.{EntryIsSayable, bytes_in}
+use Rattle.bm_wired.specs.Service.{IsSayable}
 use Rattle.bm_wired.proofs.Sim.{Downward, starts_down, stops_down, asks_down, answers_down, down_bytes, FitsDown, FitsUp, Past, Upward, asks_up, answers_up, up_bytes, lane_of}
 use Rattle.bm_wired.proofs.Parts.{all-append, all-map, fits-stays, map-both, past-push, refused-below, taken-stays}
 

@@ -23,8 +23,9 @@ use Rattle.bm_replay.proofs.Logged.{said_is_logged}
 use Rattle.bm_replay.proofs.Starts.{agree-at-first}
 use Rattle.bm_replay.proofs.Acts.{keeps}
 use Rattle.bm_replay.proofs.Agreement.{Agree}
-use Rattle.bm_wired.specs.Wired.{Wired, Move, Moves, Run, begun_wired, Start, Interrupt, Inquire, Turn, Wait, Tell, Listen, Drain, Look, TurnsBy, Orders, ordered, answers_to_send}
+use Rattle.bm_wired.specs.Wired.{Wired, Move, Moves, Run, begun_wired, Start, Interrupt, Inquire, Turn, Wait, Tell, Listen, Drain, Look, TurnsBy, Orders, ordered}
 use Rattle.bm_wired.specs.Laws.{WiredIsSchedule, WiredIsLogged}
+use Rattle.bm_wired.specs.Service.{answers_to_send}
 use Rattle.bm_wired.proofs.Sim.{scene_of, Sim, Step, Reached}
 use Rattle.bm_wired.proofs.Framework.{takes, sim-after, combine}
 use Rattle.bm_wired.proofs.Easy.{step-Look, step-Wait, step-Drain, step-Inquire, step-Start, step-Interrupt}

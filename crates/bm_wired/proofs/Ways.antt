@@ -4,7 +4,8 @@ use lib.Seq.{take-append-le, take-append-add}
 use Rattle.std.specs.Prelude.{nat_lt}
 use Rattle.std.proofs.lemmas.Bool.Decides.{nat_tests}
 use Rattle.websocket.specs.declared.protocol.config.Role.{Role}
-use Rattle.bm_wired.specs.Bytes.{IsFrameOf, AreFrames, Writes}
+use Rattle.bm_wired.specs.Bytes.{AreFrames, Writes}
+use Rattle.bm_wired.specs.Service.{IsFrameOf}
 use Rattle.bm_wired.proofs.Frames.{NoFrame, front, none-in-none, none-before, none-in-part}
 
 pub record Way (role : Role) (whole : Bool) (ms : List (List ℕ)) (bytes : List ℕ) : Type 0 where

@@ -1,25 +1,17 @@
 -- A lane and its worker over connections that carry bytes: each message goes in a frame of its own.
 -- A cut may fall anywhere, also inside a frame. Such a frame is never read.
-use Rattle.std.specs.Prelude.{◌≡◌, ◌<◌, ◌^◌, ℕ, Bool, true, List, [], ◌∷◌, ◌++◌, length, take, Some}
+use Rattle.std.specs.Prelude.{◌≡◌, ℕ, Bool, true, List, [], ◌∷◌, ◌++◌, length, take}
 use mathlib.Core.List.{IsPrefix}
-use Rattle.websocket.specs.Connection.{Outgoing, Sends}
 use Rattle.websocket.specs.declared.protocol.config.Role.{Role}
 use Rattle.websocket.specs.declared.protocol.config.Role.TheVariants.{Server, Client}
-use Rattle.websocket.specs.declared.protocol.frame.coding.Data.TheVariants.{Binary}
-use Rattle.websocket.specs.declared.protocol.frame.coding.OpCode.TheVariants.{Data}
 use Rattle.bm_lines.specs.Names.{stdio}
 use Rattle.bm_session.specs.Trace.{log, visible}
 use Rattle.bm_work.specs.Core.{unanswered_requests}
 use Rattle.bm_work.specs.Stream.{said}
 use Rattle.bm_replay.specs.Schedule.{was_started}
 use Rattle.bm_wired.specs.Cuts.{Joined, Step, Make, Break, Leave, Lose, Meet, Steps, Goes, apart}
+use Rattle.bm_wired.specs.Service.{IsFrameOf}
 use Rattle.bm_wired.specs.Wired.{Turn, Listen}
-
--- what a role sends on its stream for a binary message: one frame, a client's under any mask
-abbrev pub IsFrameOf : Role → List ℕ → List ℕ → Type 0
-IsFrameOf role message frame =
-    (length message < 2 ^ 63)
-    × Sends role (Some (record { opcode = Data Binary; payload = message })) [] frame
 
 -- the frames of messages, one behind the other
 abbrev pub AreFrames : Role → List (List ℕ) → List ℕ → Type 0

@@ -5,7 +5,7 @@ use Rattle.websocket.specs.Content.{binary, FitsLimit}
 use Rattle.websocket.specs.declared.protocol.config.Role.{Role}
 use Rattle.websocket.specs.declared.protocol.frame.codec.FrameStatus.TheVariants.{Partial, Complete}
 use Rattle.websocket.specs.declared.protocol.state.WebSocketState.TheVariants.{Active}
-use Rattle.bm_wired.specs.Bytes.{IsFrameOf}
+use Rattle.bm_wired.specs.Service.{IsFrameOf}
 
 -- the end that reads what this role sends, between two messages, and its limits let this one pass
 pub record Awaits (role : Role) (message : List ℕ) (conn : Connection) : Type 0 where

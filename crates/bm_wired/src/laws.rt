@@ -3,10 +3,13 @@
 ghost use Rattle.bm_wired.specs.Laws.{WiredIsSchedule, WiredIsLogged};
 ghost use Rattle.bm_wired.specs.Cuts.{CutsAreSchedules, CutsAreLogged, AllIsLogged};
 ghost use Rattle.bm_wired.specs.Bytes.{BytesAreMessages, BytesAreLogged, AllBytesAreLogged};
+ghost use Rattle.bm_wired.specs.Service.{ServiceIsLogged, AllOfServiceIsSeen};
+ghost use Rattle.bm_wired.specs.ServiceAsBytes.{ServiceIsOverBytes, OverBytesIsService};
 ghost use Rattle.bm_wired.specs.Frames.{MessagesHaveFrames, FramesAreRead, PartsAreNotRead};
 ghost use Rattle.bm_wired.specs.Frames.{FramesAreApart};
 ghost use Rattle.bm_wired.specs.CutExample.{CutsShowLines};
 ghost use Rattle.bm_wired.specs.BytesExample.{BytesShowLines};
+ghost use Rattle.bm_wired.specs.ServiceExample.{ServiceShowsLines};
 ghost use Rattle.bm_wired.specs.Example.{RunsShowLines};
 ghost use Rattle.bm_wired.specs.ReadBack.{StartsAreRead, RunsAreMeant, StartsAreRun, NewWorkersRun};
 ghost use Rattle.bm_wired.specs.ReadBack.{EmptyStartsAreRefused, InterruptsAreRead, AsksAreRead};
@@ -46,6 +49,23 @@ pub fn bytes_are_logged()
     ensures whole { AllBytesAreLogged }
 {}
 
+/// The law from socket to socket, which `Service.antt` says alone. It has a lane with its link, a
+/// worker, and the bytes under way between them, over connections that are cut anywhere. Each log
+/// is a prefix of what was reported of its command. Viewers see all of that of a command of the
+/// lane's session, under three premises. That is the session of the worker's core, nothing is
+/// unanswered, and all is shown.
+pub fn service_is_logged()
+    ensures prefix { ServiceIsLogged }
+    ensures whole { AllOfServiceIsSeen }
+{}
+
+/// Runs from socket to socket reach exactly the states that runs over bytes reach. So the one law
+/// says no less than the layers, and the runs that show something are runs of it too.
+pub fn service_is_over_bytes()
+    ensures bytes { ServiceIsOverBytes }
+    ensures back { OverBytesIsService }
+{}
+
 /// Each message has a frame, and no two frames begin the same bytes. The reader of WebSockets that
 /// both ends have gives the message of the frame at the front, and takes that frame alone. Of a
 /// part of a frame it gives nothing, and waits. So a turn over bytes reads as this reader does,
@@ -74,6 +94,11 @@ pub fn cuts_show_lines()
 /// reads nothing in it. The session is resumed, and viewers see the line once.
 pub fn bytes_show_lines()
     ensures { BytesShowLines }
+{}
+
+/// That run goes from socket to socket too, and all premises of the law hold at its end.
+pub fn service_shows_lines()
+    ensures { ServiceShowsLines }
 {}
 
 /// Messages are read back as they were meant. The bytes of each are decoded and are a message, and
