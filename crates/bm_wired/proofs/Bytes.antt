@@ -1,5 +1,5 @@
 -- A run over bytes is a run over messages.
-use Rattle.std.proofs.Common.{◌≡◌, refl, sym, ◌∙◌, ap, subst, ℕ, ◌+◌, ◌<◌, Bool, true, false, List, [], ◌∷◌, ◌++◌, length, take, drop, Option, inl, inr, append-nil}
+use Rattle.std.proofs.Common.{◌≡◌, refl, sym, ◌∙◌, ap, subst, ℕ, ◌+◌, Bool, true, false, List, [], ◌∷◌, ◌++◌, length, take, drop, Option, inl, inr, append-nil}
 use lib.Seq.{take-nil}
 use Rattle.std.specs.Prelude.{Result, Ok, Err}
 use Rattle.websocket.specs.declared.protocol.config.Role.TheVariants.{Server, Client}
@@ -18,7 +18,7 @@ use Rattle.bm_session.specs.declared.event.Event.TheVariants.{Go, Stop}
 use Rattle.bm_session.specs.declared.reply.Reply.{Reply}
 use Rattle.bm_worker_session.specs.Sessions.{requests_of}
 use Rattle.bm_wired.specs.Bytes.{OverBytes, holding, StepsOver, GoesOver, Writes, left, bytes_apart, BytesAreMessages, BytesAreLogged, AllBytesAreLogged}
-use Rattle.bm_wired.specs.Cuts.{Joined, Step, Make, Resend, Break, Leave, Lose, Meet, Begin, Apart, IsFree, Steps, Goes, passed, begun_by, apart}
+use Rattle.bm_wired.specs.Cuts.{Joined, Step, Make, Resend, Break, Leave, Lose, Meet, Begin, Apart, IsFree, Steps, Goes, passed, begun_by}
 use Rattle.bm_wired.specs.Wired.{Wired, Move, Moves, Start, Interrupt, Inquire, Turn, Wait, Tell, Listen, Drain, Look, Orders, TurnsBy, reply_in, bytes_in, ordered}
 use Rattle.bm_wired.specs.Service.{IsFrameOf, answers_to_send}
 use Rattle.bm_wired.proofs.Joint.{take-front, passed-same, passed-rest}

@@ -1,6 +1,6 @@
 -- A run over bytes with a cut inside a frame, step by step. Its ends are those of the run over
 -- messages.
-use Rattle.std.proofs.Common.{◌≡◌, refl, sym, true, ℕ, ◌<◌, ◌^◌, List, [], ◌∷◌, ◌++◌, length, take, append-nil, length-take-le, lit<, arith}
+use Rattle.std.proofs.Common.{◌≡◌, refl, sym, true, ℕ, ◌<◌, ◌^◌, List, [], ◌∷◌, length, take, append-nil, length-take-le, lit<, arith}
 use Rattle.websocket.specs.declared.protocol.config.Role.{Role}
 use Rattle.websocket.specs.declared.protocol.config.Role.TheVariants.{Server, Client}
 use Rattle.bm_session.specs.Texts.{exception_text}

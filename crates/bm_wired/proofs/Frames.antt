@@ -1,8 +1,8 @@
 -- Frames on a stream: the message in one, what is behind it, and the parts of one.
-use Rattle.std.proofs.Common.{◌≡◌, ◌≢◌, refl, sym, ◌∙◌, ap, subst, ℕ, ◌+◌, ◌≤◌, ◌<◌, ◌^◌, false, not, List, [], ◌∷◌, ◌++◌, length, drop, Some, None, Option, Ok, Err, Result, arith, append_assoc, append-nil, length-append}
+use Rattle.std.proofs.Common.{◌≡◌, ◌≢◌, refl, sym, ◌∙◌, ap, subst, ℕ, ◌+◌, ◌≤◌, ◌<◌, false, List, [], ◌∷◌, ◌++◌, length, drop, Some, None, Option, Ok, Err, Result, arith, append_assoc, append-nil, length-append}
 use lib.Seq.{drop-append_seam}
 use Rattle.std.proofs.lemmas.List.Elements.{All-from_recursion}
-use Rattle.websocket.specs.Connection.{Connection, Effect, is_server, read_step, whole_header}
+use Rattle.websocket.specs.Connection.{Connection, Effect, read_step, whole_header}
 use Rattle.websocket.specs.Content.{Content, binary}
 use Rattle.websocket.specs.Frame.{encode_frame}
 use Rattle.websocket.specs.declared.error.Error.{Error}
@@ -14,7 +14,7 @@ use Rattle.websocket.specs.declared.protocol.frame.coding.Data.TheVariants.{Bina
 use Rattle.websocket.specs.declared.protocol.frame.coding.OpCode.TheVariants.{Data}
 use Rattle.websocket.specs.declared.protocol.state.WebSocketState.TheVariants.{Active}
 use Rattle.websocket.proofs.RoundTripLemmas.{read_step_written}
-use Rattle.websocket.proofs.StreamLemmas.{read_step-append, TookFrame, TookFrame_from_read}
+use Rattle.websocket.proofs.StreamLemmas.{read_step-append, TookFrame_from_read}
 use Rattle.bm_wired.specs.Frames.{Awaits, MessagesHaveFrames, FramesAreRead, PartsAreNotRead, FramesAreApart}
 use Rattle.bm_wired.specs.Service.{IsFrameOf}
 

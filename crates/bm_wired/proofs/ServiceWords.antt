@@ -1,5 +1,5 @@
 -- What the law from socket to socket and that over bytes say alike.
-use Rattle.std.proofs.Common.{◌≡◌, refl, sym, ◌∙◌, ap, subst, ℕ, ◌+◌, Bool, true, false, List, [], ◌∷◌, ◌++◌, length, drop, append-nil}
+use Rattle.std.proofs.Common.{◌≡◌, refl, sym, ◌∙◌, ap, subst, ℕ, Bool, true, false, List, [], ◌∷◌, ◌++◌, length, drop, append-nil}
 use Rattle.std.specs.Prelude.{if◌then◌else◌, Option, Some, None}
 use Rattle.std.specs.Option.{option_to_list}
 use mathlib.Core.List.{Forall₂}
@@ -18,7 +18,7 @@ use Rattle.bm_work.specs.Core.{Core, heard, heard_request, heard_bad}
 use Rattle.std.specs.FinMap.{get}
 use Rattle.bm_work.specs.declared.sent.Sent.{Sent}
 use Rattle.bm_work.specs.declared.worker_answer.WorkerAnswer.{WorkerAnswer}
-use Rattle.bm_wired.specs.Service.{Service, Step, Link, Apart, Greeted, Stands, opening, Writes, IsFrameOf}
+use Rattle.bm_wired.specs.Service.{Service, Link, Apart, Greeted, Stands, opening, Writes, IsFrameOf}
 use Rattle.bm_wired.specs.Bytes.{OverBytes, GoesOver, AreFrames, bytes_apart}
 use Rattle.bm_wired.specs.Bytes as raw
 use Rattle.bm_wired.specs.Cuts.{Joined, passed}
