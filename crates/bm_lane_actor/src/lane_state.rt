@@ -90,7 +90,7 @@ impl<Y: Yard, S> LaneState<Y, S> {
     }
 
     /// How the lane is connected.
-    pub(crate) fn connection(&self) -> ConnectionState
+    pub fn connection(&self) -> ConnectionState
         ensures { result ≡ connection_of self.now.lane.trace }
     {
         connection_of(&self.reader)

@@ -45,3 +45,4 @@ pub use pipe_reader::PipeReader;
 pub use ready_stream::ReadyStream;
 pub use run::work_run;
 pub use session::new_session;
+pub use session_texts::SessionTexts;
