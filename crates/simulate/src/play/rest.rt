@@ -1,0 +1,177 @@
+//! A run is brought to rest, and what is left is judged.
+
+use super::Play;
+use crate::scene::Scene;
+use crate::wire::WayEnd;
+use crate::worker::Stage;
+use bm_lane::{Ends, Yard, same_lane, settle};
+use bm_lines::STDIO;
+use std::alloc::AllocError;
+use std::sync::Wait;
+
+/// The length of the answer `resumed` to a login, in its frame.
+const RESUMED_BYTES: usize = 42;
+
+impl<Y: Yard, W: Wait + Drop> Play<Y, W> {
+    /// No more trouble comes, and the links are whole. Some workers never come again.
+    fn heals(&mut self, scene: &mut Scene) -> Result<(), AllocError> {
+        for wire in self.wires.iter() {
+            if let Ok(mut wire) = wire.try_borrow_mut() {
+                wire.silent_until = 0;
+            }
+        }
+        for worker in self.others.iter_mut() {
+            worker.leaves(true);
+        }
+        self.others.clear();
+        for lane in 0..self.lanes.len() {
+            let is_gone = scene.dice.once_in(6);
+            let is_told = scene.dice.once_in(2);
+            if let Some(worker) = self.workers.get_mut(lane) {
+                worker.paused_until = 0;
+                if is_gone {
+                    scene.tell("a worker is gone for good", lane as u64, u64::from(is_told))?;
+                    worker.leaves(is_told);
+                    worker.children.clear();
+                }
+            }
+            if let Some(gone) = self.gone.get_mut(lane) {
+                *gone = is_gone;
+            }
+        }
+        Ok(())
+    }
+
+    /// Brings the run to rest.
+    pub(crate) fn rests<R: Wait>(&mut self, rt: &R, scene: &mut Scene) -> Result<(), AllocError> {
+        self.heals(scene)?;
+        scene.tell("the run is brought to rest", 0, 0)?;
+        if let Some(why) = self.settle_down(rt, scene)? {
+            scene.fault(why, 0, 0)?;
+            return Ok(());
+        }
+        self.see_ended(scene)?;
+        for lane in 0..self.lanes.len() {
+            self.resumes_idle(rt, scene, lane)?;
+        }
+        self.see_ended(scene)
+    }
+
+    /// Each log is looked at once more.
+    fn see_ended(&mut self, scene: &mut Scene) -> Result<(), AllocError> {
+        for step in 0..scene.judge.steps.len() {
+            let Some(record) = scene.judge.steps.get(step) else {
+                continue;
+            };
+            let lane = record.lane;
+            scene.counts.lines = scene
+                .counts
+                .lines
+                .saturating_add(record.seen.as_str().split('\n').count() as u64);
+            if let Some(lane) = self.lanes.get_mut(lane) {
+                lane.look(scene, step)?;
+            }
+        }
+        Ok(())
+    }
+
+    /// A lane that is at rest is cut and resumed: nothing is sent again, since all has an answer.
+    fn resumes_idle<R: Wait>(
+        &mut self,
+        rt: &R,
+        scene: &mut Scene,
+        lane: usize,
+    ) -> Result<(), AllocError> {
+        let ticks = self.ticks.get(lane).copied().unwrap_or(0);
+        if ticks < 100 || self.gone.get(lane).copied().unwrap_or(true) {
+            return Ok(());
+        }
+        let Some(worker) = self.workers.get(lane) else {
+            return Ok(());
+        };
+        if let Stage::Works(wire) = &worker.stage {
+            if let Ok(mut wire) = wire.try_borrow_mut() {
+                wire.break_by(WayEnd::Closed);
+            }
+        }
+        self.tell_arrivals();
+        let resumed = scene.counts.resumed;
+        if let Some(why) = self.settle_down(rt, scene)? {
+            return scene.fault(why, lane as u64, 1);
+        }
+        if scene.counts.resumed == resumed {
+            return scene.fault("a session at rest isn't resumed", lane as u64, 0);
+        }
+        let Some(worker) = self.workers.get(lane) else {
+            return Ok(());
+        };
+        let (sent_again, told_again) = match &worker.stage {
+            Stage::Works(wire) => match wire.try_borrow() {
+                Ok(wire) => (
+                    wire.down
+                        .written()
+                        .saturating_sub(wire.down.head())
+                        .saturating_sub(RESUMED_BYTES),
+                    wire.up.written().saturating_sub(worker.logged_in_by),
+                ),
+                Err(_) => (0, 0),
+            },
+            _ => (0, 0),
+        };
+        if sent_again != 0 {
+            scene.fault("an order has no answer at rest", lane as u64, sent_again as u64)?;
+        }
+        if told_again != 0 {
+            scene.fault("a request has no answer at rest", lane as u64, told_again as u64)?;
+        }
+        Ok(())
+    }
+
+    /// Ends all lanes, and compares what is left of each with what was seen.
+    pub(crate) fn ends<R: Wait>(self, rt: &R, scene: &mut Scene) -> Result<(), AllocError> {
+        let Play { lanes, .. } = self;
+        for lane in lanes {
+            let place = lane.place;
+            let mut lane = lane;
+            lane.state.close();
+            for _ in 0..10 {
+                if lane.state.give_up(rt) {
+                    break;
+                }
+                lane.drain(scene, u64::MAX)?;
+            }
+            let (state, writer, viewers) = (lane.state, lane.writer, lane.viewers);
+            let ends = Ends {
+                reader: state.into_reader(),
+                writer,
+                viewers,
+            };
+            if !same_lane(&ends.reader, &ends.writer, ends.viewers.as_slice()) {
+                scene.fault("the ends of a lane aren't of one", place as u64, 0)?;
+                continue;
+            }
+            let Ok(settled) = settle(rt, scene.alloc, ends) else {
+                return Err(AllocError);
+            };
+            for step in 0..scene.judge.steps.len() {
+                let Some(record) = scene.judge.steps.get(step) else {
+                    continue;
+                };
+                let Some(command) = record.command else {
+                    continue;
+                };
+                if record.lane != place {
+                    continue;
+                }
+                let is_same = match settled.book.slice(command, STDIO, 0, u64::MAX) {
+                    Ok(chunk) => chunk.content.as_str() == record.seen.as_str(),
+                    Err(_) => false,
+                };
+                if !is_same {
+                    scene.fault("a settled log isn't what was seen", step as u64, command)?;
+                }
+            }
+        }
+        Ok(())
+    }
+}
