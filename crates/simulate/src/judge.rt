@@ -33,6 +33,8 @@ pub(crate) struct StepRecord {
     pub code: i64,
     /// Whether it ends only where it is killed.
     pub is_endless: bool,
+    /// Whether it can't be started.
+    pub cannot_start: bool,
     /// The number that its lane gave it.
     pub command: Option<u64>,
     /// Whether it isn't started any more.

@@ -44,11 +44,19 @@ pub(crate) struct Lane<Y: Yard, W: Wait + Drop> {
     /// Whether an arrival was told, and whether a read may give something.
     pub readable: bool,
     may_give: bool,
+    /// Whether the worker is to be shut down, and whether its process has ended.
+    pub is_to_shut_down: bool,
+    pub has_ended: bool,
+    /// Whether nobody is awaited, since one of these was told.
+    pub is_dismissed: bool,
     /// The commands that are to be interrupted, with their steps.
     stops: Vec<(u64, usize)>,
     ticks: Option<TickCounter>,
     /// Until when the pool doesn't drain it.
     pub stalled_until: u64,
+    /// For how many ticks a cut lane waits for its worker, and since when it does.
+    limit: u32,
+    cut_at: u64,
 }
 
 /// The master's end of a connection goes.
@@ -77,9 +85,14 @@ impl<Y: Yard, W: Wait + Drop> Lane<Y, W> {
             mailbox: Vec::new(alloc),
             readable: false,
             may_give: false,
+            is_to_shut_down: false,
+            has_ended: false,
+            is_dismissed: false,
             stops: Vec::new(alloc),
             ticks: None,
             stalled_until: 0,
+            limit: ticks,
+            cut_at: 0,
         }
     }
 
@@ -107,11 +120,19 @@ impl<Y: Yard, W: Wait + Drop> Lane<Y, W> {
         match after {
             ConnectionState::Cut => {
                 count(&mut scene.counts.cuts);
+                self.cut_at = scene.now;
                 scene.tell("lane is cut", place, 0)
             }
             ConnectionState::Down => {
                 count(&mut scene.counts.lost);
                 scene.judge.lost(self.place);
+                let waited = scene.now.saturating_sub(self.cut_at);
+                let wanted = u64::from(self.limit).saturating_mul(TICK_MS);
+                let is_early = before == ConnectionState::Cut && waited < wanted;
+                if is_early && !self.is_dismissed {
+                    scene.fault("a cut lane is given up early", place, waited)?;
+                }
+                self.is_dismissed = false;
                 scene.tell("lane is lost", place, 0)
             }
             ConnectionState::Up => Ok(()),
@@ -120,10 +141,7 @@ impl<Y: Yard, W: Wait + Drop> Lane<Y, W> {
 
     /// One step of its actor: what is due, then a request, or else a turn.
     pub(crate) fn step<R: Wait>(&mut self, rt: &R, scene: &mut Scene) -> Result<(), AllocError> {
-        if self.readable {
-            self.readable = false;
-            self.may_give = true;
-        }
+        self.take_signals(rt, scene)?;
         self.watch(rt, scene)?;
         self.send_stop(rt, scene)?;
         self.count_ticks(rt, scene)?;
@@ -136,6 +154,41 @@ impl<Y: Yard, W: Wait + Drop> Lane<Y, W> {
             Request::Start(step) => self.start(rt, scene, step),
             Request::Interrupt(step) => self.keep_stop(scene, step),
         }
+    }
+
+    /// Signals come before each request that lies in the mailbox.
+    fn take_signals<R: Wait>(&mut self, rt: &R, scene: &mut Scene) -> Result<(), AllocError> {
+        if self.readable {
+            self.readable = false;
+            self.may_give = true;
+        }
+        if self.is_to_shut_down {
+            self.is_to_shut_down = false;
+            let acts = self.policy.step(LaneInput::ShutDown, scene.now);
+            self.does(rt, scene, acts)?;
+            self.state.shut_down(scene.alloc);
+            scene.tell("lane shuts its worker down", self.place as u64, 0)?;
+            self.expires(rt, scene)?;
+        }
+        if self.has_ended {
+            self.has_ended = false;
+            let is_up = self.is_up();
+            let acts = self.policy.step(LaneInput::Ended { is_up }, scene.now);
+            self.does(rt, scene, acts)?;
+            self.state.dismiss();
+            scene.tell("lane's worker has ended", self.place as u64, 0)?;
+            self.expires(rt, scene)?;
+        }
+        Ok(())
+    }
+
+    /// Nobody is awaited any more: a cut lane is given up.
+    fn expires<R: Wait>(&mut self, rt: &R, scene: &mut Scene) -> Result<(), AllocError> {
+        self.may_give = true;
+        self.is_dismissed = true;
+        let before = self.state.connection();
+        self.state.expire(rt);
+        self.note(scene, before)
     }
 
     /// Counts the ticks of a lane that is cut.
@@ -204,11 +257,16 @@ impl<Y: Yard, W: Wait + Drop> Lane<Y, W> {
     /// The lane's link fails.
     fn fail<R: Wait>(&mut self, rt: &R, scene: &mut Scene) -> Result<(), AllocError> {
         scene.tell("lane fails its link", self.place as u64, 0)?;
+        let mut is_ready = false;
         if let Some(wire) = &self.wire {
             if let Ok(mut wire) = wire.try_borrow_mut() {
+                is_ready = wire.up.is_ready() && !wire.up.has_ended();
                 wire.up.end_by(WayEnd::Reset);
                 wire.down.refuse();
             }
+        }
+        if is_ready {
+            scene.fault("a link fails whose worker has spoken", self.place as u64, 0)?;
         }
         self.turn(rt, scene)
     }

@@ -2,9 +2,9 @@
 //!
 //!     simulate SEED COUNT [actions=N] [troubles=BITS] [trace]
 //!
-//! It is no program of users: `tests/simulate` builds and runs it. What threads and sockets do in
-//! the programs is done here as plainly as may be, and all that decides is theirs. What it judges is
-//! said in `judge.rt`.
+//! It is no program of users: `tests/beside/simulate` builds and runs it. What threads and sockets
+//! do is done here as plainly as may be. All that decides are the machines of both programs. What is
+//! judged is said in `judge.rt`.
 #![tactic(auto)]
 
 mod child;
@@ -49,7 +49,7 @@ fn takes(asked: &mut Asked, place: usize, word: &str) {
         asked.troubles = number(rest, asked.troubles);
     } else if place == 1 {
         asked.seed = number(word, 0);
-    } else {
+    } else if place == 2 {
         asked.count = number(word, 1);
     }
 }

@@ -68,6 +68,7 @@ pub(crate) fn add_step(scene: &mut Scene, lane: usize) -> Result<usize, AllocErr
         kept: 0,
         code: code_of(&mut dice),
         is_endless: dice.once_in(8),
+        cannot_start: dice.once_in(20),
         command: None,
         is_refused: false,
         losses: 0,

@@ -29,6 +29,8 @@ pub(crate) enum Stage {
     Greets(Greeting),
     /// It works over this connection.
     Works(Shared),
+    /// It was told to shut down, and hears its last answers until this time.
+    Closes(Shared, u64),
     /// It gave up.
     Ended,
 }
@@ -101,7 +103,7 @@ impl BuildWorker {
     pub(crate) fn wire(&self) -> Option<&Shared> {
         match &self.stage {
             Stage::Greets(greeting) => Some(&greeting.wire),
-            Stage::Works(wire) => Some(wire),
+            Stage::Works(wire) | Stage::Closes(wire, _) => Some(wire),
             Stage::Pauses(_) | Stage::Ended => None,
         }
     }
@@ -140,6 +142,7 @@ impl BuildWorker {
             }
             Stage::Greets(_) => self.greet(scene),
             Stage::Works(_) => self.work(scene),
+            Stage::Closes(_, _) => self.close(scene),
             Stage::Ended => Ok(()),
         }
     }

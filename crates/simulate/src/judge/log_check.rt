@@ -64,6 +64,9 @@ fn check_end(record: &StepRecord, is_whole: bool, end: &str) -> Option<&'static 
     if is_held && end.is_empty() {
         return None;
     }
+    if record.cannot_start && end.starts_with("hcannot start: ") {
+        return None;
+    }
     let end = match end.strip_prefix("hcannot end: ") {
         Some(rest) => rest.split_once('\n').unwrap_or(("", "")).1,
         None => end,
@@ -128,13 +131,14 @@ fn check_ended(
         Results::Retry if losses == record.losses => Some("RETRY without a loss"),
         Results::Retry => None,
         Results::Cancelled if !record.is_stopped => Some("CANCELLED without an order"),
-        Results::Cancelled if !(is_coded || last == "hinterrupted") => {
+        Results::Cancelled if !(is_coded || last == "hinterrupted" || record.cannot_start) => {
             Some("CANCELLED without its last lines")
         }
         Results::Cancelled => None,
         Results::Success if is_coded && record.code == 0 => None,
         Results::Failure if is_coded && record.code != 0 => None,
         Results::Success | Results::Failure => Some("an end that its command didn't have"),
+        Results::Exception if record.cannot_start => None,
         Results::Exception | Results::Warnings | Results::Skipped => {
             Some("an end without a cause")
         }

@@ -21,7 +21,7 @@ impl<Y: Yard, W: Wait + Drop> Lane<Y, W> {
         self.does(rt, scene, acts)
     }
 
-    fn does<R: Wait>(
+    pub(super) fn does<R: Wait>(
         &mut self,
         rt: &R,
         scene: &mut Scene,
@@ -131,6 +131,7 @@ impl<Y: Yard, W: Wait + Drop> Lane<Y, W> {
         match answer {
             Ok(attached) => {
                 self.wire = Some(wire);
+                self.is_dismissed = false;
                 let came = self.came();
                 let now = scene.now;
                 self.policy.step(LaneInput::Attached { came }, now);

@@ -106,6 +106,7 @@ impl<Y: Yard, W: Wait + Drop> Lane<Y, W> {
         if chunk.lines != lines || state.lines != lines || chunk.first_line != 0 {
             scene.fault("a look miscounts lines", step as u64, lines)?;
         }
+        scene.tell("a reader looks", step as u64, lines)?;
         let now = scene.now;
         scene.judge.saw(now, step, content, state.ended)?;
         look_in_part(scene, viewer, command, content, lines)

@@ -86,14 +86,23 @@ impl<Y: Yard, W: Wait + Drop> Play<Y, W> {
         if ticks < 100 || self.gone.get(lane).copied().unwrap_or(true) {
             return Ok(());
         }
+        let is_dismissed = match self.lanes.get(lane) {
+            Some(lane) => lane.is_dismissed,
+            None => true,
+        };
         let Some(worker) = self.workers.get(lane) else {
             return Ok(());
         };
+        if is_dismissed {
+            return Ok(());
+        }
         if let Stage::Works(wire) = &worker.stage {
             if let Ok(mut wire) = wire.try_borrow_mut() {
+                scene.tell("a connection breaks", wire.number, 1)?;
                 wire.break_by(WayEnd::Closed);
             }
         }
+        scene.tell("a lane at rest is cut", lane as u64, 0)?;
         self.tell_arrivals();
         let resumed = scene.counts.resumed;
         if let Some(why) = self.settle_down(rt, scene)? {

@@ -103,6 +103,8 @@ impl<Y: Yard, W: Wait + Drop> Play<Y, W> {
                 if left == 0 {
                     return Ok(None);
                 }
+            } else {
+                left = 3;
             }
             pause = if has_moved {
                 1

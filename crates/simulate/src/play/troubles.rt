@@ -9,7 +9,7 @@ use std::alloc::AllocError;
 use std::sync::Wait;
 
 /// How many kinds of trouble there are.
-const KINDS: u64 = 8;
+const KINDS: u64 = 9;
 
 impl<Y: Yard, W: Wait + Drop> Play<Y, W> {
     /// One trouble of a kind that isn't left out.
@@ -25,6 +25,7 @@ impl<Y: Yard, W: Wait + Drop> Play<Y, W> {
             4 => self.stall(scene, lane),
             5 => self.second_login(scene, lane),
             6 => self.restart(scene, lane),
+            7 => self.shut_down(scene, lane),
             _ => {
                 let most = match scene.dice.below(6) {
                     0 => 70_000,
@@ -141,6 +142,17 @@ impl<Y: Yard, W: Wait + Drop> Play<Y, W> {
         Ok(())
     }
 
+    /// A worker is told to shut down.
+    fn shut_down(&mut self, scene: &mut Scene, lane: usize) -> Result<(), AllocError> {
+        if !scene.dice.once_in(6) {
+            return Ok(());
+        }
+        if let Some(lane) = self.lanes.get_mut(lane) {
+            lane.is_to_shut_down = true;
+        }
+        scene.tell("a worker is to be shut down", lane as u64, 0)
+    }
+
     /// A worker's process ends, or its machine does.
     fn restart(&mut self, scene: &mut Scene, lane: usize) -> Result<(), AllocError> {
         if !scene.dice.once_in(3) {
@@ -151,6 +163,11 @@ impl<Y: Yard, W: Wait + Drop> Play<Y, W> {
             worker.leaves(is_told);
             worker.children.clear();
         }
-        scene.tell("a worker ends", lane as u64, u64::from(is_told))
+        scene.tell("a worker ends", lane as u64, u64::from(is_told))?;
+        let is_known = scene.dice.once_in(3);
+        if let Some(lane) = self.lanes.get_mut(lane) {
+            lane.has_ended = lane.has_ended || is_known;
+        }
+        Ok(())
     }
 }

@@ -4,7 +4,7 @@ use super::{BuildWorker, MOST_UNANSWERED_BYTES};
 use crate::child::{Child, PipeMail};
 use crate::scene::{Scene, count};
 use bm_commands::{ChildState, Effect, Input, ProcessInput, ProcessLook};
-use bm_outbox::{OutboxEntry, Said, Sweep};
+use bm_outbox::{OutboxEntry, Said, StartFault, Sweep};
 use bm_work::Argv;
 use std::alloc::AllocError;
 
@@ -92,6 +92,14 @@ impl BuildWorker {
         count(&mut scene.counts.commands);
         self.session.outbox.open(scene.alloc, command, argv.as_slice())?;
         let process = self.queues.admit(command, scene.now)?;
+        if let Some(record) = scene.judge.steps.get_mut(step) {
+            if record.cannot_start {
+                record.is_told = true;
+                self.put(scene, Input::Process(process, ProcessInput::NotStarted))?;
+                let why = StartFault::NoMemory;
+                return self.session.outbox.fail(scene.alloc, command, why);
+            }
+        }
         let (alloc, now) = (scene.alloc, scene.now);
         let child = Child::new(alloc, &mut scene.dice, now, process, command, step);
         self.children.push(child)?;

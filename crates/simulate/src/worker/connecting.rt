@@ -106,6 +106,7 @@ impl BuildWorker {
         self.stage = Stage::Works(wire);
         self.silent_since = scene.now;
         self.pinged = None;
+        self.heard = 0;
         let is_resumed = attached == Attached::Resumed;
         scene.tell("worker logged in", self.lane as u64, u64::from(is_resumed))?;
         count(&mut scene.counts.logins);

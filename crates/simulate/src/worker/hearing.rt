@@ -2,11 +2,15 @@
 
 use super::{BuildWorker, Stage};
 use crate::scene::Scene;
+use bm_commands::Input;
 use bm_link::Turn;
 use bm_outbox::{ConnectFault, Keepalive, after_silence};
 use bm_work::WorkAct;
 use bm_worker_session::SessionFault;
 use std::alloc::AllocError;
+
+/// How long a worker that was told to end waits for its last answers.
+const LAST_ANSWERS_MS: u64 = 1_000;
 
 /// How much mail a step takes.
 const MOST_MAIL: u64 = 16;
@@ -82,8 +86,48 @@ impl BuildWorker {
         match act {
             WorkAct::Run { command, argv } => self.run(scene, command, &argv),
             WorkAct::Interrupt(command) => self.interrupt(scene, command),
+            WorkAct::Shutdown => self.shut_down(scene),
             _ => Ok(()),
         }
+    }
+
+    /// It is to end: its commands are killed, and the answers to what was said of them are heard.
+    fn shut_down(&mut self, scene: &mut Scene) -> Result<(), AllocError> {
+        scene.tell("worker shuts down", self.lane as u64, 0)?;
+        self.put(scene, Input::Ends)?;
+        let wire = match self.wire() {
+            Some(wire) => wire.clone()?,
+            None => return Ok(()),
+        };
+        self.stage = Stage::Closes(wire, scene.now.saturating_add(LAST_ANSWERS_MS));
+        Ok(())
+    }
+
+    /// Hears its last answers, and then closes its connection by a frame.
+    pub(super) fn close(&mut self, scene: &mut Scene) -> Result<(), AllocError> {
+        let Stage::Closes(_, until) = &self.stage else {
+            return Ok(());
+        };
+        let mut is_over = *until <= scene.now;
+        for _ in 0..1_000 {
+            match self.session.hear(scene.alloc, &mut self.arena) {
+                Ok((Turn::Quiet, _)) => break,
+                Ok(_) => {}
+                Err(_) => {
+                    is_over = true;
+                    break;
+                }
+            }
+        }
+        if !is_over && self.session.has_unanswered() {
+            return Ok(());
+        }
+        if let Some(mut link) = self.session.lose() {
+            let _ = link.close();
+        }
+        scene.tell("worker closes its connection", self.lane as u64, 0)?;
+        self.leaves(true);
+        Ok(())
     }
 
     /// Pings a silent master, or counts the connection as lost.
