@@ -12,6 +12,7 @@ use bm_latent::{TICK_MS, TickCounter};
 use bm_link::{MasterLink, Turn};
 use bumpalo::Bump;
 use std::alloc::{AllocError, Global};
+use std::rc::Rc;
 use std::sync::Wait;
 
 /// A link that has logged in, and its connection.
@@ -103,6 +104,14 @@ impl<Y: Yard, W: Wait + Drop> Lane<Y, W> {
     /// Whether nothing waits for the lane: no request, no order and no second link.
     pub(crate) fn is_idle(&self) -> bool {
         self.mailbox.is_empty() && self.stops.is_empty() && self.waiting.is_none()
+    }
+
+    /// Whether its link is over this connection.
+    pub(crate) fn is_over(&self, wire: &Shared) -> bool {
+        match &self.wire {
+            Some(own) => Rc::ptr_eq(own, wire),
+            None => false,
+        }
     }
 
     /// What became of the lane that stood so before.
@@ -265,7 +274,7 @@ impl<Y: Yard, W: Wait + Drop> Lane<Y, W> {
                 wire.down.refuse();
             }
         }
-        if is_ready {
+        if is_ready && scene.is_strict {
             scene.fault("a link fails whose worker has spoken", self.place as u64, 0)?;
         }
         self.turn(rt, scene)

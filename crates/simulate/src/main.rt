@@ -1,10 +1,10 @@
 //! Plays a build master with its lanes and workers by seed, in one thread, over streams in memory.
 //!
-//!     simulate SEED COUNT [actions=N] [troubles=BITS] [trace]
+//!     simulate SEED COUNT [actions=N] [troubles=BITS] [strict] [trace]
 //!
 //! It is no program of users: `tests/beside/simulate` builds and runs it. What threads and sockets
-//! do is done here as plainly as may be. All that decides are the machines of both programs. What is
-//! judged is said in `judge.rt`.
+//! do is done here as plainly as may be. All that decides are the machines of both programs. What
+//! is judged is said in `judge.rt`.
 #![tactic(auto)]
 
 mod child;
@@ -33,6 +33,7 @@ struct Asked {
     count: u64,
     actions: u64,
     troubles: u64,
+    is_strict: bool,
     is_traced: bool,
 }
 
@@ -43,6 +44,8 @@ fn number(word: &str, before: u64) -> u64 {
 fn takes(asked: &mut Asked, place: usize, word: &str) {
     if word == "trace" {
         asked.is_traced = true;
+    } else if word == "strict" {
+        asked.is_strict = true;
     } else if let Some(rest) = word.strip_prefix("actions=") {
         asked.actions = number(rest, asked.actions);
     } else if let Some(rest) = word.strip_prefix("troubles=") {
@@ -60,6 +63,7 @@ fn main(rt: HostRuntime) -> ExitCode {
         count: 1,
         actions: u64::MAX,
         troubles: u64::MAX,
+        is_strict: false,
         is_traced: false,
     };
     let Ok(words) = env::args(&rt) else {
@@ -83,6 +87,7 @@ fn main(rt: HostRuntime) -> ExitCode {
             seed,
             asked.actions,
             asked.troubles,
+            asked.is_strict,
             asked.is_traced,
         );
         match played {

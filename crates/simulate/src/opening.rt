@@ -120,9 +120,10 @@ pub(crate) fn play_seed<W: Wait + Drop + Copy, R: Wait>(
     seed: u64,
     most: u64,
     troubles: u64,
+    is_strict: bool,
     is_traced: bool,
 ) -> Result<Told, AllocError> {
-    let mut scene = Scene::new(alloc, seed, is_traced);
+    let mut scene = Scene::new(alloc, seed, is_strict, is_traced);
     play_over::<Brand, W, R>(rt, owned, &mut scene, most, troubles)?;
     let mut text = String::new(alloc);
     if is_traced {

@@ -71,6 +71,8 @@ pub(crate) struct Scene {
     pub wires: u64,
     /// Connections that were made and that the door hasn't taken.
     pub new_wires: Vec<Shared>,
+    /// Whether it is also judged what a known fault of the tree breaks.
+    pub is_strict: bool,
     /// Whether each action is told.
     is_traced: bool,
     /// What was told.
@@ -78,7 +80,7 @@ pub(crate) struct Scene {
 }
 
 impl Scene {
-    pub(crate) fn new(alloc: Global, seed: u64, is_traced: bool) -> Scene {
+    pub(crate) fn new(alloc: Global, seed: u64, is_strict: bool, is_traced: bool) -> Scene {
         Scene {
             alloc,
             now: 0,
@@ -87,6 +89,7 @@ impl Scene {
             counts: Counts::new(),
             wires: 0,
             new_wires: Vec::new(alloc),
+            is_strict,
             is_traced,
             told: String::new(alloc),
         }

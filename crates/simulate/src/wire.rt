@@ -264,8 +264,8 @@ pub(crate) enum Side {
     Master,
 }
 
-/// An end of a connection. One that is made anew reads and writes from the beginning. So a handshake
-/// that met no bytes is made again, by the same bytes, once more have arrived.
+/// An end of a connection. One that is made anew reads and writes from the beginning. So a
+/// handshake that met no bytes is made again, by the same bytes, once more have arrived.
 #[derive(Drop)]
 pub(crate) struct MemoryStream {
     wire: Shared,

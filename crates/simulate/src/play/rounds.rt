@@ -66,6 +66,9 @@ impl<Y: Yard, W: Wait + Drop> Play<Y, W> {
         let Stage::Works(wire) = &worker.stage else {
             return Some("a worker has no connection");
         };
+        if !master.is_over(wire) {
+            return Some("a lane and its worker have two connections");
+        }
         match wire.try_borrow() {
             Ok(wire) if wire.up.is_flying() || wire.down.is_flying() => Some("bytes are under way"),
             _ => None,
