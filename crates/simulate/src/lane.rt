@@ -8,7 +8,7 @@ use crate::scene::{Scene, count};
 use crate::wire::{MemoryStream, Shared, WayEnd};
 use bm_lane::{Drained, Ends, Viewer, WriterEnd, Yard};
 use bm_lane_actor::{ConnectionState, LaneInput, LanePolicy, LaneState};
-use bm_latent::{TICK_MS, TickCounter};
+use bm_latent::{TICK_MS, TickCounter, WorkerEvent};
 use bm_link::{MasterLink, Turn};
 use bumpalo::Bump;
 use std::alloc::{AllocError, Global};
@@ -45,6 +45,8 @@ pub(crate) struct Lane<Y: Yard, W: Wait + Drop> {
     /// Whether an arrival was told, and whether a read may give something.
     pub readable: bool,
     may_give: bool,
+    /// What happened to its worker, of which the coordinator hasn't heard.
+    pub events: Vec<WorkerEvent>,
     /// Whether the worker is to be shut down, and whether its process has ended.
     pub is_to_shut_down: bool,
     pub has_ended: bool,
@@ -53,6 +55,8 @@ pub(crate) struct Lane<Y: Yard, W: Wait + Drop> {
     /// The commands that are to be interrupted, with their steps.
     stops: Vec<(u64, usize)>,
     ticks: Option<TickCounter>,
+    /// Whether the last turn met nothing.
+    was_quiet: bool,
     /// Until when the pool doesn't drain it.
     pub stalled_until: u64,
     /// For how many ticks a cut lane waits for its worker, and since when it does.
@@ -86,11 +90,13 @@ impl<Y: Yard, W: Wait + Drop> Lane<Y, W> {
             mailbox: Vec::new(alloc),
             readable: false,
             may_give: false,
+            events: Vec::new(alloc),
             is_to_shut_down: false,
             has_ended: false,
             is_dismissed: false,
             stops: Vec::new(alloc),
             ticks: None,
+            was_quiet: false,
             stalled_until: 0,
             limit: ticks,
             cut_at: 0,
@@ -130,11 +136,13 @@ impl<Y: Yard, W: Wait + Drop> Lane<Y, W> {
             ConnectionState::Cut => {
                 count(&mut scene.counts.cuts);
                 self.cut_at = scene.now;
+                self.events.push(WorkerEvent::Cut)?;
                 scene.tell("lane is cut", place, 0)
             }
             ConnectionState::Down => {
                 count(&mut scene.counts.lost);
                 scene.judge.lost(self.place);
+                self.events.push(WorkerEvent::Lost)?;
                 let waited = scene.now.saturating_sub(self.cut_at);
                 let wanted = u64::from(self.limit).saturating_mul(TICK_MS);
                 let is_early = before == ConnectionState::Cut && waited < wanted;
@@ -225,7 +233,8 @@ impl<Y: Yard, W: Wait + Drop> Lane<Y, W> {
     pub(crate) fn turn<R: Wait>(&mut self, rt: &R, scene: &mut Scene) -> Result<(), AllocError> {
         let before = self.state.connection();
         let answer = self.state.turn(rt, scene.alloc, &mut self.arena);
-        self.may_give = !matches!(answer, Ok(Turn::Quiet));
+        self.was_quiet = matches!(answer, Ok(Turn::Quiet));
+        self.may_give = !self.was_quiet;
         if matches!(answer, Ok(Turn::Busy)) {
             count(&mut scene.counts.busy);
             scene.tell("lane is busy", self.place as u64, 0)?;

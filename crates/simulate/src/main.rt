@@ -1,6 +1,6 @@
 //! Plays a build master with its lanes and workers by seed, in one thread, over streams in memory.
 //!
-//!     simulate SEED COUNT [actions=N] [troubles=BITS] [strict] [trace]
+//!     simulate SEED COUNT [actions=N] [troubles=BITS] [strict] [mended] [trace]
 //!
 //! It is no program of users: `tests/beside/simulate` builds and runs it. What threads and sockets
 //! do is done here as plainly as may be. All that decides are the machines of both programs. What
@@ -11,6 +11,7 @@ mod child;
 mod dice;
 mod door;
 mod judge;
+mod keeper;
 mod lane;
 mod names;
 mod opening;
@@ -34,6 +35,7 @@ struct Asked {
     actions: u64,
     troubles: u64,
     is_strict: bool,
+    is_mended: bool,
     is_traced: bool,
 }
 
@@ -46,6 +48,8 @@ fn takes(asked: &mut Asked, place: usize, word: &str) {
         asked.is_traced = true;
     } else if word == "strict" {
         asked.is_strict = true;
+    } else if word == "mended" {
+        asked.is_mended = true;
     } else if let Some(rest) = word.strip_prefix("actions=") {
         asked.actions = number(rest, asked.actions);
     } else if let Some(rest) = word.strip_prefix("troubles=") {
@@ -64,6 +68,7 @@ fn main(rt: HostRuntime) -> ExitCode {
         actions: u64::MAX,
         troubles: u64::MAX,
         is_strict: false,
+        is_mended: false,
         is_traced: false,
     };
     let Ok(words) = env::args(&rt) else {
@@ -88,6 +93,7 @@ fn main(rt: HostRuntime) -> ExitCode {
             asked.actions,
             asked.troubles,
             asked.is_strict,
+            asked.is_mended,
             asked.is_traced,
         );
         match played {

@@ -2,11 +2,12 @@
 
 ghost use Rattle.std.specs.Prelude.{◌≡◌, ◌<◌, ◌≤◌};
 
+use crate::keeper::Keeper;
 use crate::lane::Lane;
 use crate::names::name_of;
 use crate::play::Play;
 use crate::scene::{Counts, Scene};
-use crate::worker::BuildWorker;
+use crate::worker::{BuildWorker, Stage};
 use bm_lane::{Blank, Yard, open};
 use bm_lines::Text;
 use bm_link::User;
@@ -73,7 +74,15 @@ fn add_lane<Y: Yard, W: Wait + Drop>(
     play.gone.push(false)?;
     play.users.push(user_of(alloc, lane)?)?;
     scene.judge.losses.push(0)?;
-    let worker = BuildWorker::new(alloc, scene, lane)?;
+    let idle_ticks = match scene.dice.below(3) {
+        0 => Some(scene.dice.between(1, 400) as u32),
+        _ => None,
+    };
+    play.keepers.push(Keeper::new(alloc, lane, idle_ticks))?;
+    let mut worker = BuildWorker::new(alloc, scene, lane)?;
+    if idle_ticks.is_some() {
+        worker.stage = Stage::Ended;
+    }
     play.workers.push(worker)?;
     Ok(())
 }
@@ -93,6 +102,7 @@ fn play_over<Y: Yard, W: Wait + Drop + Copy, R: Wait>(
         pending: Vec::new(alloc),
         wires: Vec::new(alloc),
         users: Vec::new(alloc),
+        keepers: Vec::new(alloc),
         troubles,
         ordered: Vec::new(alloc),
         gone: Vec::new(alloc),
@@ -121,9 +131,10 @@ pub(crate) fn play_seed<W: Wait + Drop + Copy, R: Wait>(
     most: u64,
     troubles: u64,
     is_strict: bool,
+    is_mended: bool,
     is_traced: bool,
 ) -> Result<Told, AllocError> {
-    let mut scene = Scene::new(alloc, seed, is_strict, is_traced);
+    let mut scene = Scene::new(alloc, seed, is_strict, is_mended, is_traced);
     play_over::<Brand, W, R>(rt, owned, &mut scene, most, troubles)?;
     let mut text = String::new(alloc);
     if is_traced {

@@ -5,6 +5,7 @@ mod rounds;
 mod troubles;
 
 use crate::door::{Pending, goes_on};
+use crate::keeper::Keeper;
 use crate::lane::{Lane, Request};
 use crate::scene::Scene;
 use crate::steps::add_step;
@@ -29,6 +30,8 @@ pub(crate) struct Play<Y: Yard, W: Wait + Drop> {
     pub pending: Vec<Pending>,
     pub wires: Vec<Shared>,
     pub users: Vec<User>,
+    /// The coordinator's part of each worker.
+    pub keepers: Vec<Keeper>,
     /// Which kinds of trouble there are, a bit each.
     pub troubles: u64,
     /// How many actions were ordered by each lane's operator.
@@ -65,13 +68,14 @@ impl<Y: Yard, W: Wait + Drop> Play<Y, W> {
         let lane = scene.dice.place(self.lanes.len());
         match scene.dice.below(200) {
             0..=49 => self.deliver_some(scene),
-            50..=89 => self.step_lane(rt, scene, lane),
-            90..=139 => self.step_worker(scene, lane),
-            140..=159 => self.drain(scene, lane),
-            160..=179 => self.look(scene, lane),
-            180..=187 => self.order(scene, lane),
-            188..=189 => self.order_stop(scene, lane),
-            190..=193 => self.step_others(scene),
+            50..=87 => self.step_lane(rt, scene, lane),
+            88..=135 => self.step_worker(scene, lane),
+            136..=155 => self.drain(scene, lane),
+            156..=171 => self.look(scene, lane),
+            172..=179 => self.order(scene, lane),
+            180..=181 => self.order_stop(scene, lane),
+            182..=185 => self.step_others(scene),
+            186..=192 => self.coordinate(scene, lane),
             _ => self.trouble(scene, lane),
         }
     }
@@ -97,7 +101,11 @@ impl<Y: Yard, W: Wait + Drop> Play<Y, W> {
             return Ok(());
         };
         if matches!(worker.stage, Stage::Ended) {
-            if scene.dice.once_in(4) {
+            let is_latent = match self.keepers.get(lane) {
+                Some(keeper) => keeper.is_latent,
+                None => false,
+            };
+            if !is_latent && scene.dice.once_in(4) {
                 scene.counts.restarts = scene.counts.restarts.saturating_add(1);
                 scene.tell("worker starts anew", lane as u64, 0)?;
                 *worker = BuildWorker::new(scene.alloc, scene, lane)?;
@@ -190,10 +198,23 @@ impl<Y: Yard, W: Wait + Drop> Play<Y, W> {
         *ordered = ordered.saturating_add(1);
         let step = add_step(scene, lane)?;
         scene.tell("a step is ordered", lane as u64, step as u64)?;
-        if let Some(lane) = self.lanes.get_mut(lane) {
-            lane.mailbox.push(Request::Start(step))?;
+        match self.keepers.get_mut(lane) {
+            Some(keeper) => keeper.order(step),
+            None => Ok(()),
         }
-        Ok(())
+    }
+
+    /// The coordinator looks at the worker of a lane.
+    pub(crate) fn coordinate(&mut self, scene: &mut Scene, at: usize) -> Result<(), AllocError> {
+        let Some(keeper) = self.keepers.get_mut(at) else {
+            return Ok(());
+        };
+        match (self.lanes.get_mut(at), self.workers.get_mut(at)) {
+            (Some(lane), Some(worker)) => {
+                keeper.looks(scene, lane, worker)
+            }
+            _ => Ok(()),
+        }
     }
 
     /// The operator has a step interrupted.

@@ -73,6 +73,8 @@ pub(crate) struct Scene {
     pub new_wires: Vec<Shared>,
     /// Whether it is also judged what a known fault of the tree breaks.
     pub is_strict: bool,
+    /// Whether that fault is mended here.
+    pub is_mended: bool,
     /// Whether each action is told.
     is_traced: bool,
     /// What was told.
@@ -80,7 +82,13 @@ pub(crate) struct Scene {
 }
 
 impl Scene {
-    pub(crate) fn new(alloc: Global, seed: u64, is_strict: bool, is_traced: bool) -> Scene {
+    pub(crate) fn new(
+        alloc: Global,
+        seed: u64,
+        is_strict: bool,
+        is_mended: bool,
+        is_traced: bool,
+    ) -> Scene {
         Scene {
             alloc,
             now: 0,
@@ -90,6 +98,7 @@ impl Scene {
             wires: 0,
             new_wires: Vec::new(alloc),
             is_strict,
+            is_mended,
             is_traced,
             told: String::new(alloc),
         }

@@ -4,6 +4,7 @@ use super::{Lane, Second, let_go};
 use crate::scene::{Scene, count};
 use bm_lane::Yard;
 use bm_lane_actor::{ConnectionState, LaneActs, LaneInput, LinkAct, SecondAct};
+use bm_latent::WorkerEvent;
 use bm_link::{Attached, LinkFault};
 use std::alloc::AllocError;
 use std::sync::Wait;
@@ -15,7 +16,8 @@ impl<Y: Yard, W: Wait + Drop> Lane<Y, W> {
         let mut acts = self.policy.step(input, scene.now);
         if acts.link == LinkAct::Read {
             self.turn(rt, scene)?;
-            let input = self.look_input(true);
+            // The tree's actor says that all was read. `mended`: it says so where nothing came.
+            let input = self.look_input(!scene.is_mended || self.was_quiet);
             acts = self.policy.step(input, scene.now);
         }
         self.does(rt, scene, acts)
@@ -103,6 +105,14 @@ impl<Y: Yard, W: Wait + Drop> Lane<Y, W> {
         }
     }
 
+    /// A login has failed at a lane that stood so before.
+    fn note_failed(&mut self, scene: &Scene, before: ConnectionState) {
+        let after = self.state.connection();
+        if after == ConnectionState::Cut && before != ConnectionState::Cut {
+            self.cut_at = scene.now;
+        }
+    }
+
     /// A link takes the lane up, or is told why not.
     fn admit<R: Wait>(
         &mut self,
@@ -125,6 +135,7 @@ impl<Y: Yard, W: Wait + Drop> Lane<Y, W> {
         if before == ConnectionState::Cut && is_lost {
             count(&mut scene.counts.lost);
             scene.judge.lost(self.place);
+            self.events.push(WorkerEvent::Lost)?;
             scene.tell("lane loses its session to a login", place, 0)?;
         }
         let has_link = before != ConnectionState::Up && self.is_up();
@@ -132,6 +143,7 @@ impl<Y: Yard, W: Wait + Drop> Lane<Y, W> {
             Ok(attached) => {
                 self.wire = Some(wire);
                 self.is_dismissed = false;
+                self.events.push(WorkerEvent::Attached)?;
                 let came = self.came();
                 let now = scene.now;
                 self.policy.step(LaneInput::Attached { came }, now);
@@ -147,6 +159,7 @@ impl<Y: Yard, W: Wait + Drop> Lane<Y, W> {
                 } else {
                     let_go(&wire);
                 }
+                self.note_failed(scene, before);
                 scene.tell("lane declines a login", place, u64::from(has_link))
             }
         }

@@ -5,12 +5,16 @@ use crate::scene::Scene;
 use crate::wire::WayEnd;
 use crate::worker::Stage;
 use bm_lane::{Ends, Yard, same_lane, settle};
+use bm_latent::TICK_MS;
 use bm_lines::STDIO;
 use std::alloc::AllocError;
 use std::sync::Wait;
 
 /// The length of the answer `resumed` to a login, in its frame.
 const RESUMED_BYTES: usize = 42;
+
+/// How many ticks the programs of workers have to end.
+const LAST_TICKS: u64 = 1_001;
 
 impl<Y: Yard, W: Wait + Drop> Play<Y, W> {
     /// No more trouble comes, and the links are whole. Some workers never come again.
@@ -25,7 +29,11 @@ impl<Y: Yard, W: Wait + Drop> Play<Y, W> {
         }
         self.others.clear();
         for lane in 0..self.lanes.len() {
-            let is_gone = scene.dice.once_in(6);
+            let is_latent = match self.keepers.get(lane) {
+                Some(keeper) => keeper.is_latent,
+                None => false,
+            };
+            let is_gone = scene.dice.once_in(6) && !is_latent;
             let is_told = scene.dice.once_in(2);
             if let Some(worker) = self.workers.get_mut(lane) {
                 worker.paused_until = 0;
@@ -37,6 +45,11 @@ impl<Y: Yard, W: Wait + Drop> Play<Y, W> {
             }
             if let Some(gone) = self.gone.get_mut(lane) {
                 *gone = is_gone;
+            }
+            if let Some(keeper) = self.keepers.get_mut(lane) {
+                if is_gone {
+                    keeper.refuse_all(scene);
+                }
             }
         }
         Ok(())
@@ -50,11 +63,43 @@ impl<Y: Yard, W: Wait + Drop> Play<Y, W> {
             scene.fault(why, 0, 0)?;
             return Ok(());
         }
+        for (lane, keeper) in self.lanes.iter().zip(self.keepers.iter()) {
+            if !keeper.is_right_of(lane) {
+                scene.fault("the coordinator is wrong of a worker", lane.place as u64, 0)?;
+            }
+        }
         self.see_ended(scene)?;
         for lane in 0..self.lanes.len() {
             self.resumes_idle(rt, scene, lane)?;
         }
-        self.see_ended(scene)
+        self.see_ended(scene)?;
+        self.ends_programs(rt, scene)
+    }
+
+    /// The master ends: no program of a worker is left.
+    fn ends_programs<R: Wait>(&mut self, rt: &R, scene: &mut Scene) -> Result<(), AllocError> {
+        for at in 0..self.keepers.len() {
+            if let (Some(keeper), Some(lane), Some(worker)) = (
+                self.keepers.get_mut(at),
+                self.lanes.get_mut(at),
+                self.workers.get_mut(at),
+            ) {
+                keeper.ends(scene, lane, worker)?;
+            }
+        }
+        for _ in 0..LAST_TICKS {
+            scene.now = scene.now.saturating_add(TICK_MS);
+            self.round(rt, scene)?;
+            if !self.keepers.iter().any(|keeper| keeper.is_running()) {
+                break;
+            }
+        }
+        for keeper in self.keepers.iter() {
+            if keeper.is_running() || keeper.programs > 0 {
+                scene.fault("a program is left", keeper.programs, 0)?;
+            }
+        }
+        Ok(())
     }
 
     /// Each log is looked at once more.
@@ -86,8 +131,12 @@ impl<Y: Yard, W: Wait + Drop> Play<Y, W> {
         if ticks < 100 || self.gone.get(lane).copied().unwrap_or(true) {
             return Ok(());
         }
+        let is_latent = match self.keepers.get(lane) {
+            Some(keeper) => keeper.is_latent,
+            None => false,
+        };
         let is_dismissed = match self.lanes.get(lane) {
-            Some(lane) => lane.is_dismissed,
+            Some(lane) => lane.is_dismissed || is_latent,
             None => true,
         };
         let Some(worker) = self.workers.get(lane) else {

@@ -25,6 +25,7 @@ impl<Y: Yard, W: Wait + Drop> Play<Y, W> {
             for _ in 0..STEPS {
                 self.step_worker(scene, lane)?;
             }
+            self.coordinate(scene, lane)?;
         }
         Ok(has_moved)
     }
@@ -57,6 +58,17 @@ impl<Y: Yard, W: Wait + Drop> Play<Y, W> {
             };
         }
         let worker = self.workers.get(lane)?;
+        let is_latent = match self.keepers.get(lane) {
+            Some(keeper) => keeper.is_latent,
+            None => false,
+        };
+        if is_latent && matches!(worker.stage, Stage::Ended) {
+            return if master.is_up() {
+                Some("a lane is up whose worker has ended")
+            } else {
+                None
+            };
+        }
         if !worker.is_idle() {
             return Some("a worker waits for something");
         }

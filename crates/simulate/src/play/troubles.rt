@@ -164,7 +164,11 @@ impl<Y: Yard, W: Wait + Drop> Play<Y, W> {
             worker.children.clear();
         }
         scene.tell("a worker ends", lane as u64, u64::from(is_told))?;
-        let is_known = scene.dice.once_in(3);
+        let is_latent = match self.keepers.get(lane) {
+            Some(keeper) => keeper.is_latent,
+            None => false,
+        };
+        let is_known = !is_latent && scene.dice.once_in(3);
         if let Some(lane) = self.lanes.get_mut(lane) {
             lane.has_ended = lane.has_ended || is_known;
         }
