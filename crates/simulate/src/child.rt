@@ -191,7 +191,9 @@ impl Child {
     }
 
     fn acts(&mut self, dice: &mut Dice, step: &StepRecord) {
-        self.next_at = self.next_at.saturating_add(dice.below(self.pace.saturating_add(1)));
+        self.next_at = self
+            .next_at
+            .saturating_add(dice.below(self.pace.saturating_add(1)));
         let most = match dice.below(4) {
             0 => dice.place(4).saturating_add(1),
             1 => 20_000,

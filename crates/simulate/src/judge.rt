@@ -1,4 +1,15 @@
 //! What is judged of a run, by plain lists.
+//!
+//! - Each log is a beginning of what its command said, behind the line of its words. Lines of one
+//!   pipe are those that its process printed. Behind the last its worker's header lines may stand.
+//! - No look shows less than an earlier one, and none shows more behind a command's end.
+//! - A part of a log is the same as a chunk, and in portions.
+//! - A command runs once. It ends as its process did, by an order, or by a loss of its session.
+//! - A cut lane isn't given up before its ticks are over. One program of a worker runs at most.
+//! - Brought to rest, each command has an end. A log that wasn't lost with its session is all that
+//!   was kept of its pipes, and nothing waits. A lane that is then cut is resumed, and nothing is
+//!   sent again. No program is left, and each worker hears that its master leaves.
+//! - What is settled is what was seen.
 
 mod log_check;
 

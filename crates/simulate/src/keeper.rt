@@ -118,11 +118,19 @@ impl Keeper {
     ) -> Result<WorkerInput, AllocError> {
         if scene.dice.once_in(10) {
             let may_pass = scene.dice.once_in(2);
-            scene.tell("a program can't be started", self.lane as u64, u64::from(may_pass))?;
+            scene.tell(
+                "a program can't be started",
+                self.lane as u64,
+                u64::from(may_pass),
+            )?;
             return Ok(WorkerInput::Refused { may_pass });
         }
         if self.programs > 0 {
-            scene.fault("two programs of a worker run", self.lane as u64, self.programs)?;
+            scene.fault(
+                "two programs of a worker run",
+                self.lane as u64,
+                self.programs,
+            )?;
         }
         self.programs = self.programs.saturating_add(1);
         scene.tell("a program is started", self.lane as u64, 0)?;

@@ -7,7 +7,7 @@ mod orders;
 use crate::scene::{Scene, count};
 use crate::wire::{MemoryStream, Shared, WayEnd};
 use bm_lane::{Drained, Ends, Viewer, WriterEnd, Yard};
-use bm_lane_actor::{ConnectionState, LaneInput, LanePolicy, LaneState};
+use bm_lane_actor::{ConnectionState, LaneInput, LanePolicy, LaneState, SecondAct};
 use bm_latent::{TICK_MS, TickCounter, WorkerEvent};
 use bm_link::{MasterLink, Turn};
 use bumpalo::Bump;
@@ -171,6 +171,19 @@ impl<Y: Yard, W: Wait + Drop> Lane<Y, W> {
             Request::Start(step) => self.start(rt, scene, step),
             Request::Interrupt(step) => self.keep_stop(scene, step),
         }
+    }
+
+    /// The master leaves: a login that waits is told `busy`, and the worker by a close frame.
+    pub(crate) fn closes(&mut self, scene: &mut Scene) -> Result<(), AllocError> {
+        let acts = self.policy.step(LaneInput::PutOff, scene.now);
+        if acts.second == SecondAct::PutOff {
+            if let Some(second) = &mut self.waiting {
+                let _ = second.link.put_off(scene.alloc);
+            }
+        }
+        self.waiting = None;
+        self.state.close();
+        scene.tell("lane closes its connection", self.place as u64, 0)
     }
 
     /// Signals come before each request that lies in the mailbox.

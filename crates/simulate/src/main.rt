@@ -1,6 +1,6 @@
 //! Plays a build master with its lanes and workers by seed, in one thread, over streams in memory.
 //!
-//!     simulate SEED COUNT [actions=N] [troubles=BITS] [strict] [mended] [trace]
+//!     simulate SEED COUNT [actions=N] [troubles=BITS] [strict] [mended] [hangs] [trace]
 //!
 //! It is no program of users: `tests/beside/simulate` builds and runs it. What threads and sockets
 //! do is done here as plainly as may be. All that decides are the machines of both programs. What
@@ -21,23 +21,11 @@ mod steps;
 mod wire;
 mod worker;
 
-use opening::play_seed;
+use opening::{Asked, play_seed};
 use scene::Counts;
 use std::alloc::AllocGlobal;
 use std::env;
 use std::process::ExitCode;
-
-/// What the words ask for.
-#[derive(Clone, Copy)]
-struct Asked {
-    seed: u64,
-    count: u64,
-    actions: u64,
-    troubles: u64,
-    is_strict: bool,
-    is_mended: bool,
-    is_traced: bool,
-}
 
 fn number(word: &str, before: u64) -> u64 {
     word.parse::<u64>().unwrap_or(before)
@@ -50,6 +38,8 @@ fn takes(asked: &mut Asked, place: usize, word: &str) {
         asked.is_strict = true;
     } else if word == "mended" {
         asked.is_mended = true;
+    } else if word == "hangs" {
+        asked.has_hangs = true;
     } else if let Some(rest) = word.strip_prefix("actions=") {
         asked.actions = number(rest, asked.actions);
     } else if let Some(rest) = word.strip_prefix("troubles=") {
@@ -69,6 +59,7 @@ fn main(rt: HostRuntime) -> ExitCode {
         troubles: u64::MAX,
         is_strict: false,
         is_mended: false,
+        has_hangs: false,
         is_traced: false,
     };
     let Ok(words) = env::args(&rt) else {
@@ -85,17 +76,7 @@ fn main(rt: HostRuntime) -> ExitCode {
     let mut is_right = true;
     for offset in 0..asked.count {
         let seed = asked.seed.wrapping_add(offset);
-        let played = play_seed(
-            &rt,
-            rt,
-            rt.alloc(),
-            seed,
-            asked.actions,
-            asked.troubles,
-            asked.is_strict,
-            asked.is_mended,
-            asked.is_traced,
-        );
+        let played = play_seed(&rt, rt, rt.alloc(), seed, asked);
         match played {
             Ok(told) => {
                 is_right = is_right && told.fault_count == 0;
@@ -121,7 +102,9 @@ fn main(rt: HostRuntime) -> ExitCode {
         busy,
         restarts,
     } = sum;
-    let _ = println!(rt; "sum {actions} {commands} {lines} {cuts} {resumed} {lost} {looks} {logins} {interrupts} {busy} {restarts}");
+    let _ = println!(rt;
+        "sum {actions} {commands} {lines} {cuts} {resumed} {lost} {looks} {logins} {interrupts} {busy} {restarts}"
+    );
     if is_right {
         ExitCode::SUCCESS
     } else {

@@ -122,22 +122,36 @@ fn play_over<Y: Yard, W: Wait + Drop + Copy, R: Wait>(
     play.ends(rt, scene)
 }
 
-/// Plays a seed, with so many actions at most and these kinds of trouble.
+/// What the words of the command line ask for.
+#[derive(Clone, Copy)]
+pub(crate) struct Asked {
+    pub seed: u64,
+    pub count: u64,
+    /// How many actions a seed has at most.
+    pub actions: u64,
+    /// Which kinds of trouble there are, a bit each.
+    pub troubles: u64,
+    pub is_strict: bool,
+    pub is_mended: bool,
+    pub has_hangs: bool,
+    pub is_traced: bool,
+}
+
+/// Plays a seed as it is asked for.
 pub(crate) fn play_seed<W: Wait + Drop + Copy, R: Wait>(
     rt: &R,
     owned: W,
     alloc: Global,
     seed: u64,
-    most: u64,
-    troubles: u64,
-    is_strict: bool,
-    is_mended: bool,
-    is_traced: bool,
+    asked: Asked,
 ) -> Result<Told, AllocError> {
-    let mut scene = Scene::new(alloc, seed, is_strict, is_mended, is_traced);
-    play_over::<Brand, W, R>(rt, owned, &mut scene, most, troubles)?;
+    let mut scene = Scene::new(alloc, seed, asked.is_traced);
+    scene.is_strict = asked.is_strict;
+    scene.is_mended = asked.is_mended;
+    scene.has_hangs = asked.has_hangs;
+    play_over::<Brand, W, R>(rt, owned, &mut scene, asked.actions, asked.troubles)?;
     let mut text = String::new(alloc);
-    if is_traced {
+    if asked.is_traced {
         text.push_str(scene.told.as_str())?;
     }
     if scene.judge.fault_count > 0 {

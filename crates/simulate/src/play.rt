@@ -80,6 +80,14 @@ impl<Y: Yard, W: Wait + Drop> Play<Y, W> {
         }
     }
 
+    /// Whether the program of a lane's worker is started on demand.
+    pub(crate) fn is_latent(&self, lane: usize) -> bool {
+        match self.keepers.get(lane) {
+            Some(keeper) => keeper.is_latent,
+            None => false,
+        }
+    }
+
     pub(crate) fn step_lane<R: Wait>(
         &mut self,
         rt: &R,
@@ -97,14 +105,11 @@ impl<Y: Yard, W: Wait + Drop> Play<Y, W> {
         if self.gone.get(lane).copied().unwrap_or(true) {
             return Ok(());
         }
+        let is_latent = self.is_latent(lane);
         let Some(worker) = self.workers.get_mut(lane) else {
             return Ok(());
         };
         if matches!(worker.stage, Stage::Ended) {
-            let is_latent = match self.keepers.get(lane) {
-                Some(keeper) => keeper.is_latent,
-                None => false,
-            };
             if !is_latent && scene.dice.once_in(4) {
                 scene.counts.restarts = scene.counts.restarts.saturating_add(1);
                 scene.tell("worker starts anew", lane as u64, 0)?;
@@ -210,9 +215,7 @@ impl<Y: Yard, W: Wait + Drop> Play<Y, W> {
             return Ok(());
         };
         match (self.lanes.get_mut(at), self.workers.get_mut(at)) {
-            (Some(lane), Some(worker)) => {
-                keeper.looks(scene, lane, worker)
-            }
+            (Some(lane), Some(worker)) => { keeper.looks(scene, lane, worker) }
             _ => Ok(()),
         }
     }

@@ -75,6 +75,8 @@ pub(crate) struct Scene {
     pub is_strict: bool,
     /// Whether that fault is mended here.
     pub is_mended: bool,
+    /// Whether programs of latent workers hang, which the tree never ends behind a loss.
+    pub has_hangs: bool,
     /// Whether each action is told.
     is_traced: bool,
     /// What was told.
@@ -82,13 +84,7 @@ pub(crate) struct Scene {
 }
 
 impl Scene {
-    pub(crate) fn new(
-        alloc: Global,
-        seed: u64,
-        is_strict: bool,
-        is_mended: bool,
-        is_traced: bool,
-    ) -> Scene {
+    pub(crate) fn new(alloc: Global, seed: u64, is_traced: bool) -> Scene {
         Scene {
             alloc,
             now: 0,
@@ -97,8 +93,9 @@ impl Scene {
             counts: Counts::new(),
             wires: 0,
             new_wires: Vec::new(alloc),
-            is_strict,
-            is_mended,
+            is_strict: false,
+            is_mended: false,
+            has_hangs: false,
             is_traced,
             told: String::new(alloc),
         }

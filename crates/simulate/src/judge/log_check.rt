@@ -4,6 +4,7 @@ use super::StepRecord;
 use bm_session::Results;
 
 const EXIT: &str = "hprogram finished with exit code ";
+
 const HELD: &str = "hpipe closed: held open for 60 seconds\n";
 
 /// The length of the first line of a text with its end, 0 where there is none.
@@ -20,7 +21,9 @@ fn before_headers(text: &str) -> (&str, &str) {
         return ("", text);
     }
     match text.find("\nh") {
-        Some(place) => text.split_at_checked(place.saturating_add(1)).unwrap_or((text, "")),
+        Some(place) => text
+            .split_at_checked(place.saturating_add(1))
+            .unwrap_or((text, "")),
         None => (text, ""),
     }
 }

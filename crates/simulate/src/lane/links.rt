@@ -129,7 +129,8 @@ impl<Y: Yard, W: Wait + Drop> Lane<Y, W> {
         let is_lost = match &answer {
             Ok(Attached::Resumed) => false,
             Ok(_) => true,
-            Err(LinkFault::Lane(_) | LinkFault::Full) => self.state.connection() == ConnectionState::Down,
+            Err(LinkFault::Lane(_) | LinkFault::Full) => self.state.connection()
+                == ConnectionState::Down,
             Err(_) => !is_own,
         };
         if before == ConnectionState::Cut && is_lost {

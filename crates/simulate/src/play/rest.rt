@@ -16,6 +16,9 @@ const RESUMED_BYTES: usize = 42;
 /// How many ticks the programs of workers have to end.
 const LAST_TICKS: u64 = 1_001;
 
+/// How many rounds a worker has to hear that its master has left.
+const CLOSING_ROUNDS: u32 = 20;
+
 impl<Y: Yard, W: Wait + Drop> Play<Y, W> {
     /// No more trouble comes, and the links are whole. Some workers never come again.
     fn heals(&mut self, scene: &mut Scene) -> Result<(), AllocError> {
@@ -29,14 +32,13 @@ impl<Y: Yard, W: Wait + Drop> Play<Y, W> {
         }
         self.others.clear();
         for lane in 0..self.lanes.len() {
-            let is_latent = match self.keepers.get(lane) {
-                Some(keeper) => keeper.is_latent,
-                None => false,
-            };
+            let is_latent = self.is_latent(lane);
             let is_gone = scene.dice.once_in(6) && !is_latent;
             let is_told = scene.dice.once_in(2);
             if let Some(worker) = self.workers.get_mut(lane) {
-                worker.paused_until = 0;
+                if !(is_latent && worker.paused_until == u64::MAX) {
+                    worker.paused_until = 0;
+                }
                 if is_gone {
                     scene.tell("a worker is gone for good", lane as u64, u64::from(is_told))?;
                     worker.leaves(is_told);
@@ -73,7 +75,34 @@ impl<Y: Yard, W: Wait + Drop> Play<Y, W> {
             self.resumes_idle(rt, scene, lane)?;
         }
         self.see_ended(scene)?;
-        self.ends_programs(rt, scene)
+        self.ends_programs(rt, scene)?;
+        self.closes_all(scene)
+    }
+
+    /// The master leaves: each worker that is connected hears a close frame, and ends.
+    fn closes_all(&mut self, scene: &mut Scene) -> Result<(), AllocError> {
+        for lane in self.lanes.iter_mut() {
+            lane.closes(scene)?;
+        }
+        for _ in 0..CLOSING_ROUNDS {
+            scene.now = scene.now.saturating_add(1);
+            self.deliver_all(scene)?;
+            for worker in self.workers.iter_mut() {
+                if matches!(worker.stage, Stage::Works(_)) {
+                    worker.step(scene)?;
+                }
+            }
+        }
+        for worker in self.workers.iter() {
+            if matches!(worker.stage, Stage::Works(_)) {
+                scene.fault(
+                    "a worker works on whose master has left",
+                    worker.lane as u64,
+                    0,
+                )?;
+            }
+        }
+        Ok(())
     }
 
     /// The master ends: no program of a worker is left.
@@ -131,10 +160,7 @@ impl<Y: Yard, W: Wait + Drop> Play<Y, W> {
         if ticks < 100 || self.gone.get(lane).copied().unwrap_or(true) {
             return Ok(());
         }
-        let is_latent = match self.keepers.get(lane) {
-            Some(keeper) => keeper.is_latent,
-            None => false,
-        };
+        let is_latent = self.is_latent(lane);
         let is_dismissed = match self.lanes.get(lane) {
             Some(lane) => lane.is_dismissed || is_latent,
             None => true,
@@ -177,10 +203,18 @@ impl<Y: Yard, W: Wait + Drop> Play<Y, W> {
             _ => (0, 0),
         };
         if sent_again != 0 {
-            scene.fault("an order has no answer at rest", lane as u64, sent_again as u64)?;
+            scene.fault(
+                "an order has no answer at rest",
+                lane as u64,
+                sent_again as u64,
+            )?;
         }
         if told_again != 0 {
-            scene.fault("a request has no answer at rest", lane as u64, told_again as u64)?;
+            scene.fault(
+                "a request has no answer at rest",
+                lane as u64,
+                told_again as u64,
+            )?;
         }
         Ok(())
     }
@@ -191,7 +225,6 @@ impl<Y: Yard, W: Wait + Drop> Play<Y, W> {
         for lane in lanes {
             let place = lane.place;
             let mut lane = lane;
-            lane.state.close();
             for _ in 0..10 {
                 if lane.state.give_up(rt) {
                     break;

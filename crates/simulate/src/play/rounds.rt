@@ -31,7 +31,7 @@ impl<Y: Yard, W: Wait + Drop> Play<Y, W> {
     }
 
     /// All that is under way arrives.
-    fn deliver_all(&mut self, scene: &mut Scene) -> Result<bool, AllocError> {
+    pub(super) fn deliver_all(&mut self, scene: &mut Scene) -> Result<bool, AllocError> {
         let mut has_moved = false;
         let mut at = self.wires.len();
         for _ in 0..self.wires.len() {
@@ -58,10 +58,7 @@ impl<Y: Yard, W: Wait + Drop> Play<Y, W> {
             };
         }
         let worker = self.workers.get(lane)?;
-        let is_latent = match self.keepers.get(lane) {
-            Some(keeper) => keeper.is_latent,
-            None => false,
-        };
+        let is_latent = self.is_latent(lane);
         if is_latent && matches!(worker.stage, Stage::Ended) {
             return if master.is_up() {
                 Some("a lane is up whose worker has ended")

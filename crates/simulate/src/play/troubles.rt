@@ -3,7 +3,7 @@
 use super::Play;
 use crate::scene::Scene;
 use crate::wire::WayEnd;
-use crate::worker::BuildWorker;
+use crate::worker::{BuildWorker, Stage};
 use bm_lane::Yard;
 use std::alloc::AllocError;
 use std::sync::Wait;
@@ -112,17 +112,30 @@ impl<Y: Yard, W: Wait + Drop> Play<Y, W> {
             _ => 200,
         };
         let length = scene.dice.below(most);
+        let is_hung = self.is_latent(lane) && scene.dice.once_in(6) && scene.has_hangs;
         if let Some(worker) = self.workers.get_mut(lane) {
+            if is_hung && matches!(worker.stage, Stage::Works(_)) {
+                worker.paused_until = u64::MAX;
+                return scene.tell("a program hangs", lane as u64, 0);
+            }
             worker.paused_until = scene.now.saturating_add(length);
         }
         scene.tell("a worker pauses", lane as u64, length)
     }
 
-    /// The pool doesn't drain a lane for a while.
+    /// The pool doesn't drain a lane for a while. Some lanes are cut meanwhile.
     fn stall(&mut self, scene: &mut Scene, lane: usize) -> Result<(), AllocError> {
         let length = scene.dice.below(500);
+        let is_cut = scene.dice.once_in(3);
+        let bytes = scene.dice.below(1_500);
         if let Some(lane) = self.lanes.get_mut(lane) {
             lane.stalled_until = scene.now.saturating_add(length);
+            if let Some(wire) = &lane.wire {
+                if let (true, Ok(mut wire)) = (is_cut, wire.try_borrow_mut()) {
+                    wire.breaks = true;
+                    wire.up.stop_after(bytes);
+                }
+            }
         }
         scene.tell("the pool stalls", lane as u64, length)
     }
@@ -164,11 +177,7 @@ impl<Y: Yard, W: Wait + Drop> Play<Y, W> {
             worker.children.clear();
         }
         scene.tell("a worker ends", lane as u64, u64::from(is_told))?;
-        let is_latent = match self.keepers.get(lane) {
-            Some(keeper) => keeper.is_latent,
-            None => false,
-        };
-        let is_known = !is_latent && scene.dice.once_in(3);
+        let is_known = !self.is_latent(lane) && scene.dice.once_in(3);
         if let Some(lane) = self.lanes.get_mut(lane) {
             lane.has_ended = lane.has_ended || is_known;
         }

@@ -60,9 +60,7 @@ impl BuildWorker {
                 Effect::Kill(process) => self.kill(scene, process)?,
                 Effect::Look(process) => {
                     let told = ProcessInput::Looked(self.look(scene, process));
-                    let _ = self
-                        .queues
-                        .step(Input::Process(process, told), scene.now);
+                    let _ = self.queues.step(Input::Process(process, told), scene.now);
                 }
                 Effect::Forget(process) => {
                     if let Some(at) = self.place_of(process) {
@@ -90,7 +88,9 @@ impl BuildWorker {
         scene.tell("worker runs", command, step as u64)?;
         scene.judge.ran(scene.now, step)?;
         count(&mut scene.counts.commands);
-        self.session.outbox.open(scene.alloc, command, argv.as_slice())?;
+        self.session
+            .outbox
+            .open(scene.alloc, command, argv.as_slice())?;
         let process = self.queues.admit(command, scene.now)?;
         if let Some(record) = scene.judge.steps.get_mut(step) {
             if record.cannot_start {
