@@ -18,6 +18,8 @@ pub(crate) struct Keeper {
     lane: usize,
     machine: WorkerMachine,
     pub is_latent: bool,
+    /// Whether the system always refuses to start its program.
+    pub is_refused: bool,
     ticks: TickCounter,
     /// The steps that wait for the worker.
     waiting: Vec<usize>,
@@ -35,6 +37,7 @@ impl Keeper {
             lane,
             machine: WorkerMachine::new(state),
             is_latent: idle_ticks.is_some(),
+            is_refused: false,
             ticks: TickCounter::new(TICK_MS, 0),
             waiting: Vec::new(alloc),
             programs: 0,
@@ -116,7 +119,7 @@ impl Keeper {
         scene: &mut Scene,
         worker: &mut BuildWorker,
     ) -> Result<WorkerInput, AllocError> {
-        if scene.dice.once_in(10) {
+        if self.is_refused || scene.dice.once_in(10) {
             let may_pass = scene.dice.once_in(2);
             scene.tell(
                 "a program can't be started",

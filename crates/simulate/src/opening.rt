@@ -78,7 +78,9 @@ fn add_lane<Y: Yard, W: Wait + Drop>(
         0 => Some(scene.dice.between(1, 400) as u32),
         _ => None,
     };
-    play.keepers.push(Keeper::new(alloc, lane, idle_ticks))?;
+    let mut keeper = Keeper::new(alloc, lane, idle_ticks);
+    keeper.is_refused = scene.dice.once_in(6);
+    play.keepers.push(keeper)?;
     let mut worker = BuildWorker::new(alloc, scene, lane)?;
     if idle_ticks.is_some() {
         worker.stage = Stage::Ended;
