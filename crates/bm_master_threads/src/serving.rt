@@ -5,7 +5,7 @@ use crate::ending::{end, failed, write_line};
 use crate::first_remarks::tell_first;
 use crate::host::MasterHost;
 use crate::remarks::Remarks;
-use crate::setup::{MasterStreams, WaitingPlaces, open_places, prepare};
+use crate::setup::{MasterStreams, prepare};
 use crate::threads::run_threads;
 use bm_config::{Config, UnknownKey, WorkerConfig};
 use bm_lane::{Blank, Yard, ends_of_all};
@@ -35,9 +35,8 @@ fn refuse<F: Write>(faults: &mut F, key: &str, at: SocketAddr, why: &io::Error) 
 ///
 /// The result is the exit status. It is 0 where each build ended SUCCESS or WARNINGS and nothing
 /// failed. It is 2 where an address can't be bound, which is told on `faults`. Else it is 1, as
-/// after a failed write to `output`, want of memory and where no thread could be started. Want of
-/// descriptors at its start is told on `faults` too. Where it can't be written where the master
-/// listens, no build is run.
+/// after a failed write to `output`, want of memory and where no thread could be started. Where it
+/// can't be written where the master listens, no build is run.
 ///
 /// A line `cancel I` of the input cancels build I. On `output` stands `listening ADDR ADDR` first,
 /// for workers and for the web. Once every build is over, `build I RESULT` stands there for each.
@@ -67,13 +66,6 @@ where
         Ok(web) => web,
         Err(why) => return refuse(&mut faults, "web", config.web, &why),
     };
-    let Some(places) = open_places(rt, alloc, config.workers.as_slice().len(), &workers) else {
-        let _ = writeln!(
-            faults,
-            "out of memory or descriptors: a worker takes three (ulimit -n)"
-        );
-        return failed();
-    };
     let Some(blanks) = open_all(*rt, alloc, config.capacity, config.workers.as_slice()) else {
         return failed();
     };
@@ -85,7 +77,7 @@ where
         output,
         remarks,
     };
-    match run::<Brand, R, I, O>(rt, alloc, blanks, places, config, unknown, streams) {
+    match run::<Brand, R, I, O>(rt, alloc, blanks, config, unknown, streams) {
         Some(status) => status,
         None => failed(),
     }
@@ -112,7 +104,6 @@ fn run<Y, R, I, O>(
     rt: &R,
     alloc: Global,
     blanks: Vec<Blank<R>>,
-    places: WaitingPlaces<R>,
     config: Config,
     unknown: &[UnknownKey],
     streams: MasterStreams<I, O>,
@@ -127,7 +118,7 @@ where
     let ends = ends_by_owner::<Y, R>(alloc, config.workers.as_slice(), blanks);
     let (at, ends) = streams.listen().zip(ends)?;
     let (workers, web) = at;
-    let (shared, owned, logs) = prepare(rt, alloc, config, streams, places, ends, workers)?;
+    let (shared, owned, logs) = prepare(rt, alloc, config, streams, ends, workers)?;
     let mut owned = owned;
     let listening = OutputLine::Listening { workers, web };
     if !write_line(alloc, listening, &mut owned.coordinator.output) {

@@ -4,7 +4,7 @@ use crate::coordinator::CoordinatorOwned;
 use crate::events::{EventReceiver, open_events};
 use crate::remarks::Remarks;
 use crate::shared_state::SharedState;
-use crate::sockets::{AcceptorWaker, SocketEvents, open_sockets};
+use crate::sockets::open_sockets;
 use crate::threads::ThreadOwned;
 use crate::worker_entry::entries_of;
 use bm_build_queue::{BuildQueue, ViewerPool};
@@ -40,32 +40,6 @@ impl<I, O> MasterStreams<I, O> {
         let web = self.web.local_addr().ok()?;
         Some((workers, web))
     }
-}
-
-/// Where actors and acceptor wait, and by what others reach them. It takes two descriptors of each
-/// lane, and two of the acceptor.
-#[derive(Drop)]
-pub struct WaitingPlaces<R: Drop> {
-    mailboxes: Mailboxes<WorkerStream<R>>,
-    sockets: SocketEvents,
-    acceptor: AcceptorWaker,
-}
-
-/// Opens the places of so many lanes, and of the acceptor of this listener. None where descriptors
-/// or memory are wanting.
-pub fn open_places<R: Net + Drop>(
-    rt: &R,
-    alloc: Global,
-    lanes: usize,
-    workers: &TcpListener,
-) -> Option<WaitingPlaces<R>> {
-    let mailboxes = open_mailboxes(rt, alloc, lanes)?;
-    let (sockets, acceptor) = open_sockets(rt, alloc, workers)?;
-    Some(WaitingPlaces {
-        mailboxes,
-        sockets,
-        acceptor,
-    })
 }
 
 // The queue of a configuration's builds. None where memory is wanting, or the queue refuses a
@@ -128,7 +102,6 @@ pub fn prepare<Y, R, I, O>(
     alloc: Global,
     config: Config,
     streams: MasterStreams<I, O>,
-    places: WaitingPlaces<R>,
     ends: DealtLanes<Y, R, WorkerStream<R>>,
     at: SocketAddr,
 ) -> Option<
@@ -140,17 +113,15 @@ pub fn prepare<Y, R, I, O>(
 >
 where
     Y: Yard,
-    R: Wait + Clock + Copy + Drop,
+    R: Wait + Clock + Net + Copy + Drop,
     I: Drop,
     O: Drop,
 {
-    let (sender, events) = open_events(alloc).ok()?;
-    let WaitingPlaces {
-        mailboxes,
-        sockets,
-        acceptor,
-    } = places;
-    let Mailboxes { handles, mailboxes } = mailboxes;
+    let all = open_mailboxes(rt, alloc, ends.states.len());
+    let (events, all) = open_events(alloc).ok().zip(all)?;
+    let (sender, events) = events;
+    let (sockets, acceptor) = open_sockets(rt, alloc, &streams.workers)?;
+    let Mailboxes { handles, mailboxes } = all;
     let DealtLanes {
         states,
         writers,
