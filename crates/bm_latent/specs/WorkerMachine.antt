@@ -12,7 +12,7 @@ use Rattle.bm_latent.specs.declared.worker_input.WorkerInput.TheVariants.{Happen
 use Rattle.bm_latent.specs.declared.worker_input.WorkerEffect.{WorkerEffect}
 use Rattle.bm_latent.specs.Deadline.{act_at, after_tick, begun}
 use Rattle.bm_latent.specs.StartTries.{is_given_up, tries_after}
-use Rattle.bm_latent.specs.WorkerState.{WorkerView, action_of, is_needless, is_ready, is_timed, known_after}
+use Rattle.bm_latent.specs.WorkerState.{WorkerView, action_of, is_needless, is_ready, is_timed, is_to_stop, known_after}
 
 -- What is known of the worker. Whether its program is to be started, and for how many ticks that
 -- was tried. Whether a program runs, since how many ticks it is to end, and whether it was asked
@@ -69,15 +69,20 @@ allowed m act = act
 -- where it stands once this is to be done
 abbrev pub ordered : ProcessAction → MachineView → MachineView
 ordered process_act.Start m = record m { starting = true; tries = 0 }
-ordered process_act.Shutdown m = record (ending m) { dismissed = true }
+ordered process_act.Shutdown m = record m { dismissed = true }
 ordered process_act.None m = m
+
+-- The program of a worker that is to stop is to end. The worker may be lost, so that nothing can be
+-- told to it.
+abbrev pub outlived : MachineView → MachineView
+outlived m = if is_to_stop m.known then ending m else m
 
 -- what is to be done once the event was heard, and where the worker then stands
 abbrev pub answer : MachineView → WorkerEvent → WorkerAction
 answer m e = record (action_of m.known e) { process = allowed m (action_of m.known e).process }
 
 abbrev pub heard : MachineView → WorkerEvent → MachineView
-heard m e = ordered (answer m e).process (record m { known = known_after m.known e })
+heard m e = outlived (ordered (answer m e).process (record m { known = known_after m.known e }))
 
 -- one that logs in or has gone is dismissed no more
 abbrev pub came : MachineView → WorkerEvent → MachineView

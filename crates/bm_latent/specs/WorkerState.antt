@@ -15,7 +15,7 @@ use Rattle.bm_latent.specs.declared.worker_event.ProcessAction.TheVariants.{None
 use Rattle.bm_latent.specs.declared.worker_event.WorkerAction.{WorkerAction}
 
 -- The machine of a latent worker, and whether a connection is attached to the lane. Also whether a
--- process runs that the master started, and whether the lane takes nothing more.
+-- process that the master started runs, and whether the lane takes nothing more.
 pub record WorkerView : Type 0 where
   pub latent : Option LatentView
   pub attached : Bool
@@ -66,11 +66,12 @@ abbrev pub is_stop : Act → Bool
 is_stop Stop = true
 is_stop act = false
 
--- a process runs once it is to be started, and until it failed or ended
-abbrev pub is_running_after : Bool → WorkerEvent → Act → Bool
-is_running_after before Failed act = false
-is_running_after before Stopped act = is_start act
-is_running_after before event act = before || is_start act
+-- a process runs once it was started, and until it ended
+abbrev pub is_running_after : Bool → WorkerEvent → Bool
+is_running_after before Started = true
+is_running_after before Failed = false
+is_running_after before Stopped = false
+is_running_after before event = before
 
 abbrev pub is_full_after : Bool → WorkerEvent → Bool
 is_full_after before Filled = true
@@ -86,7 +87,7 @@ known_after p event =
     record {
       latent = latent_after p event;
       attached = is_attached_after p.attached event;
-      running = is_running_after p.running event (act_of p event);
+      running = is_running_after p.running event;
       full = is_full_after p.full event;
     }
 
@@ -109,9 +110,13 @@ is_ready p = not p.full && option_map_or (λ w. is_substantiated w.state) p.late
 abbrev pub is_timed : WorkerView → Bool
 is_timed p = p.running || option_map_or (λ w. is_substantiated w.state) p.latent false
 
+-- the same of what is known of a worker
+abbrev pub is_to_stop : WorkerView → Bool
+is_to_stop p = option_map_or (λ w. is_stopping w.state) p.latent false
+
 -- a worker that is to stop is told so where it is attached: when it is to stop, or once it is back
 abbrev pub is_dismissed : WorkerView → WorkerEvent → Act → Bool
-is_dismissed after Attached act = option_map_or (λ w. is_stopping w.state) after.latent false
+is_dismissed after Attached act = is_to_stop after
 is_dismissed after event act = after.attached && is_stop act
 
 abbrev pub process_action : WorkerView → WorkerEvent → Act → ProcessAction

@@ -159,10 +159,10 @@ impl WorkerMachine {
                 self.is_starting = true;
                 self.tries = StartTries::new();
             }
-            ProcessAction::Shutdown => {
-                self.must_end();
-                self.is_dismissed = true;
-            }
+            ProcessAction::Shutdown => self.is_dismissed = true,
+        }
+        if self.state.is_stopping() {
+            self.must_end();
         }
         action
     }

@@ -1,9 +1,8 @@
 //! What a build master knows of one worker.
 
-ghost use Rattle.std.specs.Prelude.{◌≡◌, ◌≤◌, Some, None, false};
+ghost use Rattle.std.specs.Prelude.{◌≡◌, ◌≤◌, Some, None};
 ghost use Rattle.bm_latent.specs.declared.event.LatentState;
-ghost use Rattle.std.specs.Option.{option_map_or};
-ghost use Rattle.bm_latent.specs.WorkerState.{act_of, action_of, gives_up, is_needless, is_ready, is_stopping, is_timed, known_after, latent_after, newcomer, process_action};
+ghost use Rattle.bm_latent.specs.WorkerState.{act_of, action_of, gives_up, is_needless, is_ready, is_timed, is_to_stop, known_after, latent_after, newcomer, process_action};
 
 use crate::event::{Act, LatentEvent, LatentState};
 use crate::machine::Latent;
@@ -76,9 +75,9 @@ impl WorkerState {
             _ => self.attached,
         };
         self.running = match event {
-            WorkerEvent::Failed => false,
-            WorkerEvent::Stopped => act == Act::Start,
-            _ => self.running || act == Act::Start,
+            WorkerEvent::Started => true,
+            WorkerEvent::Failed | WorkerEvent::Stopped => false,
+            _ => self.running,
         };
         self.full = self.full || event == WorkerEvent::Filled;
         WorkerAction {
@@ -156,9 +155,9 @@ impl WorkerState {
         }
     }
 
-    // Whether the worker is to stop, and its process has not ended.
-    fn is_stopping(&self) -> bool
-        ensures { result ≡ option_map_or (λ w. is_stopping w.state) self.now.latent false }
+    /// Whether the worker is to stop, and its process has not ended.
+    pub fn is_stopping(&self) -> bool
+        ensures { result ≡ is_to_stop self.now }
     {
         match &self.latent {
             Some(latent) => match latent.state() {
