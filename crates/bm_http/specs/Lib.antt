@@ -18,6 +18,6 @@ pub mod Pieces
 pub mod FirstLooks
 pub mod Placed
 pub mod WholeOrLong
--- The others only help proofs: the rows of the router, and the values whose texts the bodies are.
+-- The others only help proofs: the rows of the router, and the tokens whose texts the bodies are.
 pub mod Held
-pub mod Values
+pub mod Tokens

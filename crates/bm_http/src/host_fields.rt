@@ -80,7 +80,6 @@ fn from_close(text: &[u8]) -> &[u8]
 // Whether what stands behind an opening bracket is an IPv6 address, a closing bracket and a port.
 // The grammar also has addresses of later versions. None exists, so each is refused, as the RFC
 // asks of who can't tell what one means.
-// tell what one means is to refuse it.
 fn is_bracketed(text: &[u8]) -> bool
     ensures { IsTrue result ↔ IsBracketed text.now }
 {

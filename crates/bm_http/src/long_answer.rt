@@ -14,7 +14,6 @@ use bm_lane::{Mark, Viewer, Yard};
 use bm_lines::Text;
 use bm_store::Portion;
 use bytes::Bytes;
-use serde_json::Value;
 use std::alloc::{AllocError, Global};
 use std::marker::Model;
 use thiserror::Error;
@@ -94,8 +93,7 @@ impl BodyPiece {
 fn inside(alloc: Global, text: Text) -> Result<Bytes, AllocError>
     ensures { IfOk result (λ b. b ≡ escape text) }
 {
-    let value = Value::String(text.into_string());
-    let quoted = Bytes::from_vec(value.to_vec(alloc)?)?;
+    let quoted = Bytes::from_vec(bodies::quoted(alloc, text.as_str())?)?;
     if quoted.len() < 2 {
         return Err(AllocError);
     }
@@ -147,8 +145,7 @@ impl<Y: Yard> LongAnswer<Y> {
         ensures { IfOk result (λ s. s ≡ contents_text id first (content_of
             (slice (log_in viewer.now.seen command (string_bytes name)) first count))) }
     {
-        let empty = Text::from_string(String::new(alloc));
-        let mut back = Bytes::from_vec(bodies::contents(alloc, id, first, empty)?)?;
+        let mut back = Bytes::from_vec(bodies::contents(alloc, id, first, "")?)?;
         let front = back.split_to(FRONT)?;
         Ok(LongAnswer {
             mark: viewer.mark(),

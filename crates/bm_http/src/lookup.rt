@@ -77,7 +77,7 @@ fn with_chunk(
 {
     match seen {
         Ok(chunk) => {
-            let body = bodies::contents(alloc, id, chunk.first_line, chunk.content)?;
+            let body = bodies::contents(alloc, id, chunk.first_line, chunk.content.as_str())?;
             Ok(Answer::page(body))
         }
         Err(refused) => without_view(alloc, refused),

@@ -12,7 +12,7 @@ use Rattle.bm_http.proofs.long_answer.LongAnswer.new.Goals as goal
 pub invariant_of-result : goal.invariant_of-result
 invariant_of-result g c =
     let a = c.args in
-    let body : c.in_ok-back.back ≡ contents_text a.id a.first [] = c.in_ok-back.ensures.ok ∙ c.in_ok-contents.ensures ∙ ap (λ (t : List ℕ). contents_text a.id a.first t) (c.from_string-empty.ensures ∙ c.new.ensures.bytes) in
+    let body : c.in_ok-back.back ≡ contents_text a.id a.first [] = c.in_ok-back.ensures.ok ∙ c.in_ok-contents.ensures in
     let front : c.in_ok-front.front ≡ take 26 (contents_text a.id a.first []) = c.in_ok-front.ensures.front ∙ ap (λ (t : List ℕ). take 26 t) body in
     let back : c.split_to.new.self ≡ drop 26 (contents_text a.id a.first []) = c.in_ok-front.ensures.rest ∙ ap (λ (t : List ℕ). drop 26 t) body in
     let there : a.first + a.count ≤ length (log_in c.mark.result.seen a.command (string_bytes a.name)) =
@@ -25,7 +25,7 @@ invariant_of-result g c =
 pub returns : goal.returns
 returns g c =
     let a = c.args in
-    let body : c.in_ok-back.back ≡ contents_text a.id a.first [] = c.in_ok-back.ensures.ok ∙ c.in_ok-contents.ensures ∙ ap (λ (t : List ℕ). contents_text a.id a.first t) (c.from_string-empty.ensures ∙ c.new.ensures.bytes) in
+    let body : c.in_ok-back.back ≡ contents_text a.id a.first [] = c.in_ok-back.ensures.ok ∙ c.in_ok-contents.ensures in
     let front : c.in_ok-front.front ≡ take 26 (contents_text a.id a.first []) = c.in_ok-front.ensures.front ∙ ap (λ (t : List ℕ). take 26 t) body in
     let back : c.split_to.new.self ≡ drop 26 (contents_text a.id a.first []) = c.in_ok-front.ensures.rest ∙ ap (λ (t : List ℕ). drop 26 t) body in
     let lines : List Line = log_in a.viewer.now.seen a.command (string_bytes a.name) in
