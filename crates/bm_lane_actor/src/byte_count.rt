@@ -25,7 +25,7 @@ struct CountedCommand {
 /// The commands of a lane whose builds ask how many bytes their updates carried. They are counted
 /// where they are heard: the book that viewers see may lag a whole queue behind.
 #[derive(Drop)]
-pub(crate) struct ByteCounts {
+pub struct ByteCounts {
     commands: Vec<CountedCommand>,
 }
 

@@ -10,7 +10,7 @@ use std::marker::Model;
 
 /// What comes to the policy of a build's cancels.
 #[derive(Clone, Copy, PartialEq, Eq)]
-pub(crate) enum CancelInput {
+pub enum CancelInput {
     /// A step was started. `is_set`: it always runs, and a cancel was taken back for it.
     Started { is_set: bool },
     /// A step is left out for the cancel that is held.
@@ -30,7 +30,7 @@ pub(crate) enum CancelInput {
 
 /// What is then to be done.
 #[derive(Clone, Copy, PartialEq, Eq)]
-pub(crate) struct CancelActs {
+pub struct CancelActs {
     /// It is told that the build obeys a cancel.
     pub tells: bool,
     /// The lane's actor gets the order to interrupt the command.
@@ -51,7 +51,7 @@ pub(crate) enum Interruption {
 /// The policy of a build's cancels. A cancel ends one step. Where that one always runs and isn't
 /// running yet, it is the next that doesn't always run.
 #[derive(Drop)]
-pub(crate) struct CancelPolicy {
+pub struct CancelPolicy {
     /// Whether a cancel came before a step that always runs: it waits for one that doesn't.
     is_held: bool,
     /// Whether the cancel that the flag holds was told.

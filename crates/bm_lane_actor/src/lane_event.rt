@@ -54,7 +54,7 @@ pub(crate) fn connection_of<Y: Yard>(reader: &ReaderEnd<Y>) -> ConnectionState
 }
 
 /// What is to be told of a lane that stood so and now stands so, where no login came.
-pub(crate) fn event_after(
+pub fn event_after(
     before: ConnectionState,
     after: ConnectionState,
     cause: LossCause,
@@ -72,7 +72,7 @@ pub(crate) fn event_after(
 
 /// What is told of a link that has taken up a lane which stood so before. That is a session that it
 /// ends, if any, and the login. `is_resumed`: the session goes on.
-pub(crate) fn greeting(before: ConnectionState, is_resumed: bool) -> (Option<LaneEvent>, LaneEvent)
+pub fn greeting(before: ConnectionState, is_resumed: bool) -> (Option<LaneEvent>, LaneEvent)
     ensures { result ≡ greeting before is_resumed }
 {
     match (before, is_resumed) {
@@ -88,7 +88,7 @@ pub(crate) fn greeting(before: ConnectionState, is_resumed: bool) -> (Option<Lan
 }
 
 /// Why a lane whose link failed so is cut or given up.
-pub(crate) fn loss_of(fault: LinkFault) -> LossCause
+pub fn loss_of(fault: LinkFault) -> LossCause
     ensures { result ≡ loss_of fault }
 {
     match fault {

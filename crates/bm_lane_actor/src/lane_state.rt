@@ -97,7 +97,7 @@ impl<Y: Yard, S> LaneState<Y, S> {
     }
 
     /// The last event of the lane, if it had one.
-    pub(crate) fn last_event(&self) -> Option<&Event> {
+    pub fn last_event(&self) -> Option<&Event> {
         self.reader.trace().last()
     }
 

@@ -51,11 +51,14 @@ mod stop_orders;
 mod stream;
 mod watch;
 
-pub use byte_count::ByteCount;
+pub use byte_count::{ByteCount, ByteCounts};
+pub use cancel_policy::{CancelActs, CancelInput, CancelPolicy};
 pub use connection_state::ConnectionState;
 pub use drain_gate::DrainGate;
 pub use lane_actor::serve_lane;
-pub use lane_event::{EventSink, LaneEvent, declines, event_of, fills, remark_of};
+pub use lane_event::{
+    EventSink, LaneEvent, declines, event_after, event_of, fills, greeting, loss_of, remark_of,
+};
 pub use lane_policy::{LaneActs, LaneInput, LanePolicy, LinkAct, SecondAct};
 pub use lane_request::{CancelFlag, LaneRequest, LaneSignal, StartOrder};
 pub use lane_state::LaneState;
@@ -68,7 +71,11 @@ pub use order_outcome::OrderOutcome;
 pub use peer_timer::{ANSWER_WITHIN_MS, ASK_AFTER_MS, DEAD_AFTER_MS, PeerAction, PeerTimer};
 pub use pending_login::PendingLogin;
 pub use port::LanePort;
+pub use port_log::{is_lost, polled};
 pub use resume_timer::ResumeTimer;
+pub use seen_flag::SeenFlag;
+pub use start_progress::{StartProgress, StartStage, StartStep, after_step, start_step};
 pub use step_meter::StepMeter;
+pub use stop_orders::StopOrders;
 pub use stream::{LOGIN_MS, WorkerStream};
 pub use watch::Watch;

@@ -14,7 +14,7 @@ use crate::lane_request::{CancelFlag, LaneRequest};
 use crate::mailbox::LaneHandle;
 use crate::orders::{interrupt, start, wait_until_told};
 use crate::port_log::{header_in, is_lost, polled};
-use crate::port_tick::left_of_tick;
+use crate::port_tick::{left_of_tick, next_tick};
 use crate::seen_flag::SeenFlag;
 use crate::start_progress::StartProgress;
 use crate::step_meter::StepMeter;
@@ -50,6 +50,8 @@ pub struct LanePort<'a, Y: Yard, S, R: Wait + Clock + Drop, W> {
     gate: &'a DrainGate<R>,
     /// How often it had called when the last tick that is over began.
     calls: u64,
+    /// When the last tick of its step began.
+    tick_began: Option<Instant>,
     /// Set once the build is cancelled.
     cancelled: SeenFlag<'a>,
     /// How far the start of the last step has come.
@@ -104,6 +106,7 @@ impl<'a, Y: Yard, S: Drop, R: Wait + Clock + Drop, W: Watch + Drop> LanePort<'a,
             viewer,
             gate,
             calls: 0,
+            tick_began: None,
             cancelled: SeenFlag::new(cancelled),
             progress: StartProgress::new(),
             cancels: CancelPolicy::new(),
@@ -214,6 +217,7 @@ impl<'a, Y: Yard, S: Drop, R: Wait + Clock + Drop, W: Watch + Drop> LanePort<'a,
         };
         self.meter = StepMeter::new(step.max_bytes, step.timeout_ticks, step.silent_ticks);
         self.bytes = Some(bytes);
+        self.tick_began = None;
         match self.entries.begin(command) {
             Ok(()) => {}
             Err(_) => unreachable!(),
@@ -236,10 +240,11 @@ impl<'a, Y: Yard, S: Drop, R: Wait + Clock + Drop, W: Watch + Drop> LanePort<'a,
         false
     }
 
-    /// What the gate had called for when the tick began was looked at until it was over.
-    fn has_looked(&mut self, calls: u64)
+    /// What the gate had called for when the tick began then was looked at until it was over.
+    fn has_looked(&mut self, began: Option<Instant>, calls: u64)
         ensures { self.new ≡ self.old }
     {
+        self.tick_began = began;
         self.calls = calls;
     }
 
@@ -291,7 +296,7 @@ impl<'a, Y: Yard, S: Drop, R: Wait + Clock + Drop, W: Watch + Drop> LanePort<'a,
         ensures { Waits self.old self.new }
     {
         let place = self.handle.lane() as usize;
-        let began = Instant::now(self.rt).ok();
+        let began = next_tick(self.rt, &self.tick_began);
         let called = self.gate.calls(place);
         for _ in self.rt.forever() {
             let calls = self.gate.calls(place);
@@ -302,7 +307,7 @@ impl<'a, Y: Yard, S: Drop, R: Wait + Clock + Drop, W: Watch + Drop> LanePort<'a,
             }
             self.obey(k, seen);
             let Some(left) = left_of_tick(self.rt, &began) else {
-                return self.has_looked(called);
+                return self.has_looked(began, called);
             };
             if calls == self.calls {
                 self.gate.wait_for_call(place, calls, left);

@@ -13,7 +13,7 @@ use std::alloc::Global;
 const MOST_SAID: usize = 256;
 
 /// What a look at the log of a command says of it. A refused look says that it runs.
-pub(crate) fn polled(state: Result<LogState, ViewRefusal>, is_cancelled: bool) -> Polled
+pub fn polled(state: Result<LogState, ViewRefusal>, is_cancelled: bool) -> Polled
     ensures { result ≡ polled is_cancelled state }
 {
     match state {
@@ -44,7 +44,7 @@ pub(crate) fn header_in(alloc: Global, line: &str) -> Option<Text>
 }
 
 /// Whether a command that ended so did by the loss of its lane.
-pub(crate) fn is_lost(outcome: Results) -> bool
+pub fn is_lost(outcome: Results) -> bool
     ensures { result ≡ is_lost outcome }
 {
     outcome == Results::Retry

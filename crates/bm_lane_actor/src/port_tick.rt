@@ -1,9 +1,30 @@
-//! How long a build's port waits for the end of a tick.
+//! When the ticks of a build's port begin and end.
 
 use bm_latent::TICK_MS;
 use std::sync::Wait;
 use std::thread;
 use std::time::{Clock, Duration, Instant};
+
+/// How far a tick may begin behind the last one's end, in milliseconds.
+const MOST_BEHIND_MS: u64 = 1_000;
+
+/// When the tick begins behind the one that began then: at that one's end. So what a look takes
+/// beyond a tick isn't added to each limit, and a late tick is short. Anew where it would be far
+/// behind. None where the clock fails.
+pub(crate) fn next_tick<R: Clock>(rt: &R, last: &Option<Instant>) -> Option<Instant> {
+    let now = Instant::now(rt).ok()?;
+    let begins = match last {
+        Some(last) => last.checked_add(Duration::from_millis(TICK_MS)),
+        None => None,
+    };
+    match begins {
+        Some(begins)
+            if now.saturating_duration_since(begins) < Duration::from_millis(MOST_BEHIND_MS) => {
+            Some(begins)
+        }
+        _ => Some(now),
+    }
+}
 
 /// What is left of a tick that began then, if it isn't over. Where the clock fails it is waited for
 /// here.

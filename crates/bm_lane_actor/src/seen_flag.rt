@@ -9,7 +9,7 @@ use std::sync::atomic::Ordering;
 /// The flag of a build. Contracts see whether it was set when it was read last. What an atomic
 /// holds now no contract sees, so `read` alone may say it.
 #[derive(Drop)]
-pub(crate) struct SeenFlag<'a> {
+pub struct SeenFlag<'a> {
     flag: &'a CancelFlag,
     was_set: bool,
 }

@@ -17,7 +17,7 @@ use std::time::Clock;
 
 /// What a build does by the answer to one order.
 #[derive(Clone, Copy, PartialEq, Eq)]
-pub(crate) enum StartStep {
+pub enum StartStep {
     /// The lane can't take the order now: it asks again once an item was drained, or a tick passed.
     AskAgain,
     /// The lane has started this command.
@@ -28,7 +28,7 @@ pub(crate) enum StartStep {
 
 /// How far a build has come with one command.
 #[derive(Clone, Copy, PartialEq, Eq)]
-pub(crate) enum StartStage {
+pub enum StartStage {
     /// Each answer so far was to try it later.
     Asking,
     /// The last answer was the first that had started it.
@@ -44,8 +44,8 @@ pub(crate) enum StartStage {
 /// How far a build has come with one command. Contracts see its stage. What comes by a mailbox no
 /// contract sees, so `ask` alone may say it.
 #[derive(Drop)]
-pub(crate) struct StartProgress {
-    stage: StartStage,
+pub struct StartProgress {
+    pub stage: StartStage,
 }
 
 /// Why a step isn't started whose order came to this, and isn't tried again.
@@ -64,7 +64,7 @@ fn start_refusal(outcome: OrderOutcome) -> StartRefusal
 }
 
 /// What a build does by the answer to an order. None: memory was wanting for that.
-fn start_step(answer: Option<OrderOutcome>) -> StartStep
+pub fn start_step(answer: Option<OrderOutcome>) -> StartStep
     ensures { result ≡ start_step answer }
 {
     match answer {
@@ -76,7 +76,7 @@ fn start_step(answer: Option<OrderOutcome>) -> StartStep
 }
 
 /// How far a build has come after one step more.
-fn after_step(before: StartStage, step: StartStep) -> StartStage
+pub fn after_step(before: StartStage, step: StartStep) -> StartStage
     ensures { result ≡ after_step before step }
 {
     match (before, step) {

@@ -10,7 +10,7 @@ use std::alloc::{AllocError, Global};
 /// The commands that are to be interrupted, oldest order first. A lane that is cut takes no order:
 /// it is kept until the session is resumed or given up.
 #[derive(Drop)]
-pub(crate) struct StopOrders {
+pub struct StopOrders {
     commands: Vec<u64>,
 }
 

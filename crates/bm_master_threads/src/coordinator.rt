@@ -93,8 +93,8 @@ where
         }
     }
 
-    // How many ticks have ended since the last call, `most` at the most.
-    fn ended_ticks(&mut self) -> u64 {
+    /// How many ticks have ended since the last call.
+    pub fn ended_ticks(&mut self) -> u64 {
         let now = match self.age() {
             Some(age) => Some(millis(age)),
             None => None,
@@ -127,7 +127,12 @@ where
             MasterEvent::Misread => return self.remark(&Remark::InputUnknown),
             MasterEvent::Lane(worker, event) => self.hear_lane(worker, event),
             MasterEvent::Ended(build) => self.hear_build(build),
-            MasterEvent::Cancel(number) => self.cancel(number),
+            MasterEvent::Cancel(number) => {
+                self.shared.lines.heard();
+                if !self.cancel(number) {
+                    return;
+                }
+            }
             MasterEvent::InputEnded => return self.flow.hears(FlowInput::InputEnded),
         }
         self.flow.hears(FlowInput::Changed);

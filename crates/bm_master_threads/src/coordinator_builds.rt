@@ -166,9 +166,10 @@ where
     }
 
     /// Cancels a build, where it has not ended. A running one is called, and tells itself that it
-    /// obeys.
-    pub fn cancel(&mut self, number: u64) {
-        match self.queue.cancel(number) {
+    /// obeys. The answer is whether it ended by that.
+    pub fn cancel(&mut self, number: u64) -> bool {
+        let cancelled = self.queue.cancel(number);
+        match cancelled {
             Cancelled::Waiting => self.remark(&Remark::BuildEnded {
                 build: number,
                 result: Results::Cancelled,
@@ -184,6 +185,7 @@ where
                 }
             }
         }
+        cancelled == Cancelled::Waiting
     }
 
     /// Writes the results of all builds.

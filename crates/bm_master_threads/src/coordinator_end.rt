@@ -81,9 +81,9 @@ where
         }
     }
 
-    // Hears of a login that was refused, and of a worker that was told to shut down. All else is
-    // over.
-    fn hear_last(&mut self, event: MasterEvent<Y>) {
+    /// Hears of a login that was refused, and of a worker that was told to shut down. All else is
+    /// over.
+    pub fn hear_last(&mut self, event: MasterEvent<Y>) {
         match event {
             MasterEvent::Refused(refused) => self.hear_refused(refused),
             MasterEvent::Lane(worker, event) => {

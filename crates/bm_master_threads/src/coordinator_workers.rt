@@ -11,7 +11,6 @@ use bm_latent::{ProcessAction, TICK_MS, WorkerEffect, WorkerEvent, WorkerInput};
 use bm_operator::Remark;
 use bm_session::Results;
 use std::io::Write;
-use std::thread;
 use std::time::Duration;
 
 /// How many ticks the processes of workers have to end, once the master ends.
@@ -180,6 +179,8 @@ where
     // A tick has passed, and no build is left.
     fn last_tick(&mut self, at: usize) {
         if self.has_ended(at) {
+            let worker = self.name(at);
+            self.remark(&Remark::ProgramEnded { worker });
             self.step(at, WorkerInput::Ended);
         }
         self.step(
@@ -196,17 +197,32 @@ where
         for at in 0..self.workers.len() {
             self.hears(at, WorkerInput::Over);
         }
-        for _ in 0..LAST_TICKS {
-            if !self.workers.iter().any(|worker| worker.is_running()) {
-                return self.hear_gone(events);
+        let shared = self.shared;
+        let rt = &shared.rt;
+        let mut left = LAST_TICKS;
+        self.ended_ticks();
+        for _ in rt.forever() {
+            if left == 0 || !self.workers.iter().any(|worker| worker.is_running()) {
+                break;
             }
-            thread::sleep(&self.shared.rt, Duration::from_millis(TICK_MS));
-            for at in 0..self.workers.len() {
-                self.last_tick(at);
+            if let Some(event) = events.wait_for(rt, Duration::from_millis(TICK_MS)) {
+                self.hear_last(event);
+            }
+            for _ in 0..self.ended_ticks() {
+                left = left.saturating_sub(1);
+                self.last_ticks();
             }
         }
         for worker in self.workers.iter_mut() {
             worker.kill();
+        }
+        self.hear_gone(events);
+    }
+
+    // A tick has passed for each worker, and no build is left.
+    fn last_ticks(&mut self) {
+        for at in 0..self.workers.len() {
+            self.last_tick(at);
         }
     }
 }

@@ -18,13 +18,6 @@ use std::io::Write;
 use std::sync::{Arc, Mutex, Wait};
 use std::time::Clock;
 
-/// The exit status of a master that could not begin.
-pub fn failed() -> u8
-    ensures { result ≡ exit_status [] true }
-{
-    status(&[], true)
-}
-
 // The exit status of a master whose builds ended so, where each result is known. It has failed
 // where a build or a report could not be had. It also has where its threads did not do their work
 // to the end, or its lanes could not be settled.

@@ -1,6 +1,6 @@
 //! Standard input: builds that are to be cancelled.
 
-use crate::events::{EventSender, MasterEvent};
+use crate::events::MasterEvent;
 use crate::shared_state::SharedState;
 use bm_lane::Yard;
 use bm_operator::{RateLimit, read_cancel};
@@ -8,8 +8,9 @@ use crossbeam_channel::{Receiver, Sender, bounded};
 use std::alloc::Global;
 use std::io::{ErrorKind, Read};
 use std::sync::Wait;
+use std::sync::atomic::{AtomicU64, Ordering};
 use std::thread::{Scope, Threads};
-use std::time::{Clock, Instant};
+use std::time::{Clock, Duration, Instant};
 
 /// How many bytes of a line are kept, and nothing of a longer one. A line that asks for something
 /// is shorter, unless thousands of zeros stand before its number.
@@ -18,6 +19,51 @@ const MOST_LINE: usize = 4096;
 /// How many lines that ask for nothing are told in a second. Events have room without a bound, and
 /// a file that is no list of lines must not fill the memory.
 const MOST_MISREAD: u32 = 10;
+
+/// How many lines that cancel a build may lie before the coordinator. It hears in turn what comes
+/// from lanes and builds, which lines that come faster must not delay.
+const MOST_AHEAD: u64 = 16;
+
+/// How long the thread waits at once for the coordinator, in milliseconds.
+const AHEAD_MS: u64 = 500;
+
+/// How many lines the coordinator was told and has not heard.
+#[derive(Drop)]
+pub struct LinesAhead {
+    count: AtomicU64,
+}
+
+impl LinesAhead {
+    /// No line was told.
+    pub fn new() -> LinesAhead {
+        LinesAhead {
+            count: AtomicU64::new(0),
+        }
+    }
+
+    fn add(&self) {
+        self.count.fetch_add(1, Ordering::SeqCst);
+    }
+
+    /// The coordinator has heard one.
+    pub fn heard(&self) {
+        self.count.fetch_sub(1, Ordering::SeqCst);
+        self.count.wake_all();
+    }
+
+    // Waits until few enough lie before the coordinator.
+    fn wait<R: Wait + Clock>(&self, rt: &R) {
+        for _ in rt.forever() {
+            let count = self.count.load(Ordering::SeqCst);
+            if count <= MOST_AHEAD {
+                return;
+            }
+            let most = Duration::from_millis(AHEAD_MS);
+            self.count
+                .park_timeout(rt, (count & 0xffff_ffff) as u32, most);
+        }
+    }
+}
 
 /// The line that is being read, without its line end.
 #[derive(Drop)]
@@ -80,37 +126,43 @@ impl MisreadLimit {
     }
 }
 
-// Tells what a line asks for.
-fn tell_line<Y, R>(
-    rt: &R,
-    events: &EventSender<Y>,
-    misread: &mut MisreadLimit,
-    line: &mut InputLine,
-)
+// Tells what a line asks for, and waits until the coordinator is near. A line that cancels no
+// build asks for nothing.
+fn tell_line<Y, R>(shared: &SharedState<Y, R>, misread: &mut MisreadLimit, line: &mut InputLine)
 where
     Y: Yard,
-    R: Wait + Clock,
+    R: Wait + Clock + Drop,
 {
-    match line.end() {
-        Some(number) => events.tell(rt, MasterEvent::Cancel(number)),
-        None => {
-            if misread.allows(rt) {
-                events.tell(rt, MasterEvent::Misread);
-            }
+    let (rt, lines) = (&shared.rt, &shared.lines);
+    let asked = line.end();
+    let is_build = match asked {
+        Some(number) => shared.build(number).is_some(),
+        None => false,
+    };
+    if !is_build && !misread.allows(rt) {
+        return;
+    }
+    match asked {
+        Some(number) => {
+            lines.add();
+            shared.events.tell(rt, MasterEvent::Cancel(number));
+            lines.wait(rt);
         }
+        None => shared.events.tell(rt, MasterEvent::Misread),
     }
 }
 
 // Tells what each line of the input asks for, until the input ends or can't be read.
-fn read_input<I, Y, R>(rt: &R, alloc: Global, input: I, events: &EventSender<Y>)
+fn read_input<I, Y, R>(shared: &SharedState<Y, R>, input: I)
 where
     I: Read + Drop,
     Y: Yard,
-    R: Wait + Clock,
+    R: Wait + Clock + Drop,
 {
+    let rt = &shared.rt;
     let mut input = input;
     let mut piece = [0u8; 512];
-    let mut line = InputLine::new(alloc);
+    let mut line = InputLine::new(shared.alloc);
     let mut misread = MisreadLimit {
         limit: RateLimit::new(MOST_MISREAD),
         began: Instant::now(rt).ok(),
@@ -126,12 +178,12 @@ where
             if *byte != b'\n' {
                 line.push(*byte);
             } else {
-                tell_line(rt, events, &mut misread, &mut line);
+                tell_line(shared, &mut misread, &mut line);
             }
         }
     }
     if !line.is_empty() {
-        tell_line(rt, events, &mut misread, &mut line);
+        tell_line(shared, &mut misread, &mut line);
     }
 }
 
@@ -143,7 +195,7 @@ where
     R: Wait + Clock + Drop,
 {
     if let Ok(true) = begins.recv(&shared.rt) {
-        read_input(&shared.rt, shared.alloc, input, &shared.events);
+        read_input(shared, input);
         shared.events.tell(&shared.rt, MasterEvent::InputEnded);
     }
 }

@@ -7,11 +7,12 @@
 //! failed. A build runs on its own worker's lane. Everything here is safe, and may wait.
 //!
 //! A body could still start a thread too few, end one too early, or drop an event. The threads'
-//! work is put together here, and only tested. Inside the crate `BuildTask`, `BuildStart`,
-//! `CoordinatorFlow`, `next_wait`, `leave` and `end` have clauses.
+//! work is put together here, and only tested. So is why a master could not begin. Inside the
+//! crate `BuildTask`, `BuildStart`, `CoordinatorFlow`, `next_wait`, `leave` and `end` have clauses.
 #![tactic(auto)]
 
 mod acceptor;
+mod begin_fault;
 mod build_start;
 mod build_thread;
 mod coordinator;
@@ -39,5 +40,6 @@ mod web;
 mod worker_entry;
 mod worker_process;
 
+pub use begin_fault::BeginFault;
 pub use host::MasterHost;
 pub use serving::serve;

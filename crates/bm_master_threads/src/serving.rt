@@ -1,7 +1,8 @@
 //! A build master, from its sockets to its last line.
 ghost use Rattle.bm_lane.specs.Placed.{ArePlaced};
 
-use crate::ending::{end, failed, write_line};
+use crate::begin_fault::BeginFault;
+use crate::ending::{end, write_line};
 use crate::first_remarks::tell_first;
 use crate::host::MasterHost;
 use crate::remarks::Remarks;
@@ -21,13 +22,18 @@ use std::sync::Wait;
 use std::time::Clock;
 
 // Tells of a key whose address can't be bound, and why.
-fn refuse<F: Write>(faults: &mut F, key: &str, at: SocketAddr, why: &io::Error) -> u8 {
+fn refuse<F: Write>(
+    faults: &mut F,
+    key: &str,
+    at: SocketAddr,
+    why: &io::Error,
+) -> Result<u8, BeginFault> {
     // Where it can't be told, the status still says that the configuration is refused.
     let _ = writeln!(
         faults,
         "bad configuration: {key}\nconfiguration: {key}: {at} can't be bound: {why}"
     );
-    REFUSED
+    Ok(REFUSED)
 }
 
 /// Runs a build master: its workers connect, its builds run once each, and their logs are served
@@ -35,13 +41,16 @@ fn refuse<F: Write>(faults: &mut F, key: &str, at: SocketAddr, why: &io::Error) 
 ///
 /// The result is the exit status. It is 0 where each build ended SUCCESS or WARNINGS and nothing
 /// failed. It is 2 where an address can't be bound, which is told on `faults`. Else it is 1, as
-/// after a failed write to `output`, want of memory and where no thread could be started. Where it
-/// can't be written where the master listens, no build is run.
+/// after a failed write to `output`.
 ///
 /// A line `cancel I` of the input cancels build I. On `output` stands `listening ADDR ADDR` first,
 /// for workers and for the web. Once every build is over, `build I RESULT` stands there for each.
 /// At the end it is `lane NAME COMMANDS LINES` for each worker. On `faults` stand remarks for an
 /// operator, first of what the master has, and of the keys that nobody reads.
+///
+/// # Errors
+///
+/// Why it could not begin. No build was run then.
 pub fn serve<R, I, O, F>(
     rt: &R,
     config: Config,
@@ -49,7 +58,7 @@ pub fn serve<R, I, O, F>(
     input: I,
     output: O,
     faults: F,
-) -> u8
+) -> Result<u8, BeginFault>
 where
     R: MasterHost + 'static,
     I: Read + Drop + Send,
@@ -67,7 +76,7 @@ where
         Err(why) => return refuse(&mut faults, "web", config.web, &why),
     };
     let Some(blanks) = open_all(*rt, alloc, config.capacity, config.workers.as_slice()) else {
-        return failed();
+        return Err(BeginFault::Room);
     };
     let remarks = Remarks::open(rt, alloc, config.remarks, faults);
     let streams = MasterStreams {
@@ -77,10 +86,7 @@ where
         output,
         remarks,
     };
-    match run::<Brand, R, I, O>(rt, alloc, blanks, config, unknown, streams) {
-        Some(status) => status,
-        None => failed(),
-    }
+    run::<Brand, R, I, O>(rt, alloc, blanks, config, unknown, streams)
 }
 
 // The ends of these lanes, by who owns them. None where memory is wanting.
@@ -97,9 +103,8 @@ fn ends_by_owner<Y: Yard, R: Wait + Clock + Drop>(
     }
 }
 
-// Runs a master over these blanks, and answers its exit status. None where it could not begin, or a
-// thread could not be started. Where it can't be told where it listens nobody could connect: then
-// no thread is started.
+// Runs a master over these blanks, and answers its exit status. Where it can't be told where it
+// listens nobody could connect: then no thread is started.
 fn run<Y, R, I, O>(
     rt: &R,
     alloc: Global,
@@ -107,7 +112,7 @@ fn run<Y, R, I, O>(
     config: Config,
     unknown: &[UnknownKey],
     streams: MasterStreams<I, O>,
-) -> Option<u8>
+) -> Result<u8, BeginFault>
 where
     Y: Yard + Send + Sync,
     R: MasterHost,
@@ -116,17 +121,23 @@ where
     requires placed { ArePlaced Y.queue Y.copy 0 blanks.items }
 {
     let ends = ends_by_owner::<Y, R>(alloc, config.workers.as_slice(), blanks);
-    let (at, ends) = streams.listen().zip(ends)?;
+    let Some((at, ends)) = streams.listen().zip(ends) else {
+        return Err(BeginFault::Room);
+    };
     let (workers, web) = at;
-    let (shared, owned, logs) = prepare(rt, alloc, config, streams, ends, workers)?;
+    let Some((shared, owned, logs)) = prepare(rt, alloc, config, streams, ends, workers) else {
+        return Err(BeginFault::Room);
+    };
     let mut owned = owned;
     let listening = OutputLine::Listening { workers, web };
     if !write_line(alloc, listening, &mut owned.coordinator.output) {
-        return None;
+        return Err(BeginFault::Output);
     }
     if let Some(remarks) = &owned.coordinator.remarks {
         tell_first(rt, alloc, remarks, &shared.config, unknown);
     }
-    let left = run_threads(&shared, owned)?;
-    Some(end(shared, left, logs))
+    match run_threads(&shared, owned) {
+        Some(left) => Ok(end(shared, left, logs)),
+        None => Err(BeginFault::Thread),
+    }
 }

@@ -1,6 +1,7 @@
 //! What all threads of a master share.
 
 use crate::events::EventSender;
+use crate::input::LinesAhead;
 use crate::sockets::AcceptorWaker;
 use crate::web::WebStop;
 use bm_board::Build;
@@ -50,6 +51,8 @@ pub struct SharedState<Y: Yard, R: Wait + Clock + Drop> {
     pub lanes: Vec<LaneHandle<WorkerStream<R>>>,
     /// By what the coordinator is reached.
     pub events: EventSender<Y>,
+    /// How far the input's thread is ahead of the coordinator.
+    pub lines: LinesAhead,
     /// By what the acceptor is woken.
     pub acceptor: AcceptorWaker,
     /// The connections without a login, and how many of them there may be.
@@ -93,6 +96,7 @@ impl<Y: Yard, R: Wait + Clock + Copy + Drop> SharedState<Y, R> {
             users,
             lanes,
             events,
+            lines: LinesAhead::new(),
             acceptor,
             logins,
             writers,

@@ -56,7 +56,7 @@ pub struct MasterLeft<Y: Yard, O> {
     /// The reader's end of each lane whose actor was started.
     pub readers: Vec<ReaderEnd<Y>>,
     pub coordinator: CoordinatorLeft<Y, O>,
-    /// Whether the pool and the web did their work to the end.
+    /// Whether the pool did its work to the end.
     pub is_whole: bool,
 }
 
@@ -67,7 +67,6 @@ fn join_all<Y, R, O>(
     coordinator: Option<JoinHandle<CoordinatorLeft<Y, O>>>,
     lane_threads: LaneThreads<Y>,
     room: Vec<ReaderEnd<Y>>,
-    is_served: bool,
 ) -> Option<MasterLeft<Y, O>>
 where
     Y: Yard,
@@ -83,7 +82,7 @@ where
     Some(MasterLeft {
         readers,
         coordinator,
-        is_whole: is_served && is_drained,
+        is_whole: is_drained,
     })
 }
 
@@ -153,8 +152,8 @@ where
     if coordinator.is_none() {
         shared.web_stop.end(&shared.rt);
     }
-    let is_served = serve_web(shared, &web, &logs);
-    join_all(shared, coordinator, lane_threads, room, is_served)
+    serve_web(shared, &web, &logs);
+    join_all(shared, coordinator, lane_threads, room)
 }
 
 /// Runs all threads, and joins them. None where one of them could not be started, or memory is

@@ -1,5 +1,6 @@
 //! The web, which is served until the coordinator ends it.
 
+use crate::events::MasterEvent;
 use crate::shared_state::SharedState;
 use bm_lane::Yard;
 use bm_web_server::{LogService, WebLimits, serve};
@@ -76,13 +77,13 @@ impl WebStop {
 }
 
 /// Serves the logs until the coordinator ends it. Where memory or descriptors are wanting, so that
-/// it can't begin or go on, it begins anew after a while: who connects meanwhile waits. The answer
-/// is whether it was served at the end, or ended before it began.
+/// it can't begin or go on, it begins anew after a while: who connects meanwhile waits. That is
+/// told, and changes nothing of how the builds end.
 pub fn serve_web<Y, R>(
     shared: &SharedState<Y, R>,
     listener: &TcpListener,
     logs: &Arc<LogService<Y>>,
-) -> bool
+)
 where
     Y: Yard + Send + Sync,
     R: Wait + Threads + Clock + RandomSource + AllocGlobal + Net + Copy + Drop + Send + Sync,
@@ -90,10 +91,14 @@ where
     let rt = &shared.rt;
     let mut is_served = true;
     for _ in rt.forever() {
+        let was_served = is_served;
         match shared.web_stop.wait_for(rt, shared.alloc) {
             Ok(Some(stopped)) => is_served = serve_once(*rt, listener, logs, stopped),
-            Ok(None) => return is_served,
+            Ok(None) => return,
             Err(_) => is_served = false,
+        }
+        if was_served && !is_served {
+            shared.events.tell(rt, MasterEvent::Paused);
         }
         thread::sleep(rt, Duration::from_millis(PAUSE_MS));
     }

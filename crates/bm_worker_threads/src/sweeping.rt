@@ -8,66 +8,90 @@ use std::process::{Child, Command, Stdio};
 use std::time::Duration;
 use std::{io, thread};
 
-/// Kills what carries a mark, its first word, and looks again until two looks in turn find nothing.
-/// A word that is no mark could stand in any process, and nothing is looked for then. A killed
-/// process whose parent hasn't asked for its end has no environment any more, and isn't found. One
-/// that is found in the last round isn't ended by a kill: the script says so, and goes on behind
-/// itself.
-const KILL: &str = r#"
-case $1 in buildworker-?*.?*.) ;; *) exit 5 ;; esac
+/// Looks for what carries a mark and kills it, until two looks in turn find nothing.
+///
+/// With one word that is the mark. With two it looks for what commands of workers left that are no
+/// longer there. The first is what the marks of this user's workers begin with, the second what
+/// this worker's own environment has of them. A word that is no mark could stand in any process,
+/// and nothing is looked for then.
+///
+/// A process may start the next one and end before `grep` comes to it, and `grep` wasn't given the
+/// next. So a look also goes through what was begun meanwhile, until nothing was begun since. The
+/// fifth word of `/proc/loadavg` is the last number that was given to a process, and to read it
+/// starts none. Where numbers went round, or are many, all processes are looked through again.
+/// Others may begin processes all the time, so it is done five times a look at the most. Such a
+/// look counts by what it found: else no kill on a busy machine would be told as done.
+///
+/// A killed process whose parent hasn't asked for its end has no environment any more, and isn't
+/// found. One that carries the mark in the last round isn't ended by a kill: the script says so,
+/// and goes on behind itself.
+const SWEEP: &str = r#"
+mark=$1
+case $mark in buildworker-?*.?*.) ;; *) exit 5 ;; esac
 PATH=$PATH:/usr/bin:/bin
 command -v grep >/dev/null && [ -r /proc/self/environ ] || exit 3
-look() {
-  found=$(grep -laF -e "$1" /proc/[0-9]*/environ 2>/dev/null)
+kill_marked() {
+  found=$(grep -laF -e "$mark" "$@" /dev/null 2>/dev/null)
   [ $? -lt 100 ] || exit 5
-  for f in $found; do f=${f#/proc/}; kill -9 "${f%/environ}" 2>/dev/null; done
-  [ -n "$found" ]
+  for file in $found; do
+    hit=1 process=${file%/environ}
+    kill -9 "${process#/proc/}" 2>/dev/null
+  done
 }
-round=0 clean=0
-while [ $round -lt 30 ]; do
-  round=$((round + 1))
-  if look "$1"; then
-    clean=0
-    [ $round -lt 5 ] || sleep 0.02
-  else
-    clean=$((clean + 1))
-    [ $clean -lt 2 ] || exit 0
-  fi
-done
-( round=0; while [ $round -lt 60 ] && look "$1"; do round=$((round + 1)); sleep 1; done ) &
-exit 4
-"#;
-
-/// Kills what commands of workers left that are no longer there. The first word is what the marks
-/// of this user's workers begin with, the second what this worker's own environment has of them.
-const KILL_ORPHANS: &str = r#"
-case $1 in buildworker-?*.?*.) ;; *) exit 5 ;; esac
-PATH=$PATH:/usr/bin:/bin
-command -v grep >/dev/null && [ -r /proc/self/environ ] || exit 3
 is_gone() {
   [ -e "/proc/$1" ] || return 0
   read -r told 2>/dev/null <"/proc/$1/stat" || return 1
   set -- "$2" ${told##*\) }
   [ "$2" = Z ] || [ "$2" = X ] || [ "${21}" != "$1" ]
 }
+kill_orphans() {
+  found=$(grep -aoE -e "${mark}[0-9]+\.[0-9]+\." "$@" /dev/null 2>/dev/null)
+  [ $? -lt 100 ] || exit 5
+  for each in $found; do
+    process=${each%%/environ:*} whole=${each#*:}
+    case $outer in *"$whole"*) continue ;; esac
+    worker=${whole#"$mark"} worker=${worker%.}
+    is_gone "${worker%.*}" "${worker#*.}" || continue
+    kill -9 "${process#/proc/}" 2>/dev/null && hit=1
+  done
+}
+look() {
+  hit='' turn=0
+  read -r _ _ _ _ last </proc/loadavg || last=0
+  set -- /proc/[0-9]*/environ
+  while :; do
+    [ $# -eq 0 ] || "$kill_them" "$@"
+    read -r _ _ _ _ next </proc/loadavg || next=$last
+    [ "$next" != "$last" ] || break
+    turn=$((turn + 1))
+    [ $turn -le 5 ] || break
+    set --
+    if [ "$next" -lt "$last" ] || [ "$next" -gt $((last + 1000)) ]; then
+      last=$next
+      set -- /proc/[0-9]*/environ
+    fi
+    while [ "$last" -lt "$next" ]; do
+      last=$((last + 1))
+      [ ! -e "/proc/$last/environ" ] || set -- "$@" "/proc/$last/environ"
+    done
+  done
+  [ -n "$hit" ]
+}
+kill_them=kill_marked outer=${2-}
+[ $# -eq 1 ] || kill_them=kill_orphans
 round=0 clean=0
 while [ $round -lt 30 ]; do
-  round=$((round + 1)) killed=
-  for found in $(grep -aoE -e "$1[0-9]+\.[0-9]+\." /proc/[0-9]*/environ /dev/null 2>/dev/null); do
-    process=${found%%/environ:*} mark=${found#*:}
-    case $2 in *"$mark"*) continue ;; esac
-    worker=${mark#"$1"} worker=${worker%.}
-    is_gone "${worker%.*}" "${worker#*.}" || continue
-    kill -9 "${process#/proc/}" 2>/dev/null && killed=1
-  done
-  if [ -z "$killed" ]; then
-    clean=$((clean + 1))
-    [ $clean -lt 2 ] || exit 0
-  else
+  round=$((round + 1))
+  if look; then
     clean=0
     [ $round -lt 5 ] || sleep 0.02
+  else
+    clean=$((clean + 1))
+    [ $clean -lt 2 ] || exit 0
   fi
 done
+[ $# -eq 1 ] || exit 4
+( round=0; while [ $round -lt 60 ] && look; do round=$((round + 1)); sleep 1; done ) &
 exit 4
 "#;
 
@@ -87,7 +111,7 @@ pub(crate) struct Sweeper {
 impl Sweeper {
     /// Looks for what carries this mark, and kills it.
     pub(crate) fn kill<R: Host>(rt: &R, alloc: Global, mark: &str) -> Sweeper {
-        Sweeper::of(script(alloc, KILL, &[mark]), rt)
+        Sweeper::of(script(alloc, &[mark]), rt)
     }
 
     /// Looks for what workers left that are no longer there, and kills it. Their marks begin so.
@@ -98,7 +122,7 @@ impl Sweeper {
         place: &str,
         outer: &str,
     ) -> Sweeper {
-        Sweeper::of(script(alloc, KILL_ORPHANS, &[place, outer]), rt)
+        Sweeper::of(script(alloc, &[place, outer]), rt)
     }
 
     fn of<R: Host>(command: Result<Command, AllocError>, rt: &R) -> Sweeper {
@@ -152,11 +176,11 @@ fn unstarted(error: &io::Error) -> Sweep {
     }
 }
 
-/// A shell that runs a script with these words.
-fn script(alloc: Global, text: &str, words: &[&str]) -> Result<Command, AllocError> {
+/// A shell that sweeps with these words.
+fn script(alloc: Global, words: &[&str]) -> Result<Command, AllocError> {
     let mut command = Command::new(alloc, "/bin/sh")?;
     command.arg("-c")?;
-    command.arg(text)?;
+    command.arg(SWEEP)?;
     command.arg("sweep")?;
     for word in words {
         command.arg(*word)?;

@@ -25,7 +25,9 @@ fn main(rt: HostRuntime) -> ExitCode {
         Some(MasterArguments::Replay { capacity }) => {
             replay_run(rt.alloc(), capacity.items, input, output, faults)
         }
-        Some(MasterArguments::Serve { file }) => serve_file(&rt, file, input, output, faults),
+        Some(MasterArguments::Serve { file }) => {
+            serve_file(&rt, file, input, output, faults, rt.stderr())
+        }
         None => tell_usage(faults),
     })
 }

@@ -1,7 +1,7 @@
 //! The master of a configuration file.
 
 use bm_config::{Config, ConfigMistake, Spot, UnknownKey, read_config_or_why, unknown_keys};
-use bm_master_threads::serve;
+use bm_master_threads::{BeginFault, serve};
 use bm_operator::{REFUSED, one_line, status};
 use bm_replay::{MOST_BYTES, read_up_to};
 use std::alloc::{AllocError, AllocGlobal, Global};
@@ -120,12 +120,21 @@ fn refuse_spot<F: Write>(alloc: Global, spot: Spot, faults: &mut F) -> io::Resul
     }
 }
 
+// Tells why the master could not begin, and answers the exit status.
+fn not_begun<F: Write + Drop>(fault: BeginFault, faults: F) -> u8 {
+    let mut faults = faults;
+    // Where it can't be told, the status still says that it failed.
+    let _ = writeln!(faults, "not begun, {fault}");
+    fault.status()
+}
+
 /// Runs the master of the configuration in a file, over these streams, and answers the exit status.
 /// It is 2 where the configuration is refused. Then `faults` has the first key at fault, and in a
 /// second line where it stands and what was expected there. For a text that is no TOML `syntax` is
 /// told in its place, and `file` for a file that can't be read. The system's parts are listed:
 /// under `MasterHost` alone the toolchain refuses the proof, for want of types that only it names.
-pub fn serve_file<R, I, O, F>(rt: &R, path: &str, input: I, output: O, faults: F) -> u8
+/// `last` is told why the master could not begin, once nobody has `faults` any more.
+pub fn serve_file<R, I, O, F>(rt: &R, path: &str, input: I, output: O, faults: F, last: F) -> u8
 where
     R: Wait
         + Threads
@@ -144,8 +153,12 @@ where
     O: Write + Drop + Send,
     F: Write + Drop + Send + 'static,
 {
-    match config_in(rt, path) {
-        Ok((config, unknown)) => serve(rt, config, unknown.as_slice(), input, output, faults),
-        Err(refusal) => refuse(rt.alloc(), path, refusal, faults),
+    let (config, unknown) = match config_in(rt, path) {
+        Ok(found) => found,
+        Err(refusal) => return refuse(rt.alloc(), path, refusal, faults),
+    };
+    match serve(rt, config, unknown.as_slice(), input, output, faults) {
+        Ok(status) => status,
+        Err(fault) => not_begun(fault, last),
     }
 }
