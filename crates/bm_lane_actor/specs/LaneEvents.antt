@@ -1,5 +1,6 @@
 -- What happens to a lane, and what follows from it.
 use Rattle.std.specs.Prelude.{ℕ, Bool, true, false, if◌then◌else◌, List, Option, Some, None}
+use Rattle.std.specs.declared.net.socket_addr.SocketAddr.{SocketAddr}
 use Rattle.bm_session.specs.Trace.{Trace, is_up, is_cut}
 use Rattle.bm_session.specs.declared.refusal.Refusal.TheVariants.{Mem, Full}
 use Rattle.bm_lane.specs.declared.refusals.HearRefusal.TheVariants.{Session}
@@ -36,6 +37,12 @@ greeting Cut false = (Some (event.Lost loss.Replaced), event.Attached)
 greeting Up false = (None, event.Attached)
 greeting Down false = (None, event.Attached)
 
+-- a session stands after a login that failed: the lane heard something by it, and isn't down
+abbrev pub stands : Bool → ConnectionState → Bool
+stands true Up = true
+stands true Cut = true
+stands _ _ = false
+
 -- why a lane whose link failed so is cut or given up
 abbrev pub loss_of : LinkFault → LossCause
 loss_of fault.Stream = loss.Stream
@@ -47,6 +54,16 @@ loss_of (fault.Lane (Session Mem)) = loss.Memory
 loss_of fault.Mem = loss.Memory
 loss_of fault.Arena = loss.Memory
 loss_of _ = loss.Closed
+
+-- What is told of a link by which a login failed. Where a session stands after it, that is what a
+-- link that takes the lane up is greeted with, and then how that ended. Else the login was
+-- declined, and a session that was cut before may be lost by it. Its own is lost for the fault.
+-- Any other one is lost since a session was to begin.
+abbrev pub failed_login : ConnectionState → ConnectionState → Bool → Bool → LinkFault → SocketAddr
+    → Option LaneEvent × LaneEvent × Option LaneEvent
+failed_login before after own heard f from = if stands heard after
+    then ((greeting before own).0, (greeting before own).1, event_after Up after (loss_of f))
+    else (event_after before after (if own then loss_of f else loss.Replaced), event.Declined f from, None)
 
 -- its worker is awaited to resume the session
 abbrev pub is_awaited : ConnectionState → Bool

@@ -1,6 +1,6 @@
 -- What a build's port to a lane is.
 use mathlib.Core.List.{IsPrefix}
-use Rattle.std.specs.Prelude.{◌≡◌, ◌⊎◌, ℕ, ◌-◌, ◌^◌, Bool, true, false, not, ◌&&◌, List, [], ◌∷◌, ◌++◌, if◌then◌else◌, Option, Some, None, Result, Ok, Err}
+use Rattle.std.specs.Prelude.{◌≡◌, ◌⊎◌, ℕ, ◌-◌, ◌^◌, Bool, true, false, not, ◌&&◌, nat_lt, List, [], ◌∷◌, ◌++◌, if◌then◌else◌, Option, Some, None, Result, Ok, Err}
 use Rattle.bm_session.specs.declared.results.Results.{Results}
 use Rattle.bm_session.specs.declared.results.Results.TheVariants.{Retry, Exception, Cancelled}
 use Rattle.bm_operator.specs.declared.reasons.StartRefusal.{StartRefusal}
@@ -51,6 +51,10 @@ is_lost result = false
 -- a step isn't started, since its build was cancelled before
 abbrev pub is_left_out : Bool → Bool → Bool
 is_left_out cancelled always_run = cancelled && not always_run
+
+-- a tick that begins so many milliseconds late is a short one, and no tick is left out
+abbrev pub keeps_pace : ℕ → Bool
+keeps_pace behind_ms = nat_lt behind_ms 1000
 
 -- the number of no command
 abbrev pub no_command : ℕ

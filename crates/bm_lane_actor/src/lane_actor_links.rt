@@ -2,13 +2,12 @@
 
 use crate::connection_state::ConnectionState;
 use crate::lane_actor::LaneActor;
-use crate::lane_event::{EventSink, LaneEvent, greeting};
+use crate::lane_event::{EventSink, LaneEvent, failed_login, greeting};
 use crate::lane_policy::{LaneActs, LaneInput, LinkAct, SecondAct};
 use crate::stream::WorkerStream;
 use bm_lane::Yard;
 use bm_latent::millis;
 use bm_link::{Attached, LinkFault, MasterLink};
-use bm_operator::LossCause;
 use std::sync::Wait;
 use std::time::Clock;
 
@@ -152,16 +151,34 @@ where
     /// A link takes the lane up, or is told why not.
     fn admit(&mut self, link: MasterLink<WorkerStream<R>>) {
         let before = self.state.connection();
+        let is_own = before == ConnectionState::Cut && self.state.names_kept(&link);
+        let events = self.state.events();
         let from = link.get_ref().from();
-        let answer = self.state.attach(self.rt, self.alloc, link);
-        match answer {
+        match self.state.attach(self.rt, self.alloc, link) {
             Ok(attached) => self.welcome(attached, before),
             Err(fault) => {
-                self.note(before, LossCause::Replaced);
-                self.events.tell(LaneEvent::Declined(fault, from));
+                let after = self.state.connection();
+                let is_heard = self.state.events() != events;
+                self.tell_failed(failed_login(before, after, is_own, is_heard, fault, from));
+                if is_heard {
+                    self.gate.call_builds(self.place);
+                }
+                self.gate.wake(self.place);
             }
         }
         self.reads.told();
+    }
+
+    /// Tells in order what came of a login that failed.
+    fn tell_failed(&mut self, told: (Option<LaneEvent>, LaneEvent, Option<LaneEvent>)) {
+        let (loss, login, end) = told;
+        if let Some(loss) = loss {
+            self.events.tell(loss);
+        }
+        self.events.tell(login);
+        if let Some(end) = end {
+            self.events.tell(end);
+        }
     }
 
     /// A link has taken the lane up, which was in the state `before`. Its builds are called once

@@ -3,7 +3,7 @@
 
 ghost use Rattle.std.specs.Prelude.{◌≡◌, option_map};
 ghost use Rattle.bm_operator.specs.Remark.{told};
-ghost use Rattle.bm_lane_actor.specs.LaneEvents.{connection_of, declines, event_after, event_of, event_told, fills, greeting, loss_of};
+ghost use Rattle.bm_lane_actor.specs.LaneEvents.{connection_of, declines, event_after, event_of, event_told, failed_login, fills, greeting, loss_of};
 
 use crate::connection_state::ConnectionState;
 use crate::login_refusal::refusal_of;
@@ -25,9 +25,10 @@ pub enum LaneEvent {
     Cut(LossCause),
     /// The session was given up for this cause: each of its open commands has ended.
     Lost(LossCause),
-    /// A login of the worker, from this address, was declined for this cause, or the answer to it
-    /// could not be sent. A declined worker was told `already up`, `busy` or `full`. The login's
-    /// stream brought the address, since an actor knows nothing of the acceptor.
+    /// A login of the worker, from this address, was declined for this cause. Or the answer to it
+    /// could not be sent, and no session is left of it. A declined worker was told `already up`,
+    /// `busy` or `full`. The login's stream brought the address, since an actor knows nothing of
+    /// the acceptor.
     Declined(LinkFault, SocketAddr),
     /// A command was refused, since the lane has had as many events as it may. A loss and a
     /// declined login tell that by their cause.
@@ -85,6 +86,36 @@ pub fn greeting(before: ConnectionState, is_resumed: bool) -> (Option<LaneEvent>
         }
         (ConnectionState::Up | ConnectionState::Down, false) => (None, LaneEvent::Attached),
     }
+}
+
+/// What is told, in order, of a link by which a login at a lane failed. That is a session that it
+/// ended, if any. Then comes the login, which was declined or has taken the lane up. The last is
+/// what that came to, if the link's end was taken already.
+///
+/// The lane stood as `before`, and stands as `after`. `is_own`: the login names the session of a
+/// cut lane. `is_heard`: the lane had an event by it. `from` is where the link comes from.
+pub fn failed_login(
+    before: ConnectionState,
+    after: ConnectionState,
+    is_own: bool,
+    is_heard: bool,
+    fault: LinkFault,
+    from: SocketAddr,
+) -> (Option<LaneEvent>, LaneEvent, Option<LaneEvent>)
+    ensures { result ≡ failed_login before after is_own is_heard fault from }
+{
+    if is_heard && after != ConnectionState::Down {
+        let (loss, login) = greeting(before, is_own);
+        let end = event_after(ConnectionState::Up, after, loss_of(fault));
+        return (loss, login, end);
+    }
+    let cause = if is_own {
+        loss_of(fault)
+    } else {
+        LossCause::Replaced
+    };
+    let loss = event_after(before, after, cause);
+    (loss, LaneEvent::Declined(fault, from), None)
 }
 
 /// Why a lane whose link failed so is cut or given up.

@@ -1,6 +1,8 @@
 //! A lane's reader's end with the link by which it is up.
 
-ghost use Rattle.std.specs.Prelude.{◌≡◌, [], nat_lt, is_some, None};
+ghost use Rattle.std.specs.List.{slice_get};
+ghost use Rattle.std.specs.Option.{option_copied};
+ghost use Rattle.std.specs.Prelude.{◌≡◌, ◌-◌, [], nat_lt, is_some, None, length};
 ghost use Rattle.bm_link.specs.Carries.{new_carried};
 ghost use Rattle.bm_link.specs.Control.{names_kept};
 ghost use Rattle.bm_link.specs.Laws.{CarriesPending};
@@ -97,8 +99,18 @@ impl<Y: Yard, S> LaneState<Y, S> {
     }
 
     /// The last event of the lane, if it had one.
-    pub fn last_event(&self) -> Option<&Event> {
+    pub fn last_event(&self) -> Option<&Event>
+        ensures { option_copied result
+            ≡ slice_get self.now.lane.trace (length self.now.lane.trace - 1) }
+    {
         self.reader.trace().last()
+    }
+
+    /// How many events the lane had.
+    pub fn events(&self) -> usize
+        ensures { result ≡ length self.now.lane.trace }
+    {
+        self.reader.trace().len()
     }
 
     /// What is waited for. `is_lively`: the worker has something to say.

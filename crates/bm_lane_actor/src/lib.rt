@@ -57,7 +57,8 @@ pub use connection_state::ConnectionState;
 pub use drain_gate::DrainGate;
 pub use lane_actor::serve_lane;
 pub use lane_event::{
-    EventSink, LaneEvent, declines, event_after, event_of, fills, greeting, loss_of, remark_of,
+    EventSink, LaneEvent, declines, event_after, event_of, failed_login, fills, greeting, loss_of,
+    remark_of,
 };
 pub use lane_policy::{LaneActs, LaneInput, LanePolicy, LinkAct, SecondAct};
 pub use lane_request::{CancelFlag, LaneRequest, LaneSignal, StartOrder};

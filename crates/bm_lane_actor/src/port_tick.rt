@@ -1,12 +1,22 @@
 //! When the ticks of a build's port begin and end.
 
-use bm_latent::TICK_MS;
+ghost use Rattle.std.specs.Prelude.{◌≡◌};
+ghost use Rattle.bm_lane_actor.specs.Ports.{keeps_pace};
+
+use bm_latent::{TICK_MS, millis};
 use std::sync::Wait;
 use std::thread;
 use std::time::{Clock, Duration, Instant};
 
 /// How far a tick may begin behind the last one's end, in milliseconds.
 const MOST_BEHIND_MS: u64 = 1_000;
+
+// Whether a tick that begins so many milliseconds late may be a short one.
+fn keeps_pace(behind_ms: u64) -> bool
+    ensures { result ≡ keeps_pace behind_ms }
+{
+    behind_ms < MOST_BEHIND_MS
+}
 
 /// When the tick begins behind the one that began then: at that one's end. So what a look takes
 /// beyond a tick isn't added to each limit, and a late tick is short. Anew where it would be far
@@ -18,10 +28,7 @@ pub(crate) fn next_tick<R: Clock>(rt: &R, last: &Option<Instant>) -> Option<Inst
         None => None,
     };
     match begins {
-        Some(begins)
-            if now.saturating_duration_since(begins) < Duration::from_millis(MOST_BEHIND_MS) => {
-            Some(begins)
-        }
+        Some(begins) if keeps_pace(millis(now.saturating_duration_since(begins))) => Some(begins),
         _ => Some(now),
     }
 }

@@ -45,7 +45,7 @@ pub enum StartStage {
 /// contract sees, so `ask` alone may say it.
 #[derive(Drop)]
 pub struct StartProgress {
-    pub stage: StartStage,
+    stage: StartStage,
 }
 
 /// Why a step isn't started whose order came to this, and isn't tried again.
