@@ -1,8 +1,10 @@
 -- Viewers at the places of their lanes.
-use Rattle.std.proofs.Common.{◌≡◌, ℕ, zero, suc, List, [], ◌∷◌, Option, Some, None, refl, ap}
+use Rattle.std.proofs.Common.{◌≡◌, ◌<◌, ◌∙◌, ◌↔◌, ℕ, zero, suc, List, [], ◌∷◌, Option, Some, None, inl, inr, length, refl, sym, ap}
 use Rattle.std.specs.Prelude.{slice_get, slice_set, MatchOption, IfSome}
+use Rattle.std.proofs.lemmas.Option.{same_Some}
+use native.Mathlib.Omega.{arith}
 use Rattle.bm_lane.specs.Ends.{Watched}
-use Rattle.bm_http.specs.Placed.{IsPlaced}
+use Rattle.bm_http.specs.Placed.{IsMissing, IsPlaced}
 
 -- where nothing lies, nothing is taken
 unset : {W : Type 0} (ps : List (Option W)) (i : ℕ) → slice_get ps i ≡ Some None → slice_set ps i None ≡ ps
@@ -19,3 +21,13 @@ place-taken ps i (Some v) h = (h, refl)
 pub place-own : (ps : List (Option Watched)) → IsPlaced ps → (i : ℕ) (o : Option Watched) → slice_get ps i ≡ Some o → IfSome o (λ v. v.lane ≡ i)
 place-own ps p i None h = tt
 place-own ps p i (Some v) h = p i v h
+
+-- what lies at a place is none exactly where the lane's viewer is missing
+pub place-missing : (ps : List (Option Watched)) (i : ℕ) (o : Option Watched) → slice_get ps i ≡ Some o → i < length ps → (o ≡ None) ↔ IsMissing ps i
+place-missing ps i o is within = (
+  λ none. inl (is ∙ ap (λ p. Some p) none),
+  λ missing. elim missing [
+    | inl away ↦ same_Some o None (sym is ∙ away)
+    | inr past ↦ absurd (omega (arith, within, past))
+  ],
+)

@@ -1,6 +1,6 @@
 //! The viewers of all lanes, of which each look takes one.
-ghost use Rattle.std.specs.Prelude.{◌≡◌, ◌<◌, ◌+◌, ◌∷◌, ◌++◌, [], map, Some, None, slice_get, slice_set, vec_len, vec_capacity, IfSome, IfOk, MatchOption};
-ghost use Rattle.bm_http.specs.Placed.{IsAway, IsPlaced};
+ghost use Rattle.std.specs.Prelude.{◌≡◌, ◌↔◌, ◌<◌, ◌+◌, ◌∷◌, ◌++◌, [], map, Some, None, slice_get, slice_set, vec_len, vec_capacity, IfSome, IfOk, MatchOption};
+ghost use Rattle.bm_http.specs.Placed.{InOrder, IsAway, IsMissing, IsPlaced};
 
 use bm_lane::{Viewer, Yard};
 use std::alloc::{AllocError, Global};
@@ -77,8 +77,8 @@ fn keep<Y: Yard>(viewers: &mut Vec<Viewer<Y>>, place: Option<Viewer<Y>>) -> Opti
 }
 
 impl<Y: Yard> LaneViewers<Y> {
-    /// The viewers of all lanes, in the order of the lanes. This is where each is compared with its
-    /// place.
+    /// The viewers of all lanes, in the order of the lanes: no place is empty. This is where each
+    /// is compared with its place.
     pub fn new(alloc: Global, viewers: Vec<Viewer<Y>>) -> Result<LaneViewers<Y>, ViewersError>
         ensures { IfOk result (λ all. all ≡ map Some viewers.items) }
     {
@@ -90,8 +90,10 @@ impl<Y: Yard> LaneViewers<Y> {
         Ok(LaneViewers { places, room })
     }
 
-    /// Takes the viewer of a lane. None where another look has it, or there is no such lane.
+    /// Takes the viewer of a lane, whose place is then empty. None exactly where it was empty
+    /// before, since another look has the viewer, or there is no such lane. No other place changes.
     pub fn take(&mut self, lane: u64) -> Option<Viewer<Y>>
+        ensures missing { (result ≡ None) ↔ IsMissing self.old lane }
         ensures own { IfSome result (λ v. v.lane ≡ lane) }
         ensures taken { MatchOption result (self.new ≡ self.old) (λ v.
             (slice_get self.old lane ≡ Some (Some v)) × (self.new ≡ slice_set self.old lane None)) }
@@ -103,7 +105,7 @@ impl<Y: Yard> LaneViewers<Y> {
         self.places[place].take()
     }
 
-    /// Puts a viewer back to its lane's place.
+    /// Puts a viewer back to its lane's place. No other place changes.
     pub fn put(&mut self, viewer: Viewer<Y>)
         ensures { self.new ≡ slice_set self.old viewer.lane (Some viewer) }
     {
@@ -113,9 +115,10 @@ impl<Y: Yard> LaneViewers<Y> {
         }
     }
 
-    /// The viewers, given back. None exactly where a look has one.
+    /// The viewers, given back in the order of the lanes. None exactly where a look has one.
     pub fn into_vec(self) -> Option<Vec<Viewer<Y>>>
-        ensures { MatchOption result (IsAway self) (λ viewers. self ≡ map Some viewers.items) }
+        ensures order { IfSome result (λ viewers. InOrder viewers.items) }
+        ensures all { MatchOption result (IsAway self) (λ viewers. self ≡ map Some viewers.items) }
     {
         let LaneViewers { places, mut room } = self;
         for place in places {

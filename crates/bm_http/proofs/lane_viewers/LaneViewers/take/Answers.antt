@@ -1,7 +1,8 @@
-use Rattle.std.proofs.Common.{rules, refl, None, ◌≡◌, ◌<◌, Some, length, subst}
+use Rattle.std.proofs.Common.{rules, refl, None, ◌≡◌, ◌↔◌, ◌<◌, Some, length, subst}
 use Rattle.std.specs.Prelude.{slice_get, slice_set, MatchOption}
 use Rattle.std.proofs.lemmas.Option.{slice_get_read}
-use Rattle.bm_http.proofs.Placing.{place-own, place-taken}
+use Rattle.bm_http.proofs.Placing.{place-missing, place-own, place-taken}
+use Rattle.bm_http.specs.Placed.{IsMissing}
 use Rattle.bm_http.proofs.lane_viewers.LaneViewers.take.Goals as goal
 
 pub returns-clause-taken : goal.returns-clause-taken
@@ -22,3 +23,12 @@ returns-clause-own g c =
     let found = slice_get_read places (length places) lane c.index_mut.result.now refl within c.index_mut.ensures.value in
     let is : slice_get places lane ≡ Some c.take.result = search rules in
     place-own places c.self.invariant.0 lane c.take.result is
+
+pub returns-clause-missing : goal.returns-clause-missing
+returns-clause-missing g c =
+    let places = c.self.inside.places.items in
+    let lane = c.args.lane in
+    let within : lane < length places = search rules in
+    let found = slice_get_read places (length places) lane c.index_mut.result.now refl within c.index_mut.ensures.value in
+    let is : slice_get places lane ≡ Some c.take.result = search rules in
+    subst (λ ps. (c.take.result ≡ None) ↔ IsMissing ps lane) c.self.view_is (place-missing places lane c.take.result is within)
