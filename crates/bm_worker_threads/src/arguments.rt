@@ -1,7 +1,8 @@
 //! The words of the command line.
 
-ghost use Rattle.std.specs.Prelude.{◌↔◌, ◌∷◌, [], IfSome, IsTrue};
+ghost use Rattle.std.specs.Prelude.{◌≡◌, ◌↔◌, ◌∷◌, [], IfSome, IsTrue, map, option_map, string_bytes};
 ghost use Rattle.bm_link.specs.Texts.{AreShort};
+ghost use Rattle.bm_worker_threads.specs.Arguments.{asked_by, asked_in, is_address, is_login, is_port};
 
 use bm_decimal::read_number;
 use std::alloc::{AllocError, AllocGlobal};
@@ -35,7 +36,9 @@ pub fn words<R: Env + AllocGlobal>(rt: &R) -> Result<Vec<String>, AllocError> {
 /// Reads the words of the command line, of which the first is the program's name. The answer is
 /// None where they ask for nothing that the program does.
 pub fn read_arguments(words: &[String]) -> Option<Arguments<'_>>
-    ensures { IfSome result (λ arguments. AreShort (arguments.name.now ∷ arguments.password.now ∷ [])) }
+    ensures asked { option_map asked_in result ≡ asked_by (map string_bytes words.now) }
+    ensures short { IfSome result (λ arguments.
+        AreShort (arguments.name.now ∷ arguments.password.now ∷ [])) }
 {
     let [_, address, name, password] = words else {
         return None;
@@ -52,7 +55,9 @@ pub fn read_arguments(words: &[String]) -> Option<Arguments<'_>>
 }
 
 /// Whether the text ends with a colon and a port. What stands before the colon isn't looked at.
-fn is_address(address: &str) -> bool {
+fn is_address(address: &str) -> bool
+    ensures { result ≡ is_address address.now }
+{
     match address.rsplit_once(':') {
         Some((_, port)) => is_port(port),
         None => false,
@@ -60,7 +65,9 @@ fn is_address(address: &str) -> bool {
 }
 
 /// Whether the text is a number from 1 to 65,535, written by decimal digits alone.
-fn is_port(text: &str) -> bool {
+fn is_port(text: &str) -> bool
+    ensures { result ≡ is_port text.now }
+{
     match read_number(text) {
         Some(port) => port > 0 && port <= u64::from(u16::MAX),
         None => false,
@@ -69,7 +76,8 @@ fn is_port(text: &str) -> bool {
 
 /// Whether name and password fit into a login together.
 fn is_login(name: &str, password: &str) -> bool
-    ensures { IsTrue result ↔ AreShort (name.now ∷ password.now ∷ []) }
+    ensures login { result ≡ is_login name.now password.now }
+    ensures short { IsTrue result ↔ AreShort (name.now ∷ password.now ∷ []) }
 {
     name.len() <= MOST_LOGIN_BYTES && password.len() <= MOST_LOGIN_BYTES - name.len()
 }

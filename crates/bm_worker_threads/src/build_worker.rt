@@ -1,7 +1,8 @@
 //! A build worker, and its loop over a connection: what is told, and what is done about its mail.
 
-ghost use Rattle.std.specs.Prelude.{◌∷◌, []};
+ghost use Rattle.std.specs.Prelude.{◌≡◌, ◌∷◌, []};
 ghost use Rattle.bm_link.specs.Texts.{AreShort};
+ghost use Rattle.bm_worker_threads.specs.Connections.{keeps_commands};
 
 use crate::connection::{Connection, ConnectionEnd};
 use crate::host::Host;
@@ -108,7 +109,7 @@ impl<S: Read + Write + Drop, K: MaskKeys + Drop> BuildWorker<S, K> {
         connection: &Connection,
         attached: Attached,
     ) -> ConnectionEnd {
-        if attached != Attached::Resumed && self.processes.lose(rt, alloc).is_err() {
+        if !keeps_commands(attached) && self.processes.lose(rt, alloc).is_err() {
             return ConnectionEnd::NoMemory;
         }
         if let Err(end) = self.hear(rt, alloc, arena, connection) {
@@ -159,4 +160,11 @@ impl<S: Read + Write + Drop, K: MaskKeys + Drop> BuildWorker<S, K> {
             Err(SessionFault::Memory) => Err(ConnectionEnd::NoMemory),
         }
     }
+}
+
+/// Whether what runs goes on, behind a login that was answered so.
+fn keeps_commands(attached: Attached) -> bool
+    ensures { result ≡ keeps_commands attached }
+{
+    attached == Attached::Resumed
 }

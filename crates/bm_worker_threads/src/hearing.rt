@@ -1,5 +1,8 @@
 //! What the worker hears over a connection and of its commands, and what it does about it.
 
+ghost use Rattle.std.specs.Prelude.{◌≡◌};
+ghost use Rattle.bm_worker_threads.specs.Connections.{is_message};
+
 use crate::build_worker::BuildWorker;
 use crate::connection::{Connection, ConnectionEnd};
 use crate::host::Host;
@@ -88,7 +91,7 @@ impl<S: Read + Write + Drop, K: MaskKeys + Drop> BuildWorker<S, K> {
 
     /// A message begins the count of tries to connect afresh.
     fn counts(&mut self, turn: Turn) {
-        if turn == Turn::Heard || turn == Turn::Noted {
+        if is_message(turn) {
             self.tries.heard();
         }
     }
@@ -124,4 +127,11 @@ impl<S: Read + Write + Drop, K: MaskKeys + Drop> BuildWorker<S, K> {
             Err(ConnectionEnd::Lost)
         }
     }
+}
+
+/// Whether a message of the master was taken by this turn.
+fn is_message(turn: Turn) -> bool
+    ensures { result ≡ is_message turn }
+{
+    matches!(turn, Turn::Heard | Turn::Noted)
 }

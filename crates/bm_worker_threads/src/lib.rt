@@ -5,8 +5,10 @@
 //! into the session's outbox, which `bm_worker_session` sends.
 //!
 //! Promised: what the machine tells next is what waits next, of the command that it names. A
-//! command begins with the line of its words. Tests show public calls, but for their safety.
-//! `Processes::turn` and `new_session` have clauses that no caller sees.
+//! command begins with the line of its words. Words of the command line ask for a worker exactly
+//! where `Arguments` of the specs says. A ready stream gives and takes what its own stream does.
+//! Tests show public calls, but for their safety. `Processes::turn` and `new_session` have clauses
+//! that no caller sees, and so have decisions about connections, sweeps and times.
 //!
 //! A body could still leave mail lying, read no pipe, count its time wrongly, or leave an effect
 //! undone. It could end nothing that a command started, or never come back. Threads, pipes,

@@ -1,8 +1,13 @@
 //! By what the processes of a worker's commands are known: a variable of their environment. The
 //! toolchain starts no process groups, and few workers may make a control group.
 
+ghost use Rattle.std.specs.Prelude.{◌≡◌, IfOk, option_map, string_bytes};
+ghost use Rattle.std.specs.Option.{option_copied};
+ghost use Rattle.bm_worker_threads.specs.Marks.{mark_of, value_of, text_or};
+
 use crate::session::new_session;
 use std::alloc::{AllocError, AllocGlobal, Global};
+use std::marker::Model;
 use std::random::RandomSource;
 use std::rt::{Env, Files};
 use std::{env, fs, io};
@@ -26,6 +31,19 @@ pub struct Marks {
     place: Option<String>,
     /// What all marks of this worker begin with.
     worker: String,
+}
+
+impl Model for Marks {
+    ghost use Rattle.std.specs.Prelude.{option_map, string_bytes};
+    ghost use Rattle.bm_worker_threads.specs.Marks.{MarkTexts};
+
+    ghost Value = { MarkTexts };
+
+    ghost view = { λ m. record {
+      outer = string_bytes m.outer;
+      place = option_map string_bytes m.place;
+      worker = string_bytes m.worker;
+    } };
 }
 
 impl Marks {
@@ -57,17 +75,23 @@ impl Marks {
     }
 
     /// What all marks of this worker begin with. By it all that its commands started is found.
-    pub(crate) fn of_worker(&self) -> &str {
+    pub(crate) fn of_worker(&self) -> &str
+        ensures { result.now ≡ self.now.worker }
+    {
         self.worker.as_str()
     }
 
     /// The marks of the worker that this one is a command of.
-    pub(crate) fn of_outer(&self) -> &str {
+    pub(crate) fn of_outer(&self) -> &str
+        ensures { result.now ≡ self.now.outer }
+    {
         self.outer.as_str()
     }
 
     /// What the marks of this user's workers begin with, where that is known.
-    pub(crate) fn of_place(&self) -> Option<&str> {
+    pub(crate) fn of_place(&self) -> Option<&str>
+        ensures { option_copied result ≡ self.now.place }
+    {
         match &self.place {
             Some(place) => Some(place.as_str()),
             None => None,
@@ -76,19 +100,25 @@ impl Marks {
 
     /// The mark of the process with this number, by which it is looked for. No other one begins
     /// with it.
-    pub(crate) fn of_process(&self, number: u64) -> Result<String, AllocError> {
+    pub(crate) fn of_process(&self, number: u64) -> Result<String, AllocError>
+        ensures { IfOk result (λ mark. string_bytes mark ≡ mark_of self.now number) }
+    {
         let worker = self.worker.as_str();
         format!(in self.alloc; "{worker}{number}.")
     }
 
     /// The value of the variable for the process with this number: an outer worker finds it too.
-    pub(crate) fn value(&self, number: u64) -> Result<String, AllocError> {
+    pub(crate) fn value(&self, number: u64) -> Result<String, AllocError>
+        ensures { IfOk result (λ value. string_bytes value ≡ value_of self.now number) }
+    {
         let (outer, worker) = (self.outer.as_str(), self.worker.as_str());
         format!(in self.alloc; "{outer}{worker}{number}.")
     }
 }
 
-fn text_or<'a>(text: &'a Option<String>, other: &'a str) -> &'a str {
+fn text_or<'a>(text: &'a Option<String>, other: &'a str) -> &'a str
+    ensures { result.now ≡ text_or (option_map string_bytes text.now) other.now }
+{
     match text {
         Some(text) => text.as_str(),
         None => other,

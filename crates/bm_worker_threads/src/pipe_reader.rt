@@ -1,5 +1,8 @@
 //! A thread for each pipe of a command.
 
+ghost use Rattle.std.specs.Prelude.{MatchOption};
+ghost use Rattle.std.specs.Io.KnownBytes.{Consumes, Keeps};
+
 use crate::mailbox::{PipeEvent, ProcessEvent, WorkerMail};
 use bm_lines::Letter;
 use bm_outbox::{PipeEnd, PipeTexts, Said};
@@ -84,7 +87,10 @@ impl PipeReader {
 
 /// The next bytes that a pipe gives, none at its end; a pipe that fails has come to its end. The
 /// answer is None where the read is to be made again.
-fn next_bytes<'a, P: Read>(pipe: &mut P, room: &'a mut [u8]) -> Option<&'a [u8]> {
+fn next_bytes<'a, P: Read>(pipe: &mut P, room: &'a mut [u8]) -> Option<&'a [u8]>
+    ensures { MatchOption result (Keeps (P.remaining pipe.old) (P.remaining pipe.new))
+        (λ bytes. Consumes (P.remaining pipe.old) (P.remaining pipe.new) bytes.now) }
+{
     match pipe.read(room) {
         Ok(count) => Some(&room[..count]),
         Err(error) if error.kind() == ErrorKind::Interrupted => None,

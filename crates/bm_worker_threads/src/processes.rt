@@ -1,6 +1,6 @@
 //! The processes of the commands that run, and what is told of them.
 
-ghost use Rattle.std.specs.Prelude.{OnOk};
+ghost use Rattle.std.specs.Prelude.{◌≡◌, ◌-◌, OnOk, max};
 ghost use Rattle.bm_outbox.specs.Opening.{Starts};
 
 use crate::host::Host;
@@ -58,7 +58,7 @@ impl Processes {
         let Some(wake_ms) = self.queues.wake_at() else {
             return self.mailbox.recv(rt).ok();
         };
-        let pause_ms = wake_ms.saturating_sub(self.time.now(rt)).max(1);
+        let pause_ms = pause_until(wake_ms, self.time.now(rt));
         let pause = Duration::from_millis(pause_ms);
         match self.mailbox.recv_timeout(rt, pause) {
             Ok(mail) => Some(mail),
@@ -201,6 +201,14 @@ impl Processes {
             Err(_) => Err(AllocError),
         }
     }
+}
+
+/// How long mail is waited for where a tick is due then. It is a millisecond at the least, so that
+/// the time goes on where the clock fails.
+fn pause_until(wake_ms: u64, now_ms: u64) -> u64
+    ensures { result ≡ max (wake_ms - now_ms) 1 }
+{
+    wake_ms.saturating_sub(now_ms).max(1)
 }
 
 /// False where there is no pipe, or no thread that takes it.

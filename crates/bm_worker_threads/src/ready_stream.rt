@@ -31,6 +31,9 @@ impl<S> ReadyStream<S> {
 }
 
 impl<S: Read> Read for ReadyStream<S> {
+    // What the stream itself will give, so that no read drops or adds a byte.
+    ghost remaining = { λ ready. S.remaining ready.stream };
+
     fn read(&mut self, buf: &mut [u8]) -> io::Result<usize> {
         let left = self.reads.load(Ordering::SeqCst);
         if left == 0 {
@@ -48,6 +51,9 @@ impl<S: Read> Read for ReadyStream<S> {
 }
 
 impl<S: Write> Write for ReadyStream<S> {
+    // What the stream itself holds, so that each write is passed on.
+    ghost contents = { λ ready. S.contents ready.stream };
+
     fn write(&mut self, buf: &[u8]) -> io::Result<usize> {
         self.stream.write(buf)
     }

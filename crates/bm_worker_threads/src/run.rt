@@ -5,7 +5,7 @@ ghost use Rattle.bm_link.specs.Texts.{AreShort};
 
 use crate::build_worker::BuildWorker;
 use crate::closing::close;
-use crate::connection::{Connection, ConnectionEnd};
+use crate::connection::{Connection, ConnectionEnd, GIVEN_UP, after_end, end_of_login};
 use crate::elapsed::millis_since;
 use crate::host::Host;
 use crate::marks::Marks;
@@ -14,8 +14,7 @@ use crate::ready_stream::ReadyStream;
 use crate::socket_watch::SocketWatch;
 use crate::spare_threads::has_threads;
 use crate::sweeping::Sweeper;
-use bm_link::{LinkFault, WorkerLink};
-use bm_outbox::ConnectFault;
+use bm_link::WorkerLink;
 use std::alloc::{AllocGlobal, Global};
 use std::io::{Read, Write};
 use std::net::{OpenStream, Shutdown};
@@ -30,12 +29,6 @@ use tungstenite::RandomKeys;
 
 /// How many reads a login may take. They may wait, since nothing else is done before its answer.
 const LOGIN_READS: u64 = 1_000;
-
-/// The exit status of a worker whose master ended its work.
-const DONE: u8 = 0;
-
-/// The exit status of a worker that gave up.
-const GIVEN_UP: u8 = 1;
 
 /// What a worker logs in with, and the host that its handshake names.
 #[derive(Clone, Copy)]
@@ -125,11 +118,9 @@ where
             Some(stream) => connected(rt, alloc, worker, begun, number, stream, login),
             None => ConnectionEnd::Lost,
         };
-        let why = match end {
-            ConnectionEnd::Shutdown | ConnectionEnd::Closed => return DONE,
-            ConnectionEnd::NoMemory => return GIVEN_UP,
-            ConnectionEnd::Refused => ConnectFault::Refused,
-            ConnectionEnd::Lost => ConnectFault::NoAnswer,
+        let why = match after_end(end) {
+            Ok(why) => why,
+            Err(status) => return status,
         };
         let Some(pause) = worker.tries.again(why, millis_since(rt, begun)) else {
             return GIVEN_UP;
@@ -169,8 +160,7 @@ where
     };
     let attached = match worker.log_in(rt, alloc, link, login.name, login.password) {
         Ok(attached) => attached,
-        Err(LinkFault::BadLogin) => return ConnectionEnd::Refused,
-        Err(_) => return ConnectionEnd::Lost,
+        Err(fault) => return end_of_login(fault),
     };
     connection.allow_reads(0);
     if worker.texts.session().is_some() {

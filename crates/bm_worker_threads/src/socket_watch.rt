@@ -1,5 +1,8 @@
 //! A connection's thread: it tells where the socket has something to read, or was silent for long.
 
+ghost use Rattle.std.specs.Prelude.{◌≡◌};
+ghost use Rattle.bm_worker_threads.specs.Connections.{is_of_silence};
+
 use crate::mailbox::WorkerMail;
 use bm_outbox::{Keepalive, after_silence};
 use crossbeam_channel::{Receiver, Sender};
@@ -69,12 +72,20 @@ impl<S: OpenStream + Drop> SocketWatch<S> {
 fn is_silent<S: OpenStream>(stream: &S) -> bool {
     let mut byte = [0u8; 1];
     match stream.peek(&mut byte) {
-        Err(error) => matches!(
-            error.kind(),
-            ErrorKind::Interrupted | ErrorKind::WouldBlock | ErrorKind::TimedOut
-        ),
+        Err(error) => is_of_silence(error.kind()),
         Ok(_) => false,
     }
+}
+
+/// Whether a look at a stream that failed so has only found no byte. By any other fault the
+/// connection has ended.
+fn is_of_silence(kind: ErrorKind) -> bool
+    ensures { result ≡ is_of_silence kind }
+{
+    matches!(
+        kind,
+        ErrorKind::Interrupted | ErrorKind::WouldBlock | ErrorKind::TimedOut
+    )
 }
 
 /// Whole seconds since then; 0 where the clock fails.

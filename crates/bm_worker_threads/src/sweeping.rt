@@ -1,5 +1,9 @@
 //! Processes that carry a mark are looked for and killed, by a script that nobody waits for.
 
+ghost use Rattle.std.specs.Prelude.{◌≡◌};
+ghost use Rattle.std.specs.IoError.{error_kind};
+ghost use Rattle.bm_worker_threads.specs.Sweeps.{unstarted};
+
 use crate::host::Host;
 use bm_outbox::Sweep;
 use std::alloc::{AllocError, Global};
@@ -169,7 +173,9 @@ impl Sweeper {
 }
 
 /// Why a sweep wasn't started.
-fn unstarted(error: &io::Error) -> Sweep {
+fn unstarted(error: &io::Error) -> Sweep
+    ensures { result ≡ unstarted (error_kind error.now) }
+{
     match error.kind() {
         ErrorKind::NotFound | ErrorKind::PermissionDenied => Sweep::NoTools,
         _ => Sweep::Failed,

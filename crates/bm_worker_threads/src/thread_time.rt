@@ -1,5 +1,7 @@
 //! The time that a machine is told.
 
+ghost use Rattle.std.specs.Prelude.{◌≡◌, ◌≤◌, ◌+◌, ◌-◌, ◌^◌, IfSome, None, Some, min};
+
 use crate::elapsed::whole_millis;
 use std::time::{Clock, Instant};
 
@@ -13,7 +15,9 @@ pub(crate) struct ThreadTime {
 
 impl ThreadTime {
     /// It has not begun.
-    pub(crate) fn new() -> ThreadTime {
+    pub(crate) fn new() -> ThreadTime
+        ensures { result ≡ record { begun = None; last_ms = 0 } }
+    {
         ThreadTime {
             begun: None,
             last_ms: 0,
@@ -21,7 +25,11 @@ impl ThreadTime {
     }
 
     /// How many milliseconds have passed.
-    pub(crate) fn now<R: Clock>(&mut self, rt: &R) -> u64 {
+    pub(crate) fn now<R: Clock>(&mut self, rt: &R) -> u64
+        ensures shown { result ≡ self.new.last_ms }
+        ensures grows { self.old.last_ms ≤ result }
+        ensures begun { IfSome self.old.begun (λ begun. self.new.begun ≡ Some begun) }
+    {
         let Ok(now) = Instant::now(rt) else {
             return self.last_ms;
         };
@@ -36,7 +44,11 @@ impl ThreadTime {
     }
 
     /// The thread has slept for so many milliseconds.
-    pub(crate) fn slept(&mut self, pause_ms: u64) {
+    pub(crate) fn slept(&mut self, pause_ms: u64)
+        ensures { self.new ≡ record self.old {
+          last_ms = min (self.old.last_ms + pause_ms) (2 ^ 64 - 1);
+        } }
+    {
         self.last_ms = self.last_ms.saturating_add(pause_ms);
     }
 }

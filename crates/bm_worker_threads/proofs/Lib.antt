@@ -1,0 +1,2 @@
+-- LastColon: what a split at the last colon of a text gives.
+mod LastColon

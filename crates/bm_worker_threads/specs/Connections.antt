@@ -1,0 +1,47 @@
+-- What a worker does about a connection, by its login, its silence, its messages and its end.
+use Rattle.std.specs.Prelude.{ℕ, Bool, true, false, Result, Ok, Err}
+use Rattle.std.specs.declared.io.ErrorKind.{ErrorKind}
+use Rattle.std.specs.declared.io.ErrorKind.TheVariants as kind
+use Rattle.bm_link.specs.declared.attaching.Attached.{Attached}
+use Rattle.bm_link.specs.declared.attaching.Attached.TheVariants as attached
+use Rattle.bm_link.specs.declared.fault.LinkFault.{LinkFault}
+use Rattle.bm_link.specs.declared.fault.LinkFault.TheVariants as fault
+use Rattle.bm_link.specs.declared.parts.Turn.{Turn}
+use Rattle.bm_link.specs.declared.parts.Turn.TheVariants as turn
+use Rattle.bm_outbox.specs.declared.tries.ConnectFault.{ConnectFault}
+use Rattle.bm_outbox.specs.declared.tries.ConnectFault.TheVariants as why
+use Rattle.bm_worker_threads.specs.declared.connection.ConnectionEnd.{ConnectionEnd}
+use Rattle.bm_worker_threads.specs.declared.connection.ConnectionEnd.TheVariants as end
+
+-- only a wrong name or password is a refusal
+abbrev pub end_of_login : LinkFault → ConnectionEnd
+end_of_login fault.BadLogin = end.Refused
+end_of_login other = end.Lost
+
+-- what ran in a session that wasn't resumed is killed
+abbrev pub keeps_commands : Attached → Bool
+keeps_commands attached.Resumed = true
+keeps_commands other = false
+
+-- A message of the master begins the count of tries afresh. Pings and pongs are none, as what was
+-- read of no message.
+abbrev pub is_message : Turn → Bool
+is_message turn.Heard = true
+is_message turn.Noted = true
+is_message other = false
+
+-- a look that failed so found no byte, and the stream hasn't ended
+abbrev pub is_of_silence : ErrorKind → Bool
+is_of_silence kind.Interrupted = true
+is_of_silence kind.WouldBlock = true
+is_of_silence kind.TimedOut = true
+is_of_silence _ = false
+
+-- Why it connects again, or else its exit status. It ends where its master ended its work, and
+-- where memory is wanting.
+abbrev pub after_end : ConnectionEnd → Result ConnectFault ℕ
+after_end end.Shutdown = Err 0
+after_end end.Closed = Err 0
+after_end end.NoMemory = Err 1
+after_end end.Refused = Ok why.Refused
+after_end end.Lost = Ok why.NoAnswer
