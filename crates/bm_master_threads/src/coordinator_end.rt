@@ -3,6 +3,7 @@
 use crate::coordinator::Coordinator;
 use crate::events::{EventReceiver, MasterEvent};
 use crate::host::MasterHost;
+use crate::tick_wait::TickWait;
 use bm_lane::Yard;
 use bm_lane_actor::{LaneRequest, declines};
 use bm_latent::TICK_MS;
@@ -46,15 +47,25 @@ where
     /// Hears for a moment of workers that were told to shut down and haven't gone.
     pub fn hear_gone(&mut self, events: &EventReceiver<Y>) {
         self.hear_ready(events);
-        let mut ticks = 0u64;
-        for _ in 0..MOST_LAST_EVENTS {
-            if ticks >= GONE_TICKS || !self.workers.iter().any(|worker| worker.is_dismissed()) {
-                return;
+        let shared = self.shared;
+        let mut wait = TickWait::new(GONE_TICKS);
+        self.ended_ticks();
+        for _ in shared.rt.forever() {
+            if wait.is_over(self.workers.iter().any(|worker| worker.is_dismissed())) {
+                break;
             }
-            match events.wait_for(&self.shared.rt, Duration::from_millis(TICK_MS)) {
-                Some(event) => self.hear_last(event),
-                None => ticks = ticks.saturating_add(1),
+            self.hear_within_a_tick(events);
+            for _ in 0..self.ended_ticks() {
+                wait.tick();
             }
+        }
+    }
+
+    /// Hears the next event, if it comes within a tick.
+    pub fn hear_within_a_tick(&mut self, events: &EventReceiver<Y>) {
+        let tick = Duration::from_millis(TICK_MS);
+        if let Some(event) = events.wait_for(&self.shared.rt, tick) {
+            self.hear_last(event);
         }
     }
 

@@ -4,14 +4,14 @@ use crate::coordinator::Coordinator;
 use crate::coordinator_flow::FlowInput;
 use crate::events::EventReceiver;
 use crate::host::MasterHost;
+use crate::tick_wait::TickWait;
 use crate::worker_process::StartFailure;
 use bm_lane::Yard;
 use bm_lane_actor::{LaneEvent, LaneSignal, declines, event_of, fills, remark_of};
-use bm_latent::{ProcessAction, TICK_MS, WorkerEffect, WorkerEvent, WorkerInput};
+use bm_latent::{ProcessAction, WorkerEffect, WorkerEvent, WorkerInput};
 use bm_operator::Remark;
 use bm_session::Results;
 use std::io::Write;
-use std::time::Duration;
 
 /// How many ticks the processes of workers have to end, once the master ends.
 const LAST_TICKS: u64 = 1_001;
@@ -198,18 +198,15 @@ where
             self.hears(at, WorkerInput::Over);
         }
         let shared = self.shared;
-        let rt = &shared.rt;
-        let mut left = LAST_TICKS;
+        let mut wait = TickWait::new(LAST_TICKS);
         self.ended_ticks();
-        for _ in rt.forever() {
-            if left == 0 || !self.workers.iter().any(|worker| worker.is_running()) {
+        for _ in shared.rt.forever() {
+            if wait.is_over(self.workers.iter().any(|worker| worker.is_running())) {
                 break;
             }
-            if let Some(event) = events.wait_for(rt, Duration::from_millis(TICK_MS)) {
-                self.hear_last(event);
-            }
+            self.hear_within_a_tick(events);
             for _ in 0..self.ended_ticks() {
-                left = left.saturating_sub(1);
+                wait.tick();
                 self.last_ticks();
             }
         }

@@ -117,6 +117,12 @@ impl<Y: Yard> EventSender<Y> {
             thread::sleep(rt, Duration::from_millis(PAUSE_MS));
         }
     }
+
+    /// Tells the coordinator at once. False where memory is wanting, or it has left: then it isn't
+    /// told.
+    pub fn try_tell<R: Wait>(&self, rt: &R, event: MasterEvent<Y>) -> bool {
+        self.sender.send(rt, event).is_ok()
+    }
 }
 
 impl<Y: Yard> EventReceiver<Y> {

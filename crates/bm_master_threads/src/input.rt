@@ -1,5 +1,8 @@
 //! Standard input: builds that are to be cancelled.
 
+ghost use Rattle.std.specs.Prelude.{◌≡◌};
+ghost use Rattle.bm_master_threads.specs.Ahead.{is_ahead};
+
 use crate::events::MasterEvent;
 use crate::shared_state::SharedState;
 use bm_lane::Yard;
@@ -26,6 +29,13 @@ const MOST_AHEAD: u64 = 16;
 
 /// How long the thread waits at once for the coordinator, in milliseconds.
 const AHEAD_MS: u64 = 500;
+
+// Whether so many lines before the coordinator are too many for one more.
+fn is_ahead(lines: u64) -> bool
+    ensures { result ≡ is_ahead lines }
+{
+    lines > MOST_AHEAD
+}
 
 /// How many lines the coordinator was told and has not heard.
 #[derive(Drop)]
@@ -55,7 +65,7 @@ impl LinesAhead {
     fn wait<R: Wait + Clock>(&self, rt: &R) {
         for _ in rt.forever() {
             let count = self.count.load(Ordering::SeqCst);
-            if count <= MOST_AHEAD {
+            if !is_ahead(count) {
                 return;
             }
             let most = Duration::from_millis(AHEAD_MS);

@@ -8,7 +8,8 @@
 //!
 //! A body could still start a thread too few, end one too early, or drop an event. The threads'
 //! work is put together here, and only tested. So is why a master could not begin. Inside the
-//! crate `BuildTask`, `BuildStart`, `CoordinatorFlow`, `next_wait`, `leave` and `end` have clauses.
+//! crate `BuildTask`, `BuildStart`, `CoordinatorFlow`, `TickWait`, `WaitingStream`, `next_wait`,
+//! `is_ahead`, `leave` and `end` have clauses.
 #![tactic(auto)]
 
 mod acceptor;
@@ -35,7 +36,9 @@ mod setup;
 mod shared_state;
 mod sockets;
 mod threads;
+mod tick_wait;
 mod unstarted_build;
+mod waiting_stream;
 mod web;
 mod worker_entry;
 mod worker_process;

@@ -8,6 +8,7 @@ use crate::host::MasterHost;
 use crate::remarks::Remarks;
 use crate::setup::{MasterStreams, prepare};
 use crate::threads::run_threads;
+use crate::waiting_stream::WaitingStream;
 use bm_config::{Config, UnknownKey, WorkerConfig};
 use bm_lane::{Blank, Yard, ends_of_all};
 use bm_lane_actor::WorkerStream;
@@ -46,7 +47,8 @@ fn refuse<F: Write>(
 /// A line `cancel I` of the input cancels build I. On `output` stands `listening ADDR ADDR` first,
 /// for workers and for the web. Once every build is over, `build I RESULT` stands there for each.
 /// At the end it is `lane NAME COMMANDS LINES` for each worker. On `faults` stand remarks for an
-/// operator, first of what the master has, and of the keys that nobody reads.
+/// operator, first of what the master has, and of the keys that nobody reads. A stream that would
+/// block is waited for.
 ///
 /// # Errors
 ///
@@ -66,7 +68,7 @@ where
     F: Write + Drop + Send + 'static,
 {
     let alloc = rt.alloc();
-    let mut faults = faults;
+    let mut faults = WaitingStream::new(*rt, faults);
     let workers = match TcpListener::bind(rt, config.listen) {
         Ok(workers) => workers,
         Err(why) => return refuse(&mut faults, "listen", config.listen, &why),
@@ -82,11 +84,13 @@ where
     let streams = MasterStreams {
         workers,
         web,
-        input,
-        output,
+        input: WaitingStream::new(*rt, input),
+        output: WaitingStream::new(*rt, output),
         remarks,
     };
-    run::<Brand, R, I, O>(rt, alloc, blanks, config, unknown, streams)
+    run::<Brand, R, WaitingStream<R, I>, WaitingStream<R, O>>(
+        rt, alloc, blanks, config, unknown, streams,
+    )
 }
 
 // The ends of these lanes, by who owns them. None where memory is wanting.

@@ -1,9 +1,9 @@
 //! The web, which is served until the coordinator ends it.
 
-use crate::events::MasterEvent;
+use crate::events::{EventSender, MasterEvent};
 use crate::shared_state::SharedState;
 use bm_lane::Yard;
-use bm_web_server::{LogService, WebLimits, serve};
+use bm_web_server::{LogService, PauseSink, WebLimits, serve};
 use std::alloc::{AllocError, AllocGlobal, Global};
 use std::net::{Net, TcpListener};
 use std::random::RandomSource;
@@ -76,6 +76,18 @@ impl WebStop {
     }
 }
 
+/// Where it is told that readers have to wait.
+#[derive(Drop)]
+struct WebPauses<Y: Yard> {
+    events: EventSender<Y>,
+}
+
+impl<Y: Yard> PauseSink for WebPauses<Y> {
+    fn tell_paused<R: Wait>(&self, rt: &R) -> bool {
+        self.events.try_tell(rt, MasterEvent::Paused)
+    }
+}
+
 /// Serves the logs until the coordinator ends it. Where memory or descriptors are wanting, so that
 /// it can't begin or go on, it begins anew after a while: who connects meanwhile waits. That is
 /// told, and changes nothing of how the builds end.
@@ -93,7 +105,10 @@ where
     for _ in rt.forever() {
         let was_served = is_served;
         match shared.web_stop.wait_for(rt, shared.alloc) {
-            Ok(Some(stopped)) => is_served = serve_once(*rt, listener, logs, stopped),
+            Ok(Some(stopped)) => is_served = match shared.events.copy() {
+                Ok(events) => serve_once(*rt, listener, logs, WebPauses { events }, stopped),
+                Err(_) => false,
+            },
             Ok(None) => return,
             Err(_) => is_served = false,
         }
@@ -107,15 +122,17 @@ where
 
 // Serves the logs until they need not be served, or memory is wanting for it. False where that is
 // known, or it could not begin.
-fn serve_once<Y, R>(
+fn serve_once<Y, R, P>(
     rt: R,
     listener: &TcpListener,
     logs: &Arc<LogService<Y>>,
+    pauses: P,
     stopped: oneshot::Receiver<()>,
 ) -> bool
 where
     Y: Yard + Send + Sync,
     R: Wait + Threads + Clock + RandomSource + AllocGlobal + Net + Copy + Send + Sync,
+    P: PauseSink + Send + Sync,
 {
     let (Ok(listener), Ok(logs)) = (listener.try_clone(), Arc::try_clone(logs)) else {
         return false;
@@ -126,5 +143,5 @@ where
         idle: Duration::from_secs(IDLE_SECONDS),
         stalled: Duration::from_secs(STALLED_SECONDS),
     };
-    serve(rt, limits, listener, logs, stopped).is_ok()
+    serve(rt, limits, listener, logs, pauses, stopped).is_ok()
 }

@@ -1,12 +1,14 @@
 //! The program that starts a worker on demand, and its process.
 
 ghost use Rattle.std.specs.Prelude.{◌≡◌};
+ghost use Rattle.std.specs.IoError.{error_kind, raw_os_error};
 ghost use Rattle.bm_master_threads.specs.Programs.{may_pass};
 
 use bm_board::Words;
 use bm_latent::EndAct;
 use bm_operator::ProgramRefusal;
 use std::alloc::Global;
+use std::io;
 use std::io::ErrorKind;
 use std::process::{Child, Command, Processes, Stdio, SystemProcess};
 
@@ -40,11 +42,15 @@ fn refusal_of(kind: ErrorKind) -> ProgramRefusal {
     }
 }
 
-// Whether a later try may succeed.
-fn may_pass(kind: ErrorKind) -> bool
-    ensures { result ≡ may_pass kind }
+// Whether a later try may succeed. A want of descriptors has no kind: 23 and 24 are ENFILE
+// and EMFILE of errno(3).
+fn may_pass(error: &io::Error) -> bool
+    ensures { result ≡ may_pass (raw_os_error error.now) (error_kind error.now) }
 {
-    matches!(kind, ErrorKind::WouldBlock | ErrorKind::OutOfMemory)
+    match error.raw_os_error() {
+        Some(23 | 24) => true,
+        _ => matches!(error.kind(), ErrorKind::WouldBlock | ErrorKind::OutOfMemory),
+    }
 }
 
 /// Why a program isn't started just now. Nothing runs that did not run before.
@@ -109,7 +115,7 @@ impl WorkerProcess {
             }
             Err(error) => Err(StartFailure {
                 why: refusal_of(error.kind()),
-                may_pass: may_pass(error.kind()),
+                may_pass: may_pass(&error),
             }),
         }
     }

@@ -19,13 +19,20 @@ use tokio::time::{Handle, Sleep};
 /// How many milliseconds no connection is taken in after one that could not be.
 const PAUSE_MS: u64 = 20;
 
+/// Who is told that connections have to wait.
+pub trait PauseSink: Drop {
+    /// A connection could not be taken in, for want of descriptors or memory. It is told once,
+    /// until nobody waits any more. False where it could not be told: then it is tried again.
+    fn tell_paused<R: Wait>(&self, rt: &R) -> bool;
+}
+
 type Visitor<R, S> = Visit<WriteDeadline<TcpStream, R>, Pages<R, S>, OwnedSemaphorePermit>;
 
 /// The connections of a listener, of which each holds a place until it ends. Where one can't be
 /// taken in, since descriptors, memory or places are wanting, there is a pause before the next is
-/// tried.
+/// tried. That descriptors or memory are wanting for one that waits is told.
 #[derive(Drop)]
-pub struct Admission<R, S> {
+pub struct Admission<R, S, P> {
     pub rt: R,
     pub alloc: Global,
     pub incoming: Incoming,
@@ -36,9 +43,30 @@ pub struct Admission<R, S> {
     pub stalled: Duration,
     pub pause: Sleep,
     pub is_pausing: bool,
+    pub sink: P,
+    /// Whether somebody waits, and that was told.
+    pub is_told: bool,
 }
 
-impl<R: Wait + Clock + Copy, S: Handler> Admission<R, S> {
+impl<R: Wait + Clock + Copy, S: Handler, P: PauseSink> Admission<R, S, P> {
+    // The next socket of a connection. Where one waits that can't be had, this is told.
+    fn poll_socket(&mut self, cx: &mut Context<'_>) -> Poll<Option<TcpStream>>
+        ensures armed { OnPending result (IsArmed cx.new) }
+        ensures kept { Keeps cx.old cx.new }
+    {
+        match self.incoming.poll_next(cx) {
+            Poll::Ready(Some(Ok(socket))) => Poll::Ready(Some(socket)),
+            Poll::Ready(_) => {
+                self.is_told = self.is_told || self.sink.tell_paused(&self.rt);
+                Poll::Ready(None)
+            }
+            Poll::Pending => {
+                self.is_told = false;
+                Poll::Pending
+            }
+        }
+    }
+
     // The next connection, or none where one could not be taken in.
     fn poll_visit(&mut self, cx: &mut Context<'_>) -> Poll<Option<Visitor<R, S>>>
         ensures armed { OnPending result (IsArmed cx.new) }
@@ -53,7 +81,7 @@ impl<R: Wait + Clock + Copy, S: Handler> Admission<R, S> {
         let Ok(place) = Semaphore::try_acquire_owned(places) else {
             return Poll::Ready(None);
         };
-        let Some(Ok(socket)) = ready!(self.incoming.poll_next(cx)) else {
+        let Some(socket) = ready!(self.poll_socket(cx)) else {
             return Poll::Ready(None);
         };
         // An answer is several writes. Without this the next would wait until the client has
@@ -94,7 +122,7 @@ impl<R: Wait + Clock + Copy, S: Handler> Admission<R, S> {
     }
 }
 
-impl<R: Wait + Clock + Copy, S: Handler> Stream for Admission<R, S> {
+impl<R: Wait + Clock + Copy, S: Handler, P: PauseSink> Stream for Admission<R, S, P> {
     type Item = Visitor<R, S>;
 
     fn poll_next(&mut self, cx: &mut Context<'_>) -> Poll<Option<Visitor<R, S>>> {

@@ -2,7 +2,8 @@
 //! stop.
 //!
 //! [`serve`] takes them in and gives what they ask to a [`Handler`]. The one of a master is
-//! [`LogService`], which answers by the routes of `bm_http` and a viewer of each lane.
+//! [`LogService`], which answers by the routes of `bm_http` and a viewer of each lane. A
+//! [`PauseSink`] is told where connections wait for want of descriptors or memory.
 //!
 //! The crate stands apart from `bm_http`, since what stands over `hyper` takes long to check.
 //!
@@ -26,6 +27,7 @@ mod pages;
 mod serving;
 mod write_deadline;
 
+pub use admission::PauseSink;
 pub use handler::{Handler, Served};
 pub use log_service::LogService;
 pub use serving::{WebLimits, serve};

@@ -1,7 +1,7 @@
 //! Serves until it is told to stop.
 ghost use Rattle.std.specs.Prelude.{◌<◌};
 
-use crate::admission::Admission;
+use crate::admission::{Admission, PauseSink};
 use crate::connections::Connections;
 use crate::handler::Handler;
 use futures::StreamExt;
@@ -40,12 +40,14 @@ pub struct WebLimits {
 
 /// Serves over HTTP/1.1 until `stop` is ready or its sender is gone, and at most a moment longer,
 /// whatever clients do. Then nobody but the caller holds what was served. An error says that
-/// serving could not begin.
-pub fn serve<R, S>(
+/// serving could not begin. `sink` is told where connections wait for want of descriptors or
+/// memory.
+pub fn serve<R, S, P>(
     rt: R,
     limits: WebLimits,
     listener: net::TcpListener,
     service: Arc<S>,
+    sink: P,
     stop: oneshot::Receiver<()>,
 ) -> io::Result<()>
 where
@@ -53,6 +55,7 @@ where
     S: Handler + Send + Sync,
     S::Rest: Send,
     S::Source: Send,
+    P: PauseSink + Send + Sync,
     requires { 0 < limits.workers }
 {
     let alloc = rt.alloc();
@@ -80,6 +83,8 @@ where
         stalled: limits.stalled,
         pause,
         is_pausing: false,
+        sink,
+        is_told: false,
     };
     let connections = Connections::new(admission.take_until(stop), http);
     runtime.run_all(&rt, connections)

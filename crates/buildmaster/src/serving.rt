@@ -15,6 +15,9 @@ use std::thread::Threads;
 use std::time::Clock;
 use std::{fs, io, str};
 
+/// How large a piece of memory is given back before the first thread starts.
+const LARGE_BYTES: usize = 1_048_576;
+
 /// Why there is no configuration. It has no `thiserror`: what is told is a remark, whose text is
 /// proved.
 #[derive(Drop)]
@@ -128,6 +131,16 @@ fn not_begun<F: Write + Drop>(fault: BeginFault, faults: F) -> u8 {
     fault.status()
 }
 
+// Has the allocator keep what is freed. The one of glibc gives the heap's end back to the system
+// once more than 128 KiB lie free there. Then each answer of some thousand lines would take it
+// anew. A larger piece that was freed raises that bound to twice its size (mallopt(3),
+// M_MMAP_THRESHOLD).
+fn keep_freed(alloc: Global) {
+    if let Ok(piece) = vec![in alloc; 0u8; LARGE_BYTES] {
+        drop(piece);
+    }
+}
+
 /// Runs the master of the configuration in a file, over these streams, and answers the exit status.
 /// It is 2 where the configuration is refused. Then `faults` has the first key at fault, and in a
 /// second line where it stands and what was expected there. For a text that is no TOML `syntax` is
@@ -153,6 +166,7 @@ where
     O: Write + Drop + Send,
     F: Write + Drop + Send + 'static,
 {
+    keep_freed(rt.alloc());
     let (config, unknown) = match config_in(rt, path) {
         Ok(found) => found,
         Err(refusal) => return refuse(rt.alloc(), path, refusal, faults),
