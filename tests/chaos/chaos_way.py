@@ -5,6 +5,7 @@ import asyncio
 import contextlib
 import math
 
+from between import kept_port
 from chaos_parts import CHANCE, FIGURES, MOST_SECONDS
 from wire import reset
 
@@ -45,7 +46,8 @@ class Way:
     none. While somebody has its `calm` it goes on to carry, and cuts nothing."""
 
     def __init__(self, bytes_a_second=None):
-        self.master, self.count, self.port = None, 0, 0
+        self.master, self.count, self.keeper = None, 0, kept_port()
+        self.port = self.keeper.getsockname()[1]
         self.bytes_a_second = bytes_a_second
         self.calm = asyncio.Lock()
         self.rides = []
@@ -54,7 +56,6 @@ class Way:
 
     async def open(self):
         self.server = await asyncio.start_server(self.carry, "127.0.0.1", self.port)
-        self.port = self.server.sockets[0].getsockname()[1]
 
     async def be_away(self, seconds):
         """For so long all connections are gone, in the midst of what a worker says, and connects are refused."""

@@ -20,6 +20,14 @@ def read(path):
         return file.read()
 
 
+def linked_or_copied(source, target):
+    """A link costs nothing. Another disk has none, and another user's file may be given none."""
+    try:
+        os.link(source, target)
+    except OSError:
+        shutil.copy2(source, target)
+
+
 class Edit:
     """What an edit says: its files, its old texts with the new ones, and what else it tells."""
 

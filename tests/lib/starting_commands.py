@@ -57,6 +57,14 @@ class Room:
         grown = [kind for kind in kinds if self.size(kind) != before[kind]]
         assert not grown, f"what {grown} started writes on"
 
+    def becomes_still(self, kind):
+        """Waits until the file of a kind doesn't grow any more."""
+        end, before = time.monotonic() + MOST_SECONDS, -1
+        while self.size(kind) != before:
+            assert time.monotonic() < end, f"what {kind} started writes on"
+            before = self.size(kind)
+            time.sleep(STILL_SECONDS)
+
 
 def until(holds, why):
     end = time.monotonic() + MOST_SECONDS

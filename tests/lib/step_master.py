@@ -8,6 +8,7 @@ import json
 import os
 import queue
 import re
+import signal
 import subprocess
 import sys
 import tempfile
@@ -16,6 +17,7 @@ import time
 from concurrent.futures import ThreadPoolExecutor
 
 import wire
+from processes import all_processes, told_of
 
 TOP = os.path.abspath(f"{__file__}/../../..")
 PROGRAMS = os.environ.get("PROGRAMS", os.path.join(TOP, "dist"))
@@ -102,6 +104,16 @@ class Master:
             with contextlib.suppress(OSError):
                 each.kill()
             each.wait()
+        self.ends_workers()
+
+    def ends_workers(self):
+        """Ends the workers that programs have started. They would try for a minute, and log in at whatever
+        master is given this port next."""
+        for process in all_processes():
+            words = told_of(process, "cmdline").split(b"\0")
+            if words[:1] == [WORKER.encode()] and self.address.encode() in words:
+                with contextlib.suppress(OSError):
+                    os.kill(process, signal.SIGKILL)
 
 
 def next_line(lines, seconds=MOST_SECONDS):
