@@ -7,7 +7,7 @@ import re
 import signal
 import time
 
-from chaos_parts import CHANCE, FIGURES, IS_LONG, LINES, fault, program
+from chaos_parts import APART, CHANCE, FIGURES, IS_LONG, LINES, Lags, fault, program
 from chaos_steps import Silent, Step, limited, printing
 from chaos_way import Way
 from processes import environment
@@ -50,7 +50,7 @@ class Worker:
     async def start(self, errors):
         null = asyncio.subprocess.DEVNULL
         where = {"stdin": null, "stdout": errors, "stderr": errors, "env": environment()}
-        self.process = await asyncio.create_subprocess_exec(*self.words(), **where)
+        self.process = await asyncio.create_subprocess_exec(*self.words(), **where, **APART)
 
     async def live(self, errors):
         """Runs the worker's process, again and again. It prints nothing, and ends when it is killed, or gives up."""
@@ -106,8 +106,8 @@ class Builds:
         # When each cancel was told, and what had come between till then. The count of blocks is odd
         # while nobody reads the remarks, and even where they are read as they come.
         self.cancels, self.blocks = {}, 0
-        # When the master's process was stopped and when it went on, and when its door was full.
-        self.stops, self.doors, self.refusals = [], [], []
+        # When the master's process was stopped and when it went on, when its door was full, and when this script was late.
+        self.stops, self.doors, self.refusals, self.lags = [], [], [], Lags()
         # Whoever has this may rely on what was told: nobody keeps the master's remarks back.
         self.heard = asyncio.Lock()
 

@@ -18,17 +18,24 @@ def overlap(stretches, begun, ended):
 
 class Clock:
     """Which seconds may pass for those that are promised: as tests/lib/times.py has it, beside the time
-    for which the master itself was stopped."""
+    for which the master itself was stopped, and that for which its remarks were not heard."""
 
     def __init__(self, builds, watched):
-        self.stops, self.stretch = builds.stops, watched.stretch
+        self.stops, self.lags, self.stretch = builds.stops, builds.lags, watched.stretch
         self.late = TIMES * watched.latest
 
     def is_early(self, promised, begun, ended):
-        return ended - begun < promised - EARLY_SECONDS - self.late - overlap(self.stops, begun - 1, ended)
+        late = self.late + self.lags.within(begun, ended)
+        return ended - begun < promised - EARLY_SECONDS - late - overlap(self.stops, begun - 1, ended)
 
     def is_late(self, promised, begun, ended):
-        return ended - begun > promised * (1 + SHARE) * self.stretch + self.late + overlap(self.stops, begun, ended + 1)
+        late = self.late + self.lags.within(begun, ended)
+        return ended - begun > promised * (1 + SHARE) * self.stretch + late + overlap(self.stops, begun, ended + 1)
+
+    def may_be_silent(self, promised, told):
+        """Whether the lines of a worker that printed may not have come for so long before this was told."""
+        begun = told - promised - self.late
+        return overlap(PAUSED.stops, begun, told) > 0 or self.lags.within(begun, told) > promised / 2
 
 
 def compare_limits(builds, watched):
@@ -63,7 +70,7 @@ def compare_times(step, clock):
     promised = step.limits.get(limit, 0) * SECONDS_OF_A_TICK
     if clock.is_early(promised, step.began, told):
         fault(f"log {step.log}, {step.name}, was stopped by {limit} after {told - step.began:.2f} s")
-    if limit == SILENCE and not step.is_endless and not overlap(PAUSED.stops, told - promised - clock.late, told):
+    if limit == SILENCE and not step.is_endless and not clock.may_be_silent(promised, told):
         fault(f"log {step.log}, {step.name}, was stopped for silence, and its worker was not paused")
     if limit != SILENCE and clock.is_late(promised, step.began, told):
         fault(f"log {step.log}, {step.name}, was stopped only after {told - step.began:.1f} s")

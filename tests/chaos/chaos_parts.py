@@ -1,11 +1,13 @@
 """What the parts of `tests/chaos/chaos` share: its words, its chance, its figures and faults,
 and what readers have seen."""
 
+import asyncio
 import collections
 import os
 import random
 import sys
 import threading
+import time
 
 from seeds import count_of, seeds_of
 
@@ -20,6 +22,12 @@ CHANCE = random.Random(SEED)
 
 FAULTS = []
 FIGURES = collections.Counter()
+LATEST = "milliseconds that this script was late"
+
+
+# How a program is started. When a shell ends the system continues all that is stopped in its group:
+# so what is stopped here stands in none of a shell's.
+APART = {"start_new_session": True}
 
 
 def program(name):
@@ -31,6 +39,36 @@ def fault(text):
     if len(FAULTS) < 20:
         print(f"FAULT: {text}", flush=True)
     FAULTS.append(text)
+
+
+class Lags:
+    """When this script itself was late, for want of a processor. Meanwhile it heard no remark, and carried nothing between
+    workers and their master."""
+
+    # It looks so often, and what is shorter than that is no lag.
+    SECONDS_OF_A_LOOK, LEAST_SECONDS = 0.01, 0.1
+
+    def __init__(self):
+        self.stretches = []
+
+    async def watch(self):
+        while True:
+            begun = time.monotonic()
+            await asyncio.sleep(self.SECONDS_OF_A_LOOK)
+            self.note(begun, time.monotonic())
+
+    def note(self, begun, ended):
+        if ended - begun < self.LEAST_SECONDS:
+            return
+        if self.stretches and begun - self.stretches[-1][1] < self.LEAST_SECONDS:
+            begun, _ = self.stretches.pop()
+        self.stretches.append((begun, ended))
+        FIGURES[LATEST] = max(FIGURES[LATEST], int(1_000 * (ended - begun)))
+
+    def within(self, begun, ended):
+        """For how many seconds it was late in that time. What is heard at its beginning may have been said before, in a lag
+        that ends there: so each that touches that time counts as a whole."""
+        return sum(end - start for start, end in self.stretches if start <= ended and begun <= end + self.LEAST_SECONDS)
 
 
 class Shelf:

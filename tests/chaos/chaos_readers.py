@@ -81,11 +81,14 @@ class Reader(threading.Thread):
             logs = self.builds.logs()
             going = [log for log in logs if not self.shelf.count(log)[1]]
             for log in going + self.chance.sample(logs, min(3, len(logs))):
+                begun = time.monotonic()
                 try:
                     self.look(log)
                 except Exception as error:
                     fault(f"reader: {error!r}")
                     time.sleep(1)
+                # It rests as long as it looked: on a busy machine nothing else of this script would go on.
+                time.sleep(min(time.monotonic() - begun, 1))
             time.sleep(0.02)
         if self.link is not None:
             self.link.close()

@@ -112,20 +112,24 @@ class Strangers:
         worker = self.chosen(LINKED)
         async with worker.way.calm, self.builds.heard:
             await asyncio.sleep(0.3)
-            is_up, begun = worker.is_up and worker.way.ride() is not None, time.monotonic()
+            ride, begun = worker.way.ride(), time.monotonic()
+            # One that has only connected hasn't its lane yet, and a cut may not have been told.
+            is_up = worker.is_up and ride is not None and ride.is_logged_in
             if worker.is_faithful and not is_up:
                 return
             answer, seconds = await self.log_in(worker.name, worker.password)
-            stopped = worker.stopped(begun, time.monotonic())
+            still = worker.stopped(begun, time.monotonic()) + self.builds.lags.within(begun, time.monotonic())
+            # A worker that was killed may have ended its connection before.
+            lived = is_up and ride.ended_first is not ride.near
             await asyncio.sleep(0.3)
         FIGURES["second logins"] += 1
         if seconds > SECONDS_TO_ANSWER:
             fault(f"a second login of {worker.name} was answered {answer} after {seconds:.1f} s")
         if answer == "new":
             worker.taken_over += 2
-            FIGURES["stopped workers that were taken over"] += is_up
-            if is_up and stopped < LEAST_SECONDS_OF_SILENCE:
-                fault(f"a second login took {worker.name} over within {seconds:.1f} s, of which it was stopped for {stopped:.1f}")
+            FIGURES["stopped workers that were taken over"] += lived
+            if lived and still < LEAST_SECONDS_OF_SILENCE:
+                fault(f"a second login took {worker.name} over within {seconds:.1f} s, of which it stood still for {still:.1f}")
         elif answer not in ("", "already up", "busy"):
             fault(f"a second login was answered {answer}")
 

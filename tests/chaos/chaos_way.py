@@ -11,6 +11,8 @@ from wire import reset
 
 # What a way does to a connect that it turns away.
 CLOSED, RESET, UNANSWERED = "closed", "reset", "left without an answer"
+# How a master answers a login that has taken its lane up, in MessagePack.
+TAKEN_UP = b"\xa3new", b"\xa7resumed"
 
 
 class Ride:
@@ -31,9 +33,24 @@ class Ride:
         self.is_halved = False
         # Once it is dark nothing is carried any more, and both ends stay open until it is over.
         self.is_dark, self.over, self.is_left_by_master = False, asyncio.Event(), asyncio.Event()
+        # Whether its worker has logged in, as the master's first bytes say, and which of its ends has ended first. The master
+        # hears of the worker's end from here alone, so that is known here before anything follows from it.
+        self.said, self.is_logged_in, self.ended_first = b"", False, None
 
     def counts(self, writer):
         return not self.is_long or writer is self.near
+
+    async def taken(self, reader, writer):
+        """The next bytes for one end, which the other one said; none where that has ended."""
+        data = b""
+        with contextlib.suppress(OSError):
+            data = await reader.read(self.piece)
+        if not data:
+            self.ended_first = self.ended_first or (self.near if writer is self.far else self.far)
+        elif writer is self.near and not self.is_logged_in:
+            self.said += data
+            self.is_logged_in = any(answer in self.said for answer in TAKEN_UP)
+        return data
 
     def reset(self):
         for end in self.ends:
@@ -101,7 +118,7 @@ class Way:
 
     def ride(self):
         """The connection that was made last, if it still carries."""
-        alive = [ride for ride in self.rides if not ride.is_cut and not ride.is_dark and not ride.is_left_by_master.is_set()]
+        alive = [ride for ride in self.rides if not ride.is_cut and not ride.is_dark and ride.ended_first is None]
         return alive[-1] if alive else None
 
     async def carry(self, reader, writer):
@@ -129,7 +146,7 @@ class Way:
 
     async def pass_on(self, ride, reader, writer):
         with contextlib.suppress(OSError):
-            while not ride.is_dark and (data := await reader.read(ride.piece)):
+            while not ride.is_dark and (data := await ride.taken(reader, writer)):
                 if ride.is_dark:
                     break
                 if ride.is_halved and writer is ride.far and len(data) > 200:
@@ -156,8 +173,8 @@ class Way:
     async def carry_on(self, writer, data):
         writer.write(data)
         await writer.drain()
-        if self.bytes_a_second:
-            await asyncio.sleep(len(data) / self.bytes_a_second)
+        # While there are bytes and room neither the next read nor the next write waits, and nothing else would go on.
+        await asyncio.sleep(len(data) / self.bytes_a_second if self.bytes_a_second else 0)
 
     @staticmethod
     async def be_dark(ride, reader, writer):

@@ -1,5 +1,5 @@
-"""A master of one worker for `tests/gate/left_processes` and `tests/gate/held_pipes`: it takes
-logins and answers what it is told."""
+"""A master of one worker for `tests/gate/left_processes`, `tests/gate/held_pipes` and
+`tests/gate/hindered_sweeps`: it takes logins and answers what it is told."""
 
 import asyncio
 
@@ -46,11 +46,11 @@ class Listener:
         await socket.send(wire.packed({"seq_number": number, "op": "response", "result": None}))
 
 
-async def worker_under_python(listener=None):
+async def worker_under_python(listener=None, environment=()):
     """The socket of a worker that has logged in here, the server, the worker and who listens."""
     listener = listener or Listener()
     server, port = await wire.served(listener.serve)
-    worker = await asyncio.create_subprocess_exec(WORKER, f"127.0.0.1:{port}", "w0", "p", env=processes.environment())
+    worker = await asyncio.create_subprocess_exec(WORKER, f"127.0.0.1:{port}", "w0", "p", env={**processes.environment(), **dict(environment)})
     await asyncio.wait_for(listener.known.wait(), MOST_SECONDS)
     return listener.socket, server, worker, listener
 

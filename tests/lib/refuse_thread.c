@@ -3,7 +3,8 @@
 // thread started as its first, second and so on. Where REFUSE_ALL is set each later one is refused as
 // well. Where REFUSE_EVERY is set, and not 0, all threads' starts are counted, and behind the first
 // REFUSE_THREAD each one whose number REFUSE_EVERY divides is refused. The first REFUSE_SPAWNS starts
-// of processes are refused. What was refused is told by the file REFUSE_TOLD, which it makes.
+// of processes by a path are refused, as of a worker's sweeps, and as many of those by a name. What
+// was refused is told by the file REFUSE_TOLD, which it makes.
 #define _GNU_SOURCE
 #include <dlfcn.h>
 #include <errno.h>
@@ -14,7 +15,7 @@
 #include <unistd.h>
 #define MOST 1000
 static struct start { void *(*work)(void *); void *with; unsigned long place; } starts[MOST];
-static unsigned long asked, refused, of, begun, every, all, spawns, spawned;
+static unsigned long asked, refused, of, begun, every, all, spawns, spawned[2];
 static int and_all;
 // Which of the main thread's this one is: 0 for all that other threads started.
 static __thread unsigned long place;
@@ -61,6 +62,6 @@ int posix_spawn(pid_t *process, const char *path, const posix_spawn_file_actions
                 char *const words[], char *const environment[]) {
     static __typeof__(posix_spawn) *real;
     if (!real) real = dlsym(RTLD_NEXT, "posix_spawn");
-    if (__atomic_add_fetch(&spawned, 1, __ATOMIC_SEQ_CST) <= spawns) return refuse();
+    if (__atomic_add_fetch(&spawned[words[0][0] == '/'], 1, __ATOMIC_SEQ_CST) <= spawns) return refuse();
     return real(process, path, files, how, words, environment);
 }

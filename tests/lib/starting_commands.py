@@ -1,10 +1,15 @@
-"""Commands that start others, for `tests/gate/left_processes`: each of their processes writes to a
-file, and a chain ends where that can't be written to any more."""
+"""Commands that start others, and the programs that run them, for `tests/gate/left_processes` and
+`tests/gate/hindered_sweeps`. Each of their processes writes to a file, and a chain ends where that
+can't be written to any more."""
 
 import os
+import subprocess
+import tempfile
 import time
+from contextlib import contextmanager
 
-from step_master import MOST_SECONDS
+import processes
+from step_master import MOST_SECONDS, WORKER, Master, next_line
 
 WRITES = "while :; do echo x >>{file}; sleep 0.02; done"
 KINDS = {
@@ -71,3 +76,51 @@ def until(holds, why):
     while not holds():
         assert time.monotonic() < end, why
         time.sleep(0.01)
+
+
+def configuration(room, kinds, more=""):
+    """A worker and a build for each kind."""
+    workers = ", ".join(f'{{ name = "{kind}", password = "p" }}' for kind in kinds)
+    text = f"worker = [{workers}]\n"
+    for kind in kinds:
+        text += f'[[build]]\nworker = "{kind}"\n[[build.step]]\nname = "{kind}"\ncommand = ["sh", "{room.script(kind)}"]\n{more}'
+    return text
+
+
+@contextmanager
+def commands(kinds, more="", environment=()):
+    """A master and a worker for each kind, whose commands run."""
+    with tempfile.TemporaryDirectory() as folder:
+        room = Room(folder)
+        with Master(configuration(room, kinds, more)) as master:
+            try:
+                hired = {kind: hires(master, kind, environment) for kind in kinds}
+                room.is_written(kinds)
+                yield room, master, hired
+            finally:
+                ends_all()
+
+
+def hires(master, name, environment=()):
+    worker = subprocess.Popen([WORKER, master.address, name, "p"], env={**processes.environment(), **dict(environment)})
+    master.workers.append(worker)
+    return worker
+
+
+def ends_all():
+    """Ends what this script started and what is left of it."""
+    for pid in processes.marked():
+        try:
+            os.kill(pid, 9)
+        except ProcessLookupError:
+            pass
+
+
+def are_ended(master, kinds, result, header="hinterrupted"):
+    """Each build ends so, and its log's last line says why."""
+    told = {next_line(master.reports) for _ in kinds}
+    assert told == {f"build {number} {result}" for number in range(len(kinds))}, told
+    for number in range(len(kinds)):
+        if header:
+            lines = master.log(number)
+            assert lines[-1] == header and not any("cannot end" in line for line in lines), lines[-3:]

@@ -296,6 +296,16 @@ impl<Y: Yard> BuildQueue<Y> {
         }
     }
 
+    /// The first build that waits for the worker.
+    pub fn first_waiting(&self, worker: usize) -> Option<u64>
+        ensures { result ≡ position (waits_for worker) self.now.board.jobs }
+    {
+        match self.board.first_waiting(worker) {
+            Some(number) => Some(number as u64),
+            None => None,
+        }
+    }
+
     /// The first build that waits for the worker is given up: it ends RETRY. The answer is its
     /// number, None where no build waits for the worker.
     pub fn give_up_one(&mut self, worker: usize) -> Option<u64>

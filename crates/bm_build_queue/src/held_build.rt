@@ -58,6 +58,13 @@ impl<Y: Yard> HeldBuild<Y> {
         }
     }
 
+    /// Its number.
+    pub fn number(&self) -> u64
+        ensures { result ≡ self.now.number }
+    {
+        self.number
+    }
+
     /// How many commands it started.
     pub fn commands(&self) -> usize
         ensures { result ≡ length self.now.commands }

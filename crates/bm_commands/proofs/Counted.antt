@@ -6,7 +6,7 @@ use Rattle.std.proofs.lemmas.Bool.Decides.{nat_tests}
 use Rattle.std.proofs.lemmas.List.Sums.{sum_by-cons, sum_by-remove, sum_by-set, sum_by_push}
 use Rattle.std.proofs.lemmas.Option.{slice_get_within, get_or_from_slice_get}
 use Rattle.bm_outbox.specs.Pipes.{are_held, are_over}
-use Rattle.bm_outbox.specs.Stopping.{stop_end}
+use Rattle.bm_outbox.specs.Stopping.{stop_end, stopped_ms}
 use Rattle.bm_outbox.specs.declared.command_end.CommandEnd.TheVariants as command_end
 use Rattle.bm_outbox.specs.declared.pipes.ExitCode.{ExitCode}
 use Rattle.bm_outbox.specs.declared.stopping.Leftover.{Leftover}
@@ -169,6 +169,7 @@ pub record Weight (lv : CommandPhase → ℕ) : Type 0 where
   pub runs : (b : CommandPhase) → lv b ≤ lv phase.Runs
   pub code : (c : ExitCode) (why : StopCause) (t : ℕ) → lv (phase.Stopping why t) ≤ lv (phase.Over (command_end.Code c))
   pub held : (c : ExitCode) (why : StopCause) (t : ℕ) → lv (phase.Stopping why t) ≤ lv (phase.Over (command_end.Held c))
+  pub goes-on : (why : StopCause) (t u : ℕ) → lv (phase.Stopping why u) ≤ lv (phase.Stopping why t)
   pub stopped : (why v : StopCause) (left : Leftover) (t : ℕ) → lv (phase.Over (command_end.Stopped why left)) ≤ lv (phase.Stopping v t)
   pub gone : (b : CommandPhase) → lv phase.Gone ≤ lv b
   pub lost : (b : CommandPhase) → lv phase.Lost ≤ lv b
@@ -186,13 +187,13 @@ module _ (lv : CommandPhase → ℕ) (h : Weight lv) where
   at-phase r q b e g = subst (λ p. lv b ≤ lv p) (sym e) g
 
   falls-interrupted : (p : CommandPhase) (now : ℕ) (r : CommandRow) → r.phase ≡ p → Falls r (interrupted_in p now r).0
-  falls-interrupted phase.Runs now r e = (refl, at-phase r phase.Runs (phase.Stopping cause.Interrupted now) e (h.runs (phase.Stopping cause.Interrupted now)))
-  falls-interrupted (phase.Over (command_end.Code c)) now r e = (refl, at-phase r (phase.Over (command_end.Code c)) (phase.Stopping cause.Interrupted now) e (h.code c cause.Interrupted now))
-  falls-interrupted (phase.Over (command_end.Held c)) now r e = (refl, at-phase r (phase.Over (command_end.Held c)) (phase.Stopping cause.Interrupted now) e (h.held c cause.Interrupted now))
+  falls-interrupted phase.Runs now r e = (refl, at-phase r phase.Runs (phase.Stopping cause.Interrupted 0) e (h.runs (phase.Stopping cause.Interrupted 0)))
+  falls-interrupted (phase.Over (command_end.Code c)) now r e = (refl, at-phase r (phase.Over (command_end.Code c)) (phase.Stopping cause.Interrupted 0) e (h.code c cause.Interrupted 0))
+  falls-interrupted (phase.Over (command_end.Held c)) now r e = (refl, at-phase r (phase.Over (command_end.Held c)) (phase.Stopping cause.Interrupted 0) e (h.held c cause.Interrupted 0))
   falls-interrupted p now r e = stays r
 
   falls-memory : (p : CommandPhase) (now : ℕ) (r : CommandRow) → r.phase ≡ p → Falls r (without_memory_in p now r).0
-  falls-memory phase.Runs now r e = both (λ (x : CommandRow × Effect). Falls r x.0) (are_over r.pipes) _ _ (stays r) (refl, at-phase r phase.Runs (phase.Stopping cause.NoMemory now) e (h.runs (phase.Stopping cause.NoMemory now)))
+  falls-memory phase.Runs now r e = both (λ (x : CommandRow × Effect). Falls r x.0) (are_over r.pipes) _ _ (stays r) (refl, at-phase r phase.Runs (phase.Stopping cause.NoMemory 0) e (h.runs (phase.Stopping cause.NoMemory 0)))
   falls-memory p now r e = stays r
 
   falls-glanced : (now : ℕ) (code : Option ℤ) (r : CommandRow) → r.phase ≡ phase.Runs → Falls r (glanced now code r)
@@ -202,9 +203,9 @@ module _ (lv : CommandPhase → ℕ) (h : Weight lv) where
   falls-running now child.Runs r e = both (Falls r) (are_over r.pipes) _ _ (refl, omega arith) (refl, omega arith)
   falls-running now (child.Ended code) r e = both (Falls r) (are_over r.pipes) _ _ (refl, at-phase r phase.Runs _ e (h.runs _)) (falls-glanced now code r e)
 
-  falls-stop : (o : Option Leftover) (why : StopCause) (t now : ℕ) (r : CommandRow) → r.phase ≡ phase.Stopping why t → Falls r (stop_looked_to o why now r)
-  falls-stop (Some left) why t now r e = (refl, at-phase r (phase.Stopping why t) _ e (h.stopped why why left t))
-  falls-stop None why t now r e = (refl, omega arith)
+  falls-stop : (o : Option Leftover) (why : StopCause) (t ms now : ℕ) (r : CommandRow) → r.phase ≡ phase.Stopping why t → Falls r (stop_looked_to o why ms now r)
+  falls-stop (Some left) why t ms now r e = (refl, at-phase r (phase.Stopping why t) _ e (h.stopped why why left t))
+  falls-stop None why t ms now r e = (refl, at-phase r (phase.Stopping why t) _ e (h.goes-on why t ms))
 
   falls-owed : (c : ChildState) (s : Sweep) (now : ℕ) (r : CommandRow) → Falls r (owed_looked_to c s now r)
   falls-owed child.Runs s now r = (refl, omega arith)
@@ -213,7 +214,7 @@ module _ (lv : CommandPhase → ℕ) (h : Weight lv) where
 
   falls-looked : (p : CommandPhase) (now : ℕ) (seen : ProcessLook) (r : CommandRow) → r.phase ≡ p → Falls r (looked_in p now seen r)
   falls-looked phase.Runs now seen r e = falls-running now seen.child r e
-  falls-looked (phase.Stopping why t) now seen r e = falls-stop (stop_end (swept seen) (now - t) ((r.texts == 0) && are_over r.pipes)) why t now r e
+  falls-looked (phase.Stopping why t) now seen r e = falls-stop (stop_end (swept seen) (stopped_ms t (now - r.looked_ms)) ((r.texts == 0) && are_over r.pipes)) why t (stopped_ms t (now - r.looked_ms)) now r e
   falls-looked phase.Owed now seen r e = falls-owed seen.child seen.sweep now r
   falls-looked p now seen r e = stays r
 

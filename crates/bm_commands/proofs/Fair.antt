@@ -90,7 +90,7 @@ gone-no-text phase.Lost t h = refl
 gone-no-text phase.Owed t h = refl
 gone-no-text phase.Runs t h = absurd (grind arith)
 gone-no-text (phase.Over end) t h = absurd (grind arith)
-gone-no-text (phase.Stopping why since) t h = absurd (grind arith)
+gone-no-text (phase.Stopping why ms) t h = absurd (grind arith)
 
 ended-no-text : (b c : Bool) (n : ℕ) → (b && (n == 0)) ≡ true → (c && nat_lt 0 n) ≡ false
 ended-no-text true c n h = go (nat_lt 0 n) refl

@@ -48,7 +48,7 @@ too-early n at h = grind (arith, nat_tests, h)
 
 not-due : (n : ℕ) (q : CommandPhase) (r : CommandRow) → IsBefore n (wake_in q r) → (phase_is_watched q && nat_le (min (r.looked_ms + r.pause_ms) (2 ^ 64 - 1)) n) ≡ false
 not-due n phase.Runs r h = too-early n (min (r.looked_ms + r.pause_ms) (2 ^ 64 - 1)) h
-not-due n (phase.Stopping why since) r h = too-early n (min (r.looked_ms + r.pause_ms) (2 ^ 64 - 1)) h
+not-due n (phase.Stopping why ms) r h = too-early n (min (r.looked_ms + r.pause_ms) (2 ^ 64 - 1)) h
 not-due n phase.Owed r h = too-early n (min (r.looked_ms + r.pause_ms) (2 ^ 64 - 1)) h
 not-due n q r h = refl
 

@@ -1,5 +1,7 @@
 -- What follows for a worker's commands, whatever comes.
-use Rattle.std.specs.Prelude.{◌≡◌, ⊤, ◌==◌, ◌≤◌, ◌<◌, max, Option, Some, None, ◌+◌, ℕ, Bool, true, false, ◌&&◌, if◌then◌else◌, List, [], ◌∷◌}
+use Rattle.std.specs.Prelude.{◌≡◌, ⊤, ◌==◌, ◌≤◌, ◌<◌, max, Option, Some, None, ◌+◌, ℕ, Bool, true, false, ◌&&◌, if◌then◌else◌, List, [], ◌∷◌, length}
+use Rattle.bm_outbox.specs.declared.stopping.StopCause.{StopCause}
+use Rattle.bm_outbox.specs.declared.stopping.Sweep.TheVariants as sweep
 use Rattle.bm_outbox.specs.declared.command_end.CommandEnd.{CommandEnd}
 use Rattle.bm_outbox.specs.declared.command_end.CommandEnd.TheVariants as command_end
 use Rattle.bm_commands.specs.declared.values.Input.{Input}
@@ -7,7 +9,10 @@ use Rattle.bm_commands.specs.declared.values.Input.TheVariants as input
 use Rattle.bm_commands.specs.declared.values.Effect.{Effect}
 use Rattle.bm_commands.specs.declared.values.Effect.TheVariants as effect
 use Rattle.bm_commands.specs.declared.values.CommandRow.{CommandRow}
-use Rattle.bm_commands.specs.Rows.{has_text}
+use Rattle.bm_commands.specs.declared.values.ProcessLook.{ProcessLook}
+use Rattle.bm_commands.specs.declared.values.CommandPhase.{CommandPhase}
+use Rattle.bm_commands.specs.declared.values.CommandPhase.TheVariants as phase
+use Rattle.bm_commands.specs.Rows.{has_text, looked, swept}
 use Rattle.bm_commands.specs.Queues.{QueuesView, admitted, fresh_queues, stepped, wake}
 
 -- a command is taken in at a time, or an input comes at one
@@ -112,3 +117,24 @@ abbrev pub SleepsUntilWake : Type 0
 SleepsUntilWake =
     (q : QueuesView) (now : ℕ) → IsBefore (max q.now_ms now) (wake q.rows)
     → ((stepped q now input.Tick).1 ≡ effect.Nothing) × ((stepped q now input.Tick).0.rows ≡ q.rows)
+
+-- a row after these looks, each at its time
+abbrev pub looked_on : List (ℕ × ProcessLook) → CommandRow → CommandRow
+looked_on [] r = r
+looked_on (l ∷ ls) r = looked_on ls (looked l.0 l.1 r)
+
+-- none of these looks showed an end of the sweep
+abbrev pub SweepGoesOn : List (ℕ × ProcessLook) → Type 0
+SweepGoesOn [] = ⊤
+SweepGoesOn (l ∷ ls) = (swept l.1 ≡ sweep.Going) × SweepGoesOn ls
+
+abbrev pub phase_is_stopping : CommandPhase → Bool
+phase_is_stopping (phase.Stopping why ms) = true
+phase_is_stopping p = false
+
+-- Fewer than 250 looks, however late each of them comes, end no command whose sweep goes on. So a
+-- machine that stands still has a worker give up on no sweep.
+abbrev pub StandstillsEndNothing : Type 0
+StandstillsEndNothing =
+    (why : StopCause) (r : CommandRow) (ls : List (ℕ × ProcessLook)) → r.phase ≡ phase.Stopping why 0
+    → SweepGoesOn ls → length ls < 250 → phase_is_stopping (looked_on ls r).phase ≡ true

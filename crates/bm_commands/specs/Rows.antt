@@ -1,7 +1,7 @@
 -- What an input does to the row of one command.
 use Rattle.std.specs.Prelude.{ℕ, ◌+◌, ◌-◌, ◌*◌, ◌^◌, ◌==◌, min, nat_lt, nat_le, Bool, true, false, not, ◌&&◌, if◌then◌else◌, ℤ, Option, Some, None}
 use Rattle.bm_outbox.specs.Pipes.{after_wait, are_held, are_over, exit_code, held_ms, with_end}
-use Rattle.bm_outbox.specs.Stopping.{stop_end}
+use Rattle.bm_outbox.specs.Stopping.{stop_end, stopped_ms}
 use Rattle.bm_outbox.specs.declared.command_end.CommandEnd.{CommandEnd}
 use Rattle.bm_outbox.specs.declared.command_end.CommandEnd.TheVariants as command_end
 use Rattle.bm_outbox.specs.declared.pipe_texts.PipeEnd.{PipeEnd}
@@ -40,7 +40,7 @@ fresh_row process command now = record {
 abbrev pub phase_is_told : CommandPhase → Bool
 phase_is_told phase.Runs = true
 phase_is_told (phase.Over end) = true
-phase_is_told (phase.Stopping why since) = true
+phase_is_told (phase.Stopping why ms) = true
 phase_is_told phase.Lost = false
 phase_is_told phase.Owed = false
 phase_is_told phase.Gone = false
@@ -85,7 +85,7 @@ is_gone r = phase_is_gone r.phase
 -- what is looked at
 abbrev pub phase_is_watched : CommandPhase → Bool
 phase_is_watched phase.Runs = true
-phase_is_watched (phase.Stopping why since) = true
+phase_is_watched (phase.Stopping why ms) = true
 phase_is_watched phase.Owed = true
 phase_is_watched p = false
 
@@ -102,7 +102,7 @@ killed now r = record r { looked_ms = now; pause_ms = 1; phase = phase.Owed }
 -- what its pipes give is told until both have ended, or the command's end is known
 abbrev pub is_heard : CommandPhase → Pipes → Bool
 is_heard phase.Runs p = not (are_over p)
-is_heard (phase.Stopping why since) p = not (are_over p)
+is_heard (phase.Stopping why ms) p = not (are_over p)
 is_heard other p = false
 
 abbrev pub with_text : CommandRow → CommandRow × Effect
@@ -124,7 +124,7 @@ with_pipe_end end r =
 -- its worker ends it from now on
 abbrev pub stop : StopCause → ℕ → CommandRow → CommandRow × Effect
 stop why now r =
-    (record r { looked_ms = now; pause_ms = 0; phase = phase.Stopping why now }, effect.Kill r.process)
+    (record r { looked_ms = now; pause_ms = 0; phase = phase.Stopping why 0 }, effect.Kill r.process)
 
 -- an interrupt ends a command that ends by itself, and no other
 abbrev pub interrupted_in : CommandPhase → ℕ → CommandRow → CommandRow × Effect
@@ -199,14 +199,18 @@ swept seen = swept_with seen.sweep seen.child
 
 -- a command that is being ended is over as `stop_end` says, and what its pipes gave and isn't told
 -- never is
-abbrev pub stop_looked_to : Option Leftover → StopCause → ℕ → CommandRow → CommandRow
-stop_looked_to (Some left) why now r =
+abbrev pub stop_looked_to : Option Leftover → StopCause → ℕ → ℕ → CommandRow → CommandRow
+stop_looked_to (Some left) why ms now r =
     record r { texts = 0; phase = phase.Over (command_end.Stopped why left) }
-stop_looked_to None why now r = paused true now r
+stop_looked_to None why ms now r = record (paused true now r) { phase = phase.Stopping why ms }
+
+-- by how many milliseconds have counted with this look
+abbrev pub stop_looked_at : StopCause → ℕ → ℕ → ProcessLook → CommandRow → CommandRow
+stop_looked_at why ms now seen r =
+    stop_looked_to (stop_end (swept seen) ms ((r.texts == 0) && are_over r.pipes)) why ms now r
 
 abbrev pub stop_looked : StopCause → ℕ → ℕ → ProcessLook → CommandRow → CommandRow
-stop_looked why since now seen r =
-    stop_looked_to (stop_end (swept seen) (now - since) ((r.texts == 0) && are_over r.pipes)) why now r
+stop_looked why before now seen r = stop_looked_at why (stopped_ms before (now - r.looked_ms)) now seen r
 
 -- one of which nobody is told is done with once its process and its sweep have ended
 abbrev pub owed_looked_to : ChildState → Sweep → ℕ → CommandRow → CommandRow
@@ -219,7 +223,7 @@ owed_looked now seen r = owed_looked_to seen.child seen.sweep now r
 
 abbrev pub looked_in : CommandPhase → ℕ → ProcessLook → CommandRow → CommandRow
 looked_in phase.Runs now seen r = running_looked now seen.child r
-looked_in (phase.Stopping why since) now seen r = stop_looked why since now seen r
+looked_in (phase.Stopping why before) now seen r = stop_looked why before now seen r
 looked_in phase.Owed now seen r = owed_looked now seen r
 looked_in p now seen r = r
 

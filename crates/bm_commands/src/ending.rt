@@ -5,7 +5,7 @@ ghost use Rattle.bm_commands.specs.Rows.{after_look, coded, end_effect, glanced,
 
 use crate::row::GLANCE_MS;
 use crate::values::{ChildState, CommandPhase, CommandRow, Effect, ProcessLook};
-use bm_outbox::{CommandEnd, StopCause, Sweep, held_ms, stop_end};
+use bm_outbox::{CommandEnd, StopCause, Sweep, held_ms, stop_end, stopped_ms};
 
 /// The pause before the next look at a process that is to end: 1, 2, .. 64 milliseconds. While a
 /// command is being ended, 4 of them at the most.
@@ -109,19 +109,20 @@ fn swept(seen: ProcessLook) -> Sweep
     }
 }
 
-/// A command that is being ended was looked at. What its pipes still gave isn't told behind its
-/// end.
+/// A command that is being ended was looked at, for which so many milliseconds had counted before.
+/// What its pipes still gave isn't told behind its end.
 fn stop_looked(
     why: StopCause,
-    since: u64,
+    before_ms: u64,
     now: u64,
     seen: ProcessLook,
     row: CommandRow,
 ) -> CommandRow
-    ensures { result ≡ stop_looked why since now seen row }
+    ensures { result ≡ stop_looked why before_ms now seen row }
 {
     let is_silent = row.texts == 0 && row.pipes.are_over();
-    match stop_end(swept(seen), now.saturating_sub(since), is_silent) {
+    let stopped = stopped_ms(before_ms, now.saturating_sub(row.looked_ms));
+    match stop_end(swept(seen), stopped, is_silent) {
         Some(left) => {
             CommandRow {
                 texts: 0,
@@ -129,7 +130,12 @@ fn stop_looked(
                 ..row
             }
         }
-        None => paused(true, now, row),
+        None => {
+            CommandRow {
+                phase: CommandPhase::Stopping(why, stopped),
+                ..paused(true, now, row)
+            }
+        }
     }
 }
 
@@ -154,7 +160,7 @@ pub(crate) fn looked(now: u64, seen: ProcessLook, row: CommandRow) -> CommandRow
 {
     match row.phase {
         CommandPhase::Runs => running_looked(now, seen.child, row),
-        CommandPhase::Stopping(why, since) => stop_looked(why, since, now, seen, row),
+        CommandPhase::Stopping(why, before) => stop_looked(why, before, now, seen, row),
         CommandPhase::Owed => owed_looked(now, seen, row),
         CommandPhase::Over(_) | CommandPhase::Lost | CommandPhase::Gone => row,
     }

@@ -1,6 +1,6 @@
 //! Laws of a worker's commands over whatever comes, as contracts.
 
-ghost use Rattle.bm_commands.specs.Laws.{EndsOnce, InterruptedGiveNoCode, LostAreSilent, SilentBehindEnd, SleepsUntilWake, TurnsAreFair};
+ghost use Rattle.bm_commands.specs.Laws.{EndsOnce, InterruptedGiveNoCode, LostAreSilent, SilentBehindEnd, SleepsUntilWake, StandstillsEndNothing, TurnsAreFair};
 
 /// A command's end is told at most once, and no text of it behind that.
 pub fn ends_are_told_once()
@@ -27,4 +27,9 @@ pub fn turns_are_fair()
 /// A tick before the wake does nothing, so a thread may sleep until then.
 pub fn ticks_wait_for_the_wake()
     ensures { SleepsUntilWake }
+{}
+
+/// Fewer than 250 looks end no command whose sweep goes on, however much time lies between them.
+pub fn standstills_end_nothing()
+    ensures { StandstillsEndNothing }
 {}

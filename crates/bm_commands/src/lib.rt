@@ -18,7 +18,7 @@ mod values;
 
 pub use laws::{
     ends_are_told_once, interrupted_commands_give_no_code, lost_commands_are_silent,
-    ticks_wait_for_the_wake, turns_are_fair,
+    standstills_end_nothing, ticks_wait_for_the_wake, turns_are_fair,
 };
 pub use queues::CommandQueues;
 pub use values::{ChildState, CommandPhase, CommandRow, Effect, Input, ProcessInput, ProcessLook};

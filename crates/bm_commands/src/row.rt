@@ -179,7 +179,7 @@ fn stop(why: StopCause, now: u64, row: CommandRow) -> (CommandRow, Effect)
     let row = CommandRow {
         looked_ms: now,
         pause_ms: 0,
-        phase: CommandPhase::Stopping(why, now),
+        phase: CommandPhase::Stopping(why, 0),
         ..row
     };
     (row, Effect::Kill(row.process))

@@ -80,7 +80,8 @@ pub enum CommandPhase {
     Runs,
     /// How it ended is known, and isn't told yet.
     Over(CommandEnd),
-    /// Its worker ends it, for this reason and since this time.
+    /// Its worker ends it, for this reason. So many milliseconds of that have counted until the
+    /// last look.
     Stopping(StopCause, u64),
     /// It is to be killed, and nobody is told of it.
     Lost,

@@ -1,13 +1,14 @@
 //! The thread of a build.
 ghost use Rattle.std.specs.Prelude.{◌≡◌};
 
-use crate::events::{EventSender, FinishedBuild, MasterEvent, ReportedStep};
+use crate::events::{EventSender, MasterEvent, ReportedStep};
 use crate::shared_state::SharedState;
 use bm_board::{Build, StepPlan};
 use bm_build_queue::Assignment;
 use bm_lane::{Viewer, Yard};
 use bm_lane_actor::{CancelFlag, DrainGate, LaneHandle, LanePort, Watch, WorkerStream, handle_of};
 use bm_lines::Text;
+use bm_master::FinishedBuild;
 use bm_operator::{StartRefusal, StepEvent, StepLimit};
 use bm_runner::{place_of, run_build};
 use bm_session::Results;

@@ -1,29 +1,25 @@
-//! The coordinator: it alone knows all builds and workers, and does what follows from the events.
-ghost use Rattle.std.specs.Prelude.{◌≡◌, IfSome};
+//! The coordinator: it alone drives the machine of the master, and does what that says.
+ghost use Rattle.std.specs.Prelude.{◌≡◌, ◌||◌, IfSome};
 ghost use Rattle.bm_build_queue.specs.BuildQueue.{AreResults};
 ghost use Rattle.std.specs.Thread.{IsSend, IsSync};
 
-use crate::coordinator_flow::{CoordinatorFlow, FlowInput, FlowStep, NextWait, next_wait};
 use crate::events::{EventReceiver, MasterEvent};
-use crate::held_builds::HeldBuilds;
 use crate::host::MasterHost;
 use crate::remarks::Remarks;
 use crate::shared_state::SharedState;
-use crate::unstarted_build::UnstartedBuild;
-use crate::worker_entry::WorkerEntry;
-use bm_build_queue::{BuildQueue, ViewerPool};
+use crate::teller::Teller;
+use crate::worker_process::WorkerProcess;
+use bm_build_queue::ViewerPool;
 use bm_lane::Yard;
-use bm_latent::{TICK_MS, TickCounter, millis};
-use bm_operator::{RefusalLimit, Remark};
+use bm_latent::{TICK_MS, TickCounter};
+use bm_master::{Master, MasterEffect, MasterInput, NextWait, next_wait};
+use bm_operator::{Remark, StepEvent};
 use bm_session::Results;
 use std::io::Write;
 use std::sync::Wait;
 use std::thread;
 use std::thread::Scope;
-use std::time::{Clock, Duration, Instant};
-
-/// How many refused connections are told one by one in a second.
-const MOST_REFUSALS: u32 = 10;
+use std::time::{Clock, Duration};
 
 /// How long refused connections that are not told one by one are counted, before they are told.
 const COUNTED_SECONDS: u64 = 1;
@@ -32,9 +28,9 @@ const COUNTED_SECONDS: u64 = 1;
 #[derive(Drop)]
 pub struct CoordinatorOwned<Y: Yard, O> {
     pub events: EventReceiver<Y>,
-    pub queue: BuildQueue<Y>,
-    /// The workers, in their order.
-    pub workers: Vec<WorkerEntry>,
+    pub master: Master<Y>,
+    /// The programs of the workers, in their order.
+    pub programs: Vec<Option<WorkerProcess>>,
     /// Standard output.
     pub output: O,
     /// Where remarks are told, where there is a thread that writes them.
@@ -53,29 +49,17 @@ pub struct CoordinatorLeft<Y: Yard, O> {
     pub has_failed: bool,
 }
 
-/// The coordinator. It owns the build queue, what is known of the workers, and the processes of
-/// those that are started on demand. It alone writes output and remarks while builds may run.
+/// The coordinator. It owns the master's machine, and the processes of workers that are started on
+/// demand. It alone writes output and remarks while builds may run.
 #[derive(Drop)]
 pub struct Coordinator<'s, Y: Yard, R: Wait + Clock + Drop, O> {
     pub shared: &'s SharedState<Y, R>,
-    pub queue: BuildQueue<Y>,
-    /// The build that has its slot, and whose thread could not be started yet.
-    pub unstarted: Option<UnstartedBuild<Y>>,
-    /// The builds that hold their slots although they have their results.
-    pub held: HeldBuilds<Y>,
-    /// The workers, in their order.
-    pub workers: Vec<WorkerEntry>,
+    pub master: Master<Y>,
+    pub programs: Vec<Option<WorkerProcess>>,
     pub output: O,
-    /// Where remarks are told, where there is a thread that writes them.
-    pub remarks: Option<Remarks>,
-    /// Which refused connections are told one by one.
-    pub refusals: RefusalLimit,
-    /// When it began. None where the clock failed.
-    pub began: Option<Instant>,
-    /// The ticks since then.
+    pub teller: Teller<'s, Y, R>,
+    /// The ticks since it began.
     pub ticks: TickCounter,
-    /// What is to be done next.
-    pub flow: CoordinatorFlow,
     pub has_failed: bool,
 }
 
@@ -85,138 +69,121 @@ where
     R: MasterHost + 's,
     O: Write + Drop,
 {
-    /// How long it is there. None where the clock fails.
-    pub fn age(&self) -> Option<Duration> {
-        match self.began {
-            Some(began) => began.elapsed(&self.shared.rt).ok(),
-            None => None,
-        }
-    }
-
     /// How many ticks have ended since the last call.
     pub fn ended_ticks(&mut self) -> u64 {
-        let now = match self.age() {
-            Some(age) => Some(millis(age)),
-            None => None,
-        };
-        self.ticks.told(now)
+        self.ticks.told(self.teller.now_ms())
     }
 
-    // Whether the start of a build is to be tried again.
-    fn is_short(&self) -> bool {
-        self.queue.is_short() || self.unstarted.is_some()
-    }
-
-    // Whether something waits for ticks, so that the coordinator wakes at each.
-    fn is_timed(&self) -> bool {
-        self.is_short()
-            || !self.held.is_empty()
-            || self.workers.iter().any(|worker| worker.is_timed())
-    }
-
-    // Does what follows from an event. The queue is looked at behind those of lanes and builds, but
-    // not behind those that are only told.
+    // Hands an event to the machine, or tells it.
     fn hear(&mut self, event: MasterEvent<Y>) {
         match event {
-            MasterEvent::Step(step) => return self.hear_step(&step),
-            MasterEvent::Refused(refused) => return self.hear_refused(refused),
-            MasterEvent::Cancelling(build) => {
-                return self.remark(&Remark::BuildCancelled { build });
-            }
-            MasterEvent::Paused => return self.remark(&Remark::AcceptingPaused),
-            MasterEvent::Misread => return self.remark(&Remark::InputUnknown),
-            MasterEvent::Lane(worker, event) => self.hear_lane(worker, event),
-            MasterEvent::Ended(build) => self.hear_build(build),
-            MasterEvent::Cancel(number) => {
-                self.shared.lines.heard();
-                if !self.cancel(number) {
-                    return;
+            MasterEvent::Step(step) => {
+                self.teller.tell_step(&step);
+                if let StepEvent::Started(command) = step.event {
+                    let build = step.build;
+                    self.master.step(MasterInput::Commanded { build, command });
                 }
             }
-            MasterEvent::InputEnded => return self.flow.hears(FlowInput::InputEnded),
+            MasterEvent::Refused(refused) => self.teller.hear_refused(refused),
+            MasterEvent::Cancelling(build) => {
+                self.teller.remark(&Remark::BuildCancelled { build });
+            }
+            MasterEvent::Paused => self.teller.remark(&Remark::AcceptingPaused),
+            MasterEvent::Misread => self.teller.remark(&Remark::InputUnknown),
+            MasterEvent::Lane(worker, event) => self.hear_lane(worker, event),
+            MasterEvent::Ended(finished) => self.master.step(MasterInput::BuildEnded(finished)),
+            MasterEvent::Cancel(number) => {
+                self.shared.lines.heard();
+                self.master.step(MasterInput::Cancel(number));
+            }
+            MasterEvent::InputEnded => self.master.step(MasterInput::InputEnded),
         }
-        self.flow.hears(FlowInput::Changed);
     }
 
     // The next event, if it comes in time.
-    fn next_event(&self, events: &EventReceiver<Y>) -> Option<MasterEvent<Y>> {
+    fn next_event(
+        &self,
+        events: &EventReceiver<Y>,
+        is_timed: bool,
+        is_counted: bool,
+    ) -> Option<MasterEvent<Y>> {
         let rt = &self.shared.rt;
-        let is_counted = self.refusals.is_left_out() || self.is_waited_for();
-        match next_wait(self.is_timed(), is_counted) {
+        match next_wait(is_timed, is_counted || self.teller.is_left_out()) {
             NextWait::Tick => events.wait_for(rt, Duration::from_millis(TICK_MS)),
             NextWait::Second => events.wait_for(rt, Duration::from_secs(COUNTED_SECONDS)),
             NextWait::Event => events.wait(rt),
         }
     }
 
-    // Starts each build that can be started, and tells of those that wait.
-    fn start<E>(&mut self, scope: &Scope<'s, E>) {
-        self.start_builds(scope);
-        let is_over = self.queue.is_over();
-        self.flow.hears(FlowInput::Started { is_over });
-        self.tell_waits();
-    }
-
-    // Waits for the next event, and does what follows from it and from the ticks that have passed.
-    fn wait(&mut self, events: &EventReceiver<Y>) {
-        if self.is_waited_for() {
-            self.tell_waits();
-        }
-        let is_timed = self.is_timed();
-        let event = self.next_event(events);
+    // Waits for the next event, and hands it in.
+    fn wait(&mut self, events: &EventReceiver<Y>, is_timed: bool, is_counted: bool) {
+        let event = self.next_event(events, is_timed, is_counted);
         let ticks = self.ended_ticks();
-        if is_timed {
-            if self.is_short() {
-                self.flow.hears(FlowInput::Changed);
-            }
-            self.release_free();
-            for _ in 0..ticks {
-                self.tick();
-            }
-        }
+        self.master.step(MasterInput::Woke { ticks });
         if let Some(event) = event {
             self.hear(event);
         }
-        if self.refusals.is_left_out() {
-            self.tell_left_out();
+        self.teller.tell_left_out();
+    }
+
+    // Hands in an event that lies ready, or that there is none.
+    fn listen(&mut self, events: &EventReceiver<Y>) {
+        match events.look(&self.shared.rt) {
+            Some(event) => self.hear(event),
+            None => self.master.step(MasterInput::Quiet),
         }
     }
 
-    // Serves until standard input has ended and every build is over.
-    fn serve<E>(&mut self, scope: &Scope<'s, E>, events: &EventReceiver<Y>) {
-        let shared = self.shared;
-        for _ in shared.rt.forever() {
-            match self.flow.take() {
-                FlowStep::Start => self.start(scope),
-                FlowStep::Report => self.report(),
-                FlowStep::Wait => self.wait(events),
-                FlowStep::Leave => break,
+    // Does what the machine says. False once there is nothing more to do.
+    fn goes_on<E>(&mut self, scope: &Scope<'s, E>, events: &EventReceiver<Y>) -> bool {
+        let now_ms = self.teller.now_ms();
+        match self.master.next_effect(now_ms) {
+            MasterEffect::Nothing => {}
+            MasterEffect::StartBuild(build) => self.start(scope, build),
+            MasterEffect::CancelBuild(build) => self.call(build),
+            MasterEffect::StartProgram(at) => self.start_program(at),
+            MasterEffect::LookAtProgram(at) => self.look_at_program(at),
+            MasterEffect::EndProgram(at, act) => self.end_program(at, act),
+            MasterEffect::ShutDown(at) => self.shut_down(at),
+            MasterEffect::TellEnded(at) => self.tell_ended(at),
+            MasterEffect::Tell(remark) => self.teller.tell(remark),
+            MasterEffect::Report => self.report(),
+            MasterEffect::Listen => self.listen(events),
+            MasterEffect::Wait {
+                is_timed,
+                is_counted,
+            } => self.wait(events, is_timed, is_counted),
+            MasterEffect::Leave => return false,
+        }
+        true
+    }
+
+    /// Does what the machine says until it leaves.
+    pub fn serve<E>(&mut self, scope: &Scope<'s, E>, events: &EventReceiver<Y>) {
+        for _ in self.shared.rt.forever() {
+            if !self.goes_on(scope, events) {
+                return;
             }
         }
-        self.release_all();
-        self.put_off_logins(events);
-        self.end_processes(events);
-        self.tell_all_left_out();
     }
 
     fn leave(self) -> CoordinatorLeft<Y, O>
-        ensures results { IfSome result.results (λ all. AreResults self.entry.queue.board all.items) }
-        ensures failed { result.has_failed ≡ self.entry.has_failed }
+        ensures results { IfSome result.results (λ all. AreResults self.entry.master.builds.queue.board all.items) }
+        ensures failed { result.has_failed ≡ (self.entry.has_failed || self.entry.master.builds.failed) }
     {
         let Coordinator {
             shared,
-            queue,
+            master,
             output,
-            remarks,
+            teller,
             has_failed,
             ..
         } = self;
-        if let Some(remarks) = remarks {
-            remarks.end(&shared.rt);
-        }
-        let results = queue.results(shared.alloc);
+        teller.end();
+        let results = master.results(shared.alloc);
+        let has_failed = has_failed || master.has_failed();
         CoordinatorLeft {
-            pools: queue.into_pools(),
+            pools: master.into_pools(),
             output,
             results,
             has_failed,
@@ -233,8 +200,8 @@ where
 {
     let CoordinatorOwned {
         events,
-        queue,
-        workers,
+        master,
+        programs,
         output,
         remarks,
     } = owned;
@@ -247,19 +214,15 @@ where
         {
             let mut coordinator = Coordinator {
                 shared,
-                queue,
-                unstarted: None,
-                held: HeldBuilds::new(shared.alloc),
-                workers,
+                master,
+                programs,
                 output,
-                remarks,
-                refusals: RefusalLimit::new(shared.alloc, MOST_REFUSALS),
-                began: Instant::now(&shared.rt).ok(),
+                teller: Teller::new(shared, remarks),
                 ticks: TickCounter::new(TICK_MS, 0),
-                flow: CoordinatorFlow::new(),
                 has_failed,
             };
             coordinator.serve(scope, &events);
+            coordinator.end(scope, &events);
             coordinator.leave()
         },
     )

@@ -1,4 +1,4 @@
-//! What the coordinator hears of logins and workers once all builds are over.
+//! What the coordinator does and hears once all builds are over.
 
 use crate::coordinator::Coordinator;
 use crate::events::{EventReceiver, MasterEvent};
@@ -7,12 +7,17 @@ use crate::tick_wait::TickWait;
 use bm_lane::Yard;
 use bm_lane_actor::{LaneRequest, declines};
 use bm_latent::TICK_MS;
+use bm_master::MasterInput;
 use crossbeam_channel::bounded;
 use std::io::Write;
+use std::thread::Scope;
 use std::time::Duration;
 
 /// How many milliseconds the lanes have to tell logins that wait that the master ends.
 const PUT_OFF_MS: u64 = 1_000;
+
+/// How many ticks the processes of workers have to end, once the master ends.
+const LAST_TICKS: u64 = 1_001;
 
 /// For how many ticks workers that were told to shut down may still go, once their programs have
 /// ended.
@@ -27,15 +32,40 @@ where
     R: MasterHost + 's,
     O: Write + Drop,
 {
-    /// Has each login that still waits told `busy`, and tells the operator of those that were
-    /// refused.
-    pub fn put_off_logins(&mut self, events: &EventReceiver<Y>) {
+    /// Has each login that still waits told `busy`, and the processes of workers ended. Tells the
+    /// operator of logins that were refused, and of workers that have gone.
+    pub fn end<E>(&mut self, scope: &Scope<'s, E>, events: &EventReceiver<Y>) {
         self.ask_lanes();
         self.hear_ready(events);
+        self.end_programs(scope, events);
+        self.hear_gone(events);
+        self.teller.tell_all_left_out();
     }
 
-    /// Hears what lies ready, once all builds are over.
-    pub fn hear_ready(&mut self, events: &EventReceiver<Y>) {
+    // Has the processes of workers ended, and ends those that don't in time.
+    fn end_programs<E>(&mut self, scope: &Scope<'s, E>, events: &EventReceiver<Y>) {
+        self.master.step(MasterInput::Over);
+        self.serve(scope, events);
+        let shared = self.shared;
+        let mut wait = TickWait::new(LAST_TICKS);
+        self.ended_ticks();
+        for _ in shared.rt.forever() {
+            if wait.is_over(self.master.has_program()) {
+                break;
+            }
+            self.hear_within_a_tick(events);
+            let ticks = self.ended_ticks();
+            for _ in 0..ticks {
+                wait.tick();
+            }
+            self.master.step(MasterInput::Woke { ticks });
+            self.serve(scope, events);
+        }
+        self.kill_programs();
+    }
+
+    // Hears what lies ready.
+    fn hear_ready(&mut self, events: &EventReceiver<Y>) {
         for _ in 0..MOST_LAST_EVENTS {
             match events.look(&self.shared.rt) {
                 Some(event) => self.hear_last(event),
@@ -44,14 +74,14 @@ where
         }
     }
 
-    /// Hears for a moment of workers that were told to shut down and haven't gone.
-    pub fn hear_gone(&mut self, events: &EventReceiver<Y>) {
+    // Hears for a moment of workers that were told to shut down and haven't gone.
+    fn hear_gone(&mut self, events: &EventReceiver<Y>) {
         self.hear_ready(events);
         let shared = self.shared;
         let mut wait = TickWait::new(GONE_TICKS);
         self.ended_ticks();
         for _ in shared.rt.forever() {
-            if wait.is_over(self.workers.iter().any(|worker| worker.is_dismissed())) {
+            if wait.is_over(self.master.awaits_workers()) {
                 break;
             }
             self.hear_within_a_tick(events);
@@ -61,8 +91,8 @@ where
         }
     }
 
-    /// Hears the next event, if it comes within a tick.
-    pub fn hear_within_a_tick(&mut self, events: &EventReceiver<Y>) {
+    // Hears the next event, if it comes within a tick.
+    fn hear_within_a_tick(&mut self, events: &EventReceiver<Y>) {
         let tick = Duration::from_millis(TICK_MS);
         if let Some(event) = events.wait_for(&self.shared.rt, tick) {
             self.hear_last(event);
@@ -92,14 +122,13 @@ where
         }
     }
 
-    /// Hears of a login that was refused, and of a worker that was told to shut down. All else is
-    /// over.
-    pub fn hear_last(&mut self, event: MasterEvent<Y>) {
+    // Hears of a login that was refused, and of a worker that was told to shut down. All else is
+    // over.
+    fn hear_last(&mut self, event: MasterEvent<Y>) {
         match event {
-            MasterEvent::Refused(refused) => self.hear_refused(refused),
+            MasterEvent::Refused(refused) => self.teller.hear_refused(refused),
             MasterEvent::Lane(worker, event) => {
-                let is_dismissed = self.is_dismissed(worker);
-                if is_dismissed || declines(event) {
+                if self.master.is_dismissed(worker) || declines(event) {
                     self.hear_lane(worker, event);
                 }
             }

@@ -1,10 +1,10 @@
 //! What the coordinator is told.
 
-use bm_lane::{Viewer, Yard};
+use bm_lane::Yard;
 use bm_lane_actor::LaneEvent;
 use bm_lines::Text;
+use bm_master::FinishedBuild;
 use bm_operator::{LoginRefusal, StepEvent};
-use bm_session::Results;
 use crossbeam_channel::{Receiver, Sender, unbounded};
 use std::alloc::{AllocError, Global};
 use std::net::SocketAddr;
@@ -14,16 +14,6 @@ use std::time::{Clock, Duration};
 
 /// How long a sender waits before it tries again where memory was wanting.
 const PAUSE_MS: u64 = 10;
-
-/// A build that has ended: its number, its result and the viewer, which its thread hands back.
-#[derive(Drop)]
-pub struct FinishedBuild<Y: Yard> {
-    /// The build's number, by its place in the configuration.
-    pub number: u64,
-    /// Its result. None where memory was wanting before its first step.
-    pub result: Option<Results>,
-    pub viewer: Viewer<Y>,
-}
 
 /// A step of a build, and what happened to it.
 #[derive(Drop)]

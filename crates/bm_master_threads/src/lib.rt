@@ -1,46 +1,40 @@
 //! A build master: its threads, from the first to the last. [`serve`] is all of it.
 //!
-//! `setup.rt` makes what all threads share and what each of them owns, `threads.rt` starts each and
-//! joins it, `coordinator.rt` decides, `ending.rt` settles the lanes.
+//! `setup.rt` makes what all threads share and what each of them owns. `threads.rt` starts each and
+//! joins it, `coordinator.rt` drives the machine of `bm_master`, and `ending.rt` settles the lanes.
 //!
 //! Promised: the exit status is that of `bm_operator` for how the builds ended and whether anything
 //! failed. A build runs on its own worker's lane. Everything here is safe, and may wait.
 //!
 //! A body could still start a thread too few, end one too early, or drop an event. The threads'
 //! work is put together here, and only tested. So is why a master could not begin. Inside the
-//! crate `BuildTask`, `BuildStart`, `CoordinatorFlow`, `TickWait`, `WaitingStream`, `next_wait`,
-//! `is_ahead`, `leave` and `end` have clauses.
+//! crate `BuildTask`, `TickWait`, `WaitingStream`, `is_ahead`, `leave` and `end` have clauses.
 #![tactic(auto)]
 
 mod acceptor;
 mod begin_fault;
-mod build_start;
 mod build_thread;
 mod coordinator;
 mod coordinator_builds;
 mod coordinator_end;
-mod coordinator_flow;
-mod coordinator_remarks;
-mod coordinator_waits;
 mod coordinator_workers;
 mod ending;
 mod events;
 mod first_remarks;
-mod held_builds;
 mod host;
 mod input;
 mod lane_threads;
+mod programs;
 mod remarks;
 mod serving;
 mod setup;
 mod shared_state;
 mod sockets;
+mod teller;
 mod threads;
 mod tick_wait;
-mod unstarted_build;
 mod waiting_stream;
 mod web;
-mod worker_entry;
 mod worker_process;
 
 pub use begin_fault::BeginFault;

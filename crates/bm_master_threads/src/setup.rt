@@ -2,16 +2,17 @@
 
 use crate::coordinator::CoordinatorOwned;
 use crate::events::{EventReceiver, open_events};
+use crate::programs::{WorkerList, workers_of};
 use crate::remarks::Remarks;
 use crate::shared_state::SharedState;
 use crate::sockets::open_sockets;
 use crate::threads::ThreadOwned;
-use crate::worker_entry::entries_of;
 use bm_build_queue::{BuildQueue, ViewerPool};
 use bm_config::Config;
 use bm_lane::{Viewer, Yard};
 use bm_lane_actor::{Mailboxes, WorkerStream, open_mailboxes};
 use bm_lanes::{DealtLanes, maxima_of, slots_of};
+use bm_master::Master;
 use bm_web_server::LogService;
 use std::alloc::Global;
 use std::net::{Net, SocketAddr, TcpListener};
@@ -68,12 +69,13 @@ fn coordinator_of<Y: Yard, O: Drop>(
     output: O,
     remarks: Option<Remarks>,
 ) -> Option<CoordinatorOwned<Y, O>> {
-    let entries = entries_of(alloc, config, at).ok();
-    let (queue, workers) = queue_of(alloc, config, pools).zip(entries)?;
+    let list = workers_of(alloc, config, at).ok();
+    let (queue, list) = queue_of(alloc, config, pools).zip(list)?;
+    let WorkerList { workers, programs } = list;
     Some(CoordinatorOwned {
         events,
-        queue,
-        workers,
+        master: Master::new(alloc, queue, workers),
+        programs,
         output,
         remarks,
     })

@@ -6,6 +6,7 @@ ghost use Rattle.bm_master_threads.specs.Programs.{may_pass};
 
 use bm_board::Words;
 use bm_latent::EndAct;
+use bm_master::StartFailure;
 use bm_operator::ProgramRefusal;
 use std::alloc::Global;
 use std::io;
@@ -51,14 +52,6 @@ fn may_pass(error: &io::Error) -> bool
         Some(23 | 24) => true,
         _ => matches!(error.kind(), ErrorKind::WouldBlock | ErrorKind::OutOfMemory),
     }
-}
-
-/// Why a program isn't started just now. Nothing runs that did not run before.
-#[derive(Clone, Copy, PartialEq, Eq)]
-pub struct StartFailure {
-    pub why: ProgramRefusal,
-    /// Whether it may be started a moment later.
-    pub may_pass: bool,
 }
 
 /// The program that starts a worker, and its process where one was started and hasn't ended. When

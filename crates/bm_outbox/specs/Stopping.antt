@@ -1,5 +1,5 @@
 -- How a command is told of that its worker ends.
-use Rattle.std.specs.Prelude.{◌≡◌, ℕ, ℤ, pos, Bool, not, ◌&&◌, nat_lt, List, [], ◌∷◌, ◌++◌, codes, map, All, Option, Some, None, ⊤, if◌then◌else◌}
+use Rattle.std.specs.Prelude.{◌≡◌, ℕ, ◌+◌, ◌-◌, ◌^◌, min, ℤ, pos, Bool, not, ◌&&◌, nat_lt, List, [], ◌∷◌, ◌++◌, codes, map, All, Option, Some, None, ⊤, if◌then◌else◌}
 use Rattle.std.specs.Ordering.{int_eq}
 use Rattle.bm_lines.specs.declared.letter.Letter.TheVariants.{H}
 use Rattle.bm_outbox.specs.Opening.{Closes, waiting_texts}
@@ -38,6 +38,11 @@ sweep_of (Some code) =
     if int_eq code (pos 4) then sweep.Left else
     sweep.Failed
 sweep_of None = sweep.Failed
+
+-- For how many milliseconds a command has been ended, as they count at a look. At most 20 of those
+-- that have passed since the last one do: a machine that stands still lets no sweep go on either.
+abbrev pub stopped_ms : ℕ → ℕ → ℕ
+stopped_ms before passed = min (before + min 20 passed) (2 ^ 64 - 1)
 
 -- what is said of the processes, once the sweep came back or lasted for five seconds
 abbrev pub end_after : Sweep → ℕ → Option Leftover

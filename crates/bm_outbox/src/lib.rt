@@ -8,7 +8,7 @@
 //! text, in order, with the same lines. An exit code is told only by an [`ExitCode`]. Only
 //! [`Pipes`] give it, once they have noted the ends of both pipes of its command, or gave them up
 //! after a minute. A body could still want memory. A driver could end a pipe that it has not read
-//! to its end, or count a minute wrongly.
+//! to its end, or count a minute or a standstill wrongly.
 #![tactic(auto)]
 
 mod command_end;
@@ -40,5 +40,5 @@ pub use progress::Progress;
 pub use said::{MOST_BYTES, Said};
 pub use session::begin;
 pub use start_fault::StartFault;
-pub use stopping::{Leftover, StopCause, Sweep, stop_end};
+pub use stopping::{Leftover, StopCause, Sweep, stop_end, stopped_ms};
 pub use tries::{ConnectFault, Tries};

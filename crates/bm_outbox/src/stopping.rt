@@ -1,15 +1,20 @@
 //! How a command is told of that its worker ends.
 
 ghost use Rattle.std.specs.Prelude.{◌≡◌, ◌∷◌, [], IfSome, IsNone, option_map};
-ghost use Rattle.bm_outbox.specs.Stopping.{cause_line, leftover_lines, stop_end, sweep_of};
+ghost use Rattle.bm_outbox.specs.Stopping.{cause_line, leftover_lines, stop_end, stopped_ms, sweep_of};
 
-/// After how many milliseconds what its pipes still give isn't told any more. Until then it is: the
-/// prompt that a step waited at may be in it.
+/// After how many milliseconds that count what its pipes still give isn't told any more. Until then
+/// it is: the prompt that a step waited at may be in it.
 const LAST_TEXTS_MS: u64 = 200;
 
-/// After how many milliseconds a sweep that didn't come back isn't awaited any more. Its rounds
-/// bound it: by a shorter time a busy machine would tell of processes that aren't left.
+/// After how many milliseconds that count a sweep that didn't come back isn't awaited any more. Its
+/// rounds bound it: by a shorter time a busy machine would tell of processes that aren't left.
 const SWEEP_LIMIT_MS: u64 = 5_000;
+
+/// How many milliseconds count at most between two looks, which lie 4 apart. A look that comes
+/// later shows a machine that stood still, or that gave the worker no processor. Then it gave none
+/// to the sweep and to the threads of the pipes either.
+const LOOK_LIMIT_MS: u64 = 20;
 
 /// Why a worker ends a command.
 #[derive(Clone, Copy, PartialEq, Eq)]
@@ -89,9 +94,17 @@ impl Leftover {
     }
 }
 
-/// Whether the end of a command is told so many milliseconds after its worker began to end it. The
-/// answer is what is said of its processes then. None where it isn't told yet: it stands behind
-/// what the pipes still give within 200 milliseconds, and behind the sweep.
+/// For how many milliseconds its worker has been ending a command, as they count for [`stop_end`].
+/// So many had counted before, and so many have passed since the last look.
+pub fn stopped_ms(before_ms: u64, passed_ms: u64) -> u64
+    ensures { result ≡ stopped_ms before_ms passed_ms }
+{
+    before_ms.saturating_add(LOOK_LIMIT_MS.min(passed_ms))
+}
+
+/// Whether the end of a command is told that its worker has been ending for so many milliseconds,
+/// as they count. The answer is what is said of its processes then. None where it isn't told yet:
+/// it stands behind what the pipes still give within 200 milliseconds, and behind the sweep.
 pub fn stop_end(sweep: Sweep, stopped_ms: u64, is_silent: bool) -> Option<Leftover>
     ensures { result ≡ stop_end sweep stopped_ms is_silent }
 {

@@ -20,3 +20,4 @@ pub mod HeardBytes
 mod WireExamples
 pub mod SmallNumbers
 mod Lines
+mod Words

@@ -8,3 +8,8 @@ pub mod Laws
 pub mod Wire
 -- what hex digits write
 pub mod Hex
+-- what the words of the command line ask for
+pub mod Capacities
+pub mod Arguments
+-- what each line of a script is
+pub mod Script

@@ -1,8 +1,9 @@
 //! The words of the command line.
 
-ghost use Rattle.std.specs.Prelude.{◌≡◌, ◌≤◌};
+ghost use Rattle.std.specs.Prelude.{◌≡◌, map, option_map, string_bytes};
+ghost use Rattle.bm_replay.specs.Arguments.{asked_by, asked_in};
 
-use bm_decimal::read_number;
+use crate::capacity::Capacity;
 use std::io::Write;
 
 /// The text for words that ask for nothing that the program does.
@@ -10,32 +11,6 @@ const USAGE: &str = "usage: buildmaster replay [CAPACITY] or buildmaster serve F
 
 /// The exit status for words that ask for nothing that the program does.
 const WRONG_WORDS: u8 = 2;
-
-/// How many items a lane's queue holds: 1 to 65,536.
-#[derive(Clone, Copy)]
-pub struct Capacity {
-    pub items: u32,
-    pub ghost some: { 1 ≤ items },
-    pub ghost few: { items ≤ 65536 },
-}
-
-impl Capacity {
-    /// The capacity of a replay whose words name none.
-    const DEFAULT: u32 = 4;
-
-    const MOST: u64 = 65_536;
-
-    /// None where the word is no number from 1 to 65,536.
-    fn read(word: &str) -> Option<Capacity> {
-        let items = read_number(word)?;
-        if items == 0 || items > Capacity::MOST {
-            return None;
-        }
-        Some(Capacity {
-            items: items as u32,
-        })
-    }
-}
 
 /// What the words ask for.
 #[derive(Clone, Copy)]
@@ -48,7 +23,9 @@ pub enum MasterArguments<'a> {
 
 /// Reads the words of the command line, of which the first is the program's name. The answer is
 /// None where they ask for nothing that the program does.
-pub fn read_arguments(words: &[String]) -> Option<MasterArguments<'_>> {
+pub fn read_arguments(words: &[String]) -> Option<MasterArguments<'_>>
+    ensures asked { option_map asked_in result ≡ asked_by (map string_bytes words.now) }
+{
     match words {
         [_, job] if job.as_str() == "replay" => Some(MasterArguments::Replay {
             capacity: Capacity {

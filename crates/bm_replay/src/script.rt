@@ -1,8 +1,10 @@
 //! A replay's script, and its lines.
 
-ghost use Rattle.std.specs.Prelude.{◌≡◌, ◌≢◌, ◌≤◌, ◌++◌, ◌∷◌, IfSome, IfNone, IfOk, OnOk};
+ghost use Rattle.std.specs.Prelude.{◌≡◌, ◌≢◌, ◌≤◌, ◌++◌, ◌∷◌, IfSome, IfNone, IfOk, OnOk, option_map};
 ghost use Rattle.std.specs.Prelude.{EachIndex, slice_index, vec_len};
 ghost use Rattle.std.specs.Io.KnownBytes.{Consumes, IsAtEnd};
+ghost use Rattle.std.specs.Option.{option_copied};
+ghost use Rattle.bm_replay.specs.Script.{asked, line_in, line_of, log_in, look_in, name_behind, request_in, text_in, told, word_of, words_in};
 
 use bm_decimal::read_number;
 use bm_lines::STDIO;
@@ -100,45 +102,72 @@ pub fn cut_line(text: &[u8]) -> (&[u8], Option<&[u8]>)
 }
 
 /// Reads one line, without its line end. Words stand apart by exactly one space.
-pub fn read_line(line: &[u8]) -> ScriptLine<'_> {
+pub fn read_line(line: &[u8]) -> ScriptLine<'_>
+    ensures line { told result ≡ line_of line.now }
+{
     match line {
         [] | [b'#', ..] => ScriptLine::Blank,
         [b'i', b'n', b' ', digits @ ..] => ScriptLine::In(digits),
-        b"drain" => ScriptLine::Drain,
-        _ => match read_request(line) {
+        _ => match text_of(line) {
+            Some(text) => read_text(text),
+            None => ScriptLine::Unknown,
+        },
+    }
+}
+
+/// The bytes as a text. None where they are no UTF-8.
+fn text_of(line: &[u8]) -> Option<&str>
+    ensures { option_copied result ≡ text_in line.now }
+{
+    match std::str::from_utf8(line) {
+        Ok(text) => Some(text),
+        Err(_) => None,
+    }
+}
+
+/// Reads a line that is neither blank nor a message.
+fn read_text(text: &str) -> ScriptLine<'_>
+    ensures { told result ≡ line_in text.now }
+{
+    match text {
+        "drain" => ScriptLine::Drain,
+        _ => match read_request(text) {
             Some(request) => ScriptLine::Asks(request),
             None => ScriptLine::Unknown,
         },
     }
 }
 
-/// Reads a line that is neither a message nor a drain.
-fn read_request(line: &[u8]) -> Option<ReplayRequest<'_>> {
-    match line {
-        b"up" => Some(ReplayRequest::Up),
-        b"cut" => Some(ReplayRequest::Cut),
-        b"down" => Some(ReplayRequest::Down),
-        b"go" => Some(ReplayRequest::Go),
-        _ => read_words(line),
+/// Reads what is asked beside messages and drains. None where the text asks for nothing.
+fn read_request(text: &str) -> Option<ReplayRequest<'_>>
+    ensures { option_map asked result ≡ request_in text.now }
+{
+    match text {
+        "up" => Some(ReplayRequest::Up),
+        "cut" => Some(ReplayRequest::Cut),
+        "down" => Some(ReplayRequest::Down),
+        "go" => Some(ReplayRequest::Go),
+        _ => read_words(text),
     }
 }
 
-/// Reads a line that is UTF-8. None where it asks for nothing.
-fn read_words(line: &[u8]) -> Option<ReplayRequest<'_>> {
-    let (word, rest) = std::str::from_utf8(line).ok()?.split_once(' ')?;
+/// Reads a request that has numbers behind its first word.
+fn read_words(text: &str) -> Option<ReplayRequest<'_>>
+    ensures { option_map asked result ≡ words_in text.now }
+{
+    let (word, rest) = text.split_once(' ')?;
     match word {
         "stop" => Some(ReplayRequest::Stop(read_number(rest)?)),
         "look" => read_look(rest),
-        "log" => {
-            let (number, name) = named(rest);
-            let command = read_number(number)?;
-            Some(ReplayRequest::Log { command, name })
-        }
+        "log" => read_log(rest),
         _ => None,
     }
 }
 
-fn read_look(words: &str) -> Option<ReplayRequest<'_>> {
+/// Reads what stands behind `look`.
+fn read_look(words: &str) -> Option<ReplayRequest<'_>>
+    ensures { option_map asked result ≡ look_in words.now }
+{
     let (command, words) = words.split_once(' ')?;
     let (offset, words) = words.split_once(' ')?;
     let (limit, name) = named(words);
@@ -150,7 +179,22 @@ fn read_look(words: &str) -> Option<ReplayRequest<'_>> {
     })
 }
 
+/// Reads what stands behind `log`.
+fn read_log(words: &str) -> Option<ReplayRequest<'_>>
+    ensures { option_map asked result ≡ log_in words.now }
+{
+    let (number, name) = named(words);
+    let command = read_number(number)?;
+    Some(ReplayRequest::Log { command, name })
+}
+
 /// The first word, and the name of a log behind it.
-fn named(words: &str) -> (&str, &str) {
-    words.split_once(' ').unwrap_or((words, STDIO))
+fn named(words: &str) -> (&str, &str)
+    ensures word { result.0.now ≡ word_of words.now }
+    ensures name { result.1.now ≡ name_behind words.now }
+{
+    match words.split_once(' ') {
+        Some(parts) => parts,
+        None => (words, STDIO),
+    }
 }

@@ -1,11 +1,11 @@
 -- The replies that responses are.
-use Rattle.std.specs.Prelude.{◌≡◌, ◌⊎◌, ℕ, List, [], Option, Some, None, MatchOption, codes, ⊤}
+use Rattle.std.specs.Prelude.{◌≡◌, ◌⊎◌, ◌==◌, ℕ, List, [], ◌∷◌, Option, Some, None, MatchOption, codes, ⊤, if◌then◌else◌}
 use Rattle.http.specs.declared.response.Response.{Response}
 use Rattle.http.specs.Response.{head_of, body_of}
 use Rattle.http_uri.specs.declared.uri.Uri.{Uri}
 use Rattle.http_uri.specs.Uri.{uri_path_and_query}
 use Rattle.http_uri.specs.Grammar.{or_slash}
-use Rattle.http_header.specs.FieldValue.{FieldValue}
+use Rattle.http_header.specs.FieldValue.{FieldValue, plain_value}
 use Rattle.http_header.specs.HeaderMap.{Entries, get}
 use Rattle.bm_http.specs.HostFields.{IsHost}
 use Rattle.bm_http.specs.Replies.{Reply, bad_request, unavailable}
@@ -41,6 +41,22 @@ module _ {R S T E : Type 0} (text : T → List ℕ) (gives : Option E → Reply 
       × (((replied text response ≡ reply) × (seen_in response ≡ seen))
       ⊎ (replied text response ≡ unavailable))
 
+-- the fields of a response with this status: JSON under each but 503, and under 405 the one method
+-- that is allowed
+abbrev pub fields_of : ℕ → Entries FieldValue
+fields_of status =
+    if status == 503 then []
+    else if status == 405 then (codes "content-type", plain_value (codes "application/json") ∷ [])
+    ∷ (codes "allow", plain_value (codes "GET") ∷ []) ∷ []
+    else (codes "content-type", plain_value (codes "application/json") ∷ []) ∷ []
+
+module _ {B : Type 0} where
+  abbrev pub HasFields : Response B → Type 0
+  HasFields response = (head_of response).headers ≡ fields_of (head_of response).status
+
+  abbrev pub HasNoField : Response B → Type 0
+  HasNoField response = (head_of response).headers ≡ []
+
 -- the field `Host`, where there is one, is a host and maybe a port
 abbrev pub HasHost : Entries FieldValue → Type 0
 HasHost headers = MatchOption (get headers (codes "host")) ⊤ (λ host. IsHost host.bytes)
@@ -49,8 +65,8 @@ module _ {R S T E : Type 0} (text : T → List ℕ) (gives : Option E → Reply 
   -- what a request with these fields gets
   abbrev pub ChecksHost : Entries FieldValue → Response (PageBody R S T E) → Type 0
   ChecksHost headers response =
-      (HasHost headers × Responds text gives response)
-      ⊎ (¬ (HasHost headers) × (replied text response ≡ bad_request))
+      (HasHost headers × Responds text gives response × HasFields response)
+      ⊎ (¬ (HasHost headers) × (replied text response ≡ bad_request) × HasNoField response)
 
 -- the path and the query of a URI; nothing where it has none
 abbrev pub path_text : Option (List ℕ) → List ℕ

@@ -8,8 +8,11 @@
 //! The crate stands apart from `bm_http`, since what stands over `hyper` takes long to check.
 //!
 //! Promised: a response has the status and the text that the service gives for its request, or it
-//! is 503. A request whose field `Host` is no host gets 400, and no other does without the service.
-//! The pieces of a long answer that is told to its end are its text, joined.
+//! is 503. Before `hyper` adds its own fields it has `content-type` under each status but 503, for
+//! JSON. Under 405 it has `allow` too, and no response has another. A request whose field `Host` is
+//! no host gets 400 without a field, and no other does without the service. The pieces of a long
+//! answer that is told to its end are its text, joined. Where [`LogService::into_viewers`] gives
+//! viewers back, they are one of each lane, in the order of the lanes.
 //!
 //! A body could still close a connection early, serve nobody, or keep no limit: tests show these.
 //! They show that no answer waits for an acknowledgement, and that readers of long logs take turns.

@@ -1,5 +1,7 @@
 //! The routes with the viewers that they look at.
 ghost use Rattle.std.specs.Prelude.{◌≡◌, ◌⊎◌, ◌<◌, IfOk, IfSome, length};
+ghost use Rattle.std.specs.Arc.{arc_value};
+ghost use Rattle.bm_http.specs.Placed.{InOrder};
 ghost use Rattle.bm_http.specs.FirstLooks.{GoesOn, Tells, lane_asked, shown_by};
 ghost use Rattle.bm_http.specs.Replies.{unavailable};
 ghost use Rattle.bm_http.specs.Shown.{asked_by};
@@ -146,10 +148,19 @@ impl<Y: Yard> LogService<Y> {
         self.serve(rt, alloc, request)
     }
 
-    /// The viewers, given back, where nobody else holds the service any more.
-    pub fn into_viewers(service: Arc<LogService<Y>>) -> Option<Vec<Viewer<Y>>> {
+    /// The viewers, given back in the order of the lanes, where nobody else holds the service any
+    /// more. They are counted, since of what a lock guards nothing but its type is known.
+    pub fn into_viewers(service: Arc<LogService<Y>>) -> Option<Vec<Viewer<Y>>>
+        ensures order { IfSome result (λ viewers. InOrder viewers.items) }
+        ensures all { IfSome result
+            (λ viewers. length viewers.items ≡ (arc_value service).lanes) }
+    {
         let service = Arc::into_inner(service)?;
-        service.viewers.into_inner().into_vec()
+        let viewers = service.viewers.into_inner().into_vec()?;
+        if viewers.len() as u64 != service.lanes {
+            return None;
+        }
+        Some(viewers)
     }
 }
 

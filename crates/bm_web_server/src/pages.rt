@@ -1,5 +1,5 @@
 //! The service of one connection.
-ghost use Rattle.std.specs.Prelude.{◌≡◌, ◌⊎◌, ◌↔◌, IsSomeAnd, IsOkAnd, IsTrue};
+ghost use Rattle.std.specs.Prelude.{◌≡◌, ◌⊎◌, ◌↔◌, IfSome, IsSomeAnd, IsOkAnd, IsTrue};
 ghost use Rattle.std.specs.Arc.{arc_value};
 ghost use Rattle.http.specs.Request as request;
 ghost use Rattle.bm_http.specs.Replies.{page};
@@ -7,7 +7,7 @@ ghost use Rattle.bm_http.specs.Replies.{unavailable as unavailable_reply};
 ghost use Rattle.bm_http.specs.Replies.{bad_request as bad_request_reply};
 ghost use Rattle.bm_http.specs.Shown.{reply_of};
 ghost use Rattle.bm_http.specs.LongAnswers.{held};
-ghost use Rattle.bm_web_server.specs.Responses.{ChecksHost, HasHost, Responds, body_text, replied, seen_in, seen_of, target_of};
+ghost use Rattle.bm_web_server.specs.Responses.{ChecksHost, HasFields, HasHost, HasNoField, Responds, body_text, fields_of, replied, seen_in, seen_of, target_of};
 
 use crate::handler::{Handler, Served};
 use crate::page_body::{PageBody, Unsent};
@@ -37,7 +37,9 @@ pub struct Pages<R, S> {
 impl<R: Wait + Copy, S: Handler> Pages<R, S> {
     // The response to a request.
     fn page(&self, method: &str, target: &str) -> Response<PageBody<R, S>>
-        ensures { Responds S.text (S.gives (arc_value self.now.service) method.now target.now) result }
+        ensures given { Responds S.text
+            (S.gives (arc_value self.now.service) method.now target.now) result }
+        ensures fields { HasFields result }
     {
         let Served { reply, seen } = self.service.answer(&self.rt, self.alloc, method, target);
         match reply {
@@ -91,15 +93,38 @@ fn target_in(uri: &Uri) -> &str
     target.as_str()
 }
 
-// The response with an answer: JSON under each status but 503. Under 405 it names the one method
-// that is allowed (RFC 9110).
+// The fields of a response with this status: JSON under each but 503. Under 405 the one method is
+// named that is allowed (RFC 9110). None where memory is wanting.
+fn fields(alloc: Global, status: StatusCode) -> Option<HeaderMap>
+    ensures { IfSome result (λ headers. headers ≡ fields_of status) }
+{
+    let mut headers = HeaderMap::new(alloc);
+    if status == StatusCode::SERVICE_UNAVAILABLE {
+        return Some(headers);
+    }
+    let json = HeaderValue::from_static("application/json");
+    if headers.insert(CONTENT_TYPE, json).is_err() {
+        return None;
+    }
+    if status != StatusCode::METHOD_NOT_ALLOWED {
+        return Some(headers);
+    }
+    let get = HeaderValue::from_static("GET");
+    if headers.insert(ALLOW, get).is_err() {
+        return None;
+    }
+    Some(headers)
+}
+
+// The response with an answer.
 fn response<R: Wait + Drop, S: Handler>(
     alloc: Global,
     answer: Answer,
     seen: Option<S::Source>,
 ) -> Response<PageBody<R, S>>
-    ensures { ((replied S.text result ≡ reply_of answer) × (seen_in result ≡ seen))
+    ensures reply { ((replied S.text result ≡ reply_of answer) × (seen_in result ≡ seen))
         ⊎ (replied S.text result ≡ unavailable_reply) }
+    ensures fields { HasFields result }
 {
     let Answer { status, body } = answer;
     let Ok(body) = Bytes::from_vec(body) else {
@@ -108,20 +133,12 @@ fn response<R: Wait + Drop, S: Handler>(
     let Ok(status) = StatusCode::from_u16(status) else {
         return unavailable(alloc);
     };
+    let Some(headers) = fields(alloc, status) else {
+        return unavailable(alloc);
+    };
     let mut response = Response::new(alloc, whole(body, seen));
     *response.status_mut() = status;
-    let json = HeaderValue::from_static("application/json");
-    if status != StatusCode::SERVICE_UNAVAILABLE
-        && response.headers_mut().insert(CONTENT_TYPE, json).is_err()
-    {
-        return unavailable(alloc);
-    }
-    let get = HeaderValue::from_static("GET");
-    if status == StatusCode::METHOD_NOT_ALLOWED
-        && response.headers_mut().insert(ALLOW, get).is_err()
-    {
-        return unavailable(alloc);
-    }
+    *response.headers_mut() = headers;
     response
 }
 
@@ -131,8 +148,9 @@ fn long<R: Wait + Copy, S: Handler>(
     rest: S::Rest,
     seen: Option<S::Source>,
 ) -> Response<PageBody<R, S>>
-    ensures { ((replied S.text result ≡ page (S.text rest)) × (seen_in result ≡ seen))
+    ensures reply { ((replied S.text result ≡ page (S.text rest)) × (seen_in result ≡ seen))
         ⊎ (replied S.text result ≡ unavailable_reply) }
+    ensures fields { HasFields result }
 {
     let Ok(service) = Arc::try_clone(&pages.service) else {
         return unavailable(pages.alloc);
@@ -166,7 +184,8 @@ fn whole<R: Wait + Drop, S: Handler>(body: Bytes, seen: Option<S::Source>) -> Pa
 // The response to a field `Host` that is no host, before anything else is looked at. It has no
 // body, as for what isn't HTTP: JSON would be one more text for what no client sends.
 fn bad_request<R: Drop, S: Handler>(alloc: Global) -> Response<PageBody<R, S>>
-    ensures { replied S.text result ≡ bad_request_reply }
+    ensures reply { replied S.text result ≡ bad_request_reply }
+    ensures fields { HasNoField result }
 {
     let mut response = Response::new(alloc, PageBody::Whole(None, None));
     *response.status_mut() = StatusCode::BAD_REQUEST;
@@ -174,7 +193,8 @@ fn bad_request<R: Drop, S: Handler>(alloc: Global) -> Response<PageBody<R, S>>
 }
 
 fn unavailable<R: Wait + Drop, S: Handler>(alloc: Global) -> Response<PageBody<R, S>>
-    ensures { replied S.text result ≡ unavailable_reply }
+    ensures reply { replied S.text result ≡ unavailable_reply }
+    ensures fields { HasFields result }
 {
     let mut response = Response::new(alloc, PageBody::Whole(None, None));
     *response.status_mut() = StatusCode::SERVICE_UNAVAILABLE;

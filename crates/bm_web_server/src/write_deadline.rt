@@ -1,5 +1,5 @@
 //! Sockets whose peers have to read on.
-ghost use Rattle.std.specs.Prelude.{◌≡◌};
+ghost use Rattle.std.specs.Prelude.{◌≡◌, false};
 ghost use Rattle.futures.specs.Task.{IsArmed, Keeps};
 ghost use Rattle.futures.specs.Poll.{OnPending};
 
@@ -22,8 +22,12 @@ pub struct WriteDeadline<I, R> {
 }
 
 impl<I, R: Clock> WriteDeadline<I, R> {
-    /// The socket, with a timer of its own.
-    pub fn new(io: I, rt: R, limit: Duration, end: Sleep) -> WriteDeadline<I, R> {
+    /// The socket, with a timer of its own. No call is pending.
+    pub fn new(io: I, rt: R, limit: Duration, end: Sleep) -> WriteDeadline<I, R>
+        ensures io { result.io ≡ io }
+        ensures limit { result.limit ≡ limit }
+        ensures idle { result.is_late ≡ false }
+    {
         WriteDeadline {
             io,
             rt,

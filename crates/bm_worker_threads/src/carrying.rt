@@ -54,7 +54,7 @@ impl Processes {
             match self.queues.step(Input::Tick, now_ms) {
                 Effect::Kill(process) => self.kill(rt, alloc, process)?,
                 Effect::Look(process) => {
-                    let told = ProcessInput::Looked(self.look(process));
+                    let told = ProcessInput::Looked(self.look(rt, process));
                     let _ = self.queues.step(Input::Process(process, told), now_ms);
                 }
                 Effect::Forget(process) => drop(self.take_part(process)),
@@ -130,9 +130,9 @@ impl Processes {
     }
 
     /// What a look shows of a process. One of which nothing is there has ended.
-    fn look(&mut self, process: u64) -> ProcessLook {
+    fn look<R: Host>(&mut self, rt: &R, process: u64) -> ProcessLook {
         match place_of(self.parts.as_slice(), process) {
-            Some(at) => self.parts[at].look(),
+            Some(at) => self.parts[at].look(rt),
             None => {
                 ProcessLook {
                     child: ChildState::Ended(None),

@@ -3,6 +3,7 @@
 ghost use Rattle.std.specs.Prelude.{◌≡◌, position};
 ghost use Rattle.bm_worker_threads.specs.Turns.{is_of};
 
+use crate::host::Host;
 use crate::sweeping::Sweeper;
 use bm_commands::{ChildState, ProcessLook};
 use bm_outbox::{Said, Sweep};
@@ -25,9 +26,9 @@ pub(crate) struct ProcessParts {
 
 impl ProcessParts {
     /// What a look shows of it. A process that can't be asked has ended.
-    pub(crate) fn look(&mut self) -> ProcessLook {
+    pub(crate) fn look<R: Host>(&mut self, rt: &R) -> ProcessLook {
         let sweep = match &mut self.sweeper {
-            Some(sweeper) => sweeper.look(),
+            Some(sweeper) => sweeper.look(rt),
             None => Sweep::Going,
         };
         let child = match self.child.try_wait() {

@@ -2,7 +2,7 @@
 
 ghost use Rattle.std.specs.Prelude.{◌≡◌};
 ghost use Rattle.std.specs.IoError.{error_kind};
-ghost use Rattle.bm_worker_threads.specs.Sweeps.{unstarted};
+ghost use Rattle.bm_worker_threads.specs.Sweeps.{awaited, is_begun_again, unstarted};
 
 use crate::host::Host;
 use bm_outbox::Sweep;
@@ -27,8 +27,10 @@ use std::{io, thread};
 /// look counts by what it found: else no kill on a busy machine would be told as done.
 ///
 /// A killed process whose parent hasn't asked for its end has no environment any more, and isn't
-/// found. One that carries the mark in the last round isn't ended by a kill: the script says so,
-/// and goes on behind itself.
+/// found. On a busy machine one may wait for a processor that was killed a look before. It does
+/// nothing more, and from the fifth round on it isn't counted. One that is in the last round isn't
+/// ended by a kill: the script says so, and goes on behind itself. `SIGKILL` is the ninth bit of
+/// what is pending, and state D is that of a process that a kill doesn't reach (proc(5)).
 const SWEEP: &str = r#"
 mark=$1
 case $mark in buildworker-?*.?*.) ;; *) exit 5 ;; esac
@@ -38,9 +40,20 @@ kill_marked() {
   found=$(grep -laF -e "$mark" "$@" /dev/null 2>/dev/null)
   [ $? -lt 100 ] || exit 5
   for file in $found; do
-    hit=1 process=${file%/environ}
+    process=${file%/environ}
+    [ $round -ge 5 ] && is_ending "$process" || hit=1
     kill -9 "${process#/proc/}" 2>/dev/null
   done
+}
+is_ending() {
+  state='' killed=''
+  while read -r key value _; do
+    case $key in
+      State:) state=$value ;;
+      SigPnd: | ShdPnd:) case $value in *[13579bdf]??) killed=1 ;; esac ;;
+    esac
+  done 2>/dev/null <"$1/status" || return 0
+  [ -n "$killed" ] && [ "$state" != D ]
 }
 is_gone() {
   [ -e "/proc/$1" ] || return 0
@@ -105,11 +118,20 @@ const LOOK_MS: u64 = 2;
 /// How often it is looked at before the worker goes on without it: some five seconds.
 const MOST_LOOKS: u32 = 2_500;
 
+/// How often a sweep is begun at the most. A machine that is short of processes or memory may
+/// refuse its shell or that shell's `grep`, or kill them. What the command started goes on then. So
+/// it is tried again for a second or two, with a look between two tries.
+const MOST_SWEEPS: u32 = 250;
+
 /// A sweep: it goes on beside the worker.
 #[derive(Drop)]
 pub(crate) struct Sweeper {
+    /// What begins it. None where there was no memory for that.
+    command: Option<Command>,
     child: Option<Child>,
     state: Sweep,
+    /// How often it was begun.
+    begun: u32,
 }
 
 impl Sweeper {
@@ -130,45 +152,90 @@ impl Sweeper {
     }
 
     fn of<R: Host>(command: Result<Command, AllocError>, rt: &R) -> Sweeper {
-        let Ok(mut command) = command else {
+        let Ok(command) = command else {
             return Sweeper {
+                command: None,
                 child: None,
                 state: Sweep::Failed,
+                begun: MOST_SWEEPS,
             };
         };
+        let mut sweeper = Sweeper {
+            command: Some(command),
+            child: None,
+            state: Sweep::Failed,
+            begun: 0,
+        };
+        sweeper.begin(rt);
+        sweeper
+    }
+
+    /// Begins it, or begins it again.
+    fn begin<R: Host>(&mut self, rt: &R) {
+        self.begun = self.begun.saturating_add(1);
+        let Some(command) = &mut self.command else {
+            return;
+        };
         match command.spawn(rt) {
-            Ok(child) => Sweeper {
-                child: Some(child),
-                state: Sweep::Going,
-            },
-            Err(error) => Sweeper {
-                child: None,
-                state: unstarted(&error),
-            },
+            Ok(child) => {
+                self.child = Some(child);
+                self.state = Sweep::Going;
+            }
+            Err(error) => self.state = unstarted(&error),
         }
     }
 
-    /// What is known of it, once it was looked at.
-    pub(crate) fn look(&mut self) -> Sweep {
-        let Some(child) = &mut self.child else {
-            return self.state;
-        };
-        self.state = match child.try_wait() {
-            Ok(None) => Sweep::Going,
-            Ok(Some(status)) => Sweep::of_code(status.code()),
-            Err(_) => Sweep::Failed,
-        };
-        self.state
+    /// What is known of it, once it was looked at. One that has failed is begun again by a later
+    /// look.
+    pub(crate) fn look<R: Host>(&mut self, rt: &R) -> Sweep {
+        match &mut self.child {
+            Some(child) => {
+                match child.try_wait() {
+                    Ok(None) => return Sweep::Going,
+                    Ok(Some(status)) => self.state = Sweep::of_code(status.code()),
+                    Err(_) => {
+                        // What a further one comes to couldn't be known either.
+                        self.state = Sweep::Failed;
+                        self.begun = MOST_SWEEPS;
+                    }
+                }
+                self.child = None;
+            }
+            None => {
+                if is_begun_again(self.state, self.begun) {
+                    self.begin(rt);
+                }
+            }
+        }
+        awaited(self.state, self.begun)
     }
 
     /// Waits for its end, for some five seconds at the most. It goes on by itself then.
     pub(crate) fn wait<R: Host>(&mut self, rt: &R) {
         for _ in 0..MOST_LOOKS {
-            if self.look() != Sweep::Going {
+            if self.look(rt) != Sweep::Going {
                 return;
             }
             thread::sleep(rt, Duration::from_millis(LOOK_MS));
         }
+    }
+}
+
+/// Whether a sweep that has come to this is begun again, having been begun so often.
+fn is_begun_again(state: Sweep, begun: u32) -> bool
+    ensures { result ≡ is_begun_again state begun }
+{
+    matches!(state, Sweep::Failed) && begun < MOST_SWEEPS
+}
+
+/// What is told of it: one that is begun again counts as one that goes on.
+fn awaited(state: Sweep, begun: u32) -> Sweep
+    ensures { result ≡ awaited state begun }
+{
+    if is_begun_again(state, begun) {
+        Sweep::Going
+    } else {
+        state
     }
 }
 

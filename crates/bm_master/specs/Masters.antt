@@ -1,0 +1,153 @@
+-- What a master does at an input, and what each of its effects says.
+use Rattle.std.specs.Prelude.{◌≡◌, ◌⊎◌, ◌<◌, ℕ, Bool, true, false, if◌then◌else◌, List, length, slice_get, slice_set, Option, Some, None, Ok, position, ⊤}
+use Rattle.std.specs.List.{list_any}
+use Rattle.std.specs.Option.{option_map}
+use Rattle.bm_session.specs.declared.results.Results.{Results}
+use Rattle.bm_board.specs.Board.{on_build, result_on, with_ready}
+use Rattle.bm_board.specs.ScheduledBuild.{answer_of, cancel, waits_for}
+use Rattle.bm_build_queue.specs.BuildQueue.{QueueState, after_cancel, with_board}
+use Rattle.bm_build_queue.specs.Cancels.{met_by}
+use Rattle.bm_build_queue.specs.declared.build_queue.Cancelled.{Cancelled}
+use Rattle.bm_build_queue.specs.declared.build_queue.Cancelled.TheVariants as met
+use Rattle.bm_latent.specs.declared.worker_input.WorkerInput.{WorkerInput}
+use Rattle.bm_latent.specs.WorkerMachine.{effect_of, machine_after}
+use Rattle.bm_master.specs.declared.build_start.StartFate.TheVariants as fated
+use Rattle.bm_master.specs.declared.known_worker.WorkerAct.{WorkerAct}
+use Rattle.bm_master.specs.declared.known_worker.WorkerAct.TheVariants as act
+use Rattle.bm_master.specs.declared.master.Agenda.{Agenda}
+use Rattle.bm_master.specs.declared.master.Agenda.TheVariants as topic
+use Rattle.bm_master.specs.declared.master_flow.FlowInput.TheVariants as flow_input
+use Rattle.bm_master.specs.declared.master_flow.FlowStep.TheVariants as flow_step
+use Rattle.bm_master.specs.declared.values.MasterRemark.{MasterRemark}
+use Rattle.bm_master.specs.declared.values.MasterRemark.TheVariants as news
+use Rattle.bm_master.specs.declared.values.MasterInput.{MasterInput}
+use Rattle.bm_master.specs.declared.values.MasterInput.TheVariants as given
+use Rattle.bm_master.specs.declared.values.MasterEffect.{MasterEffect}
+use Rattle.bm_master.specs.declared.values.MasterEffect.TheVariants as order
+use Rattle.bm_master.specs.BuildStarts.{fate}
+use Rattle.bm_master.specs.Builds.{BuildsView, IsNext, noted, opened}
+use Rattle.bm_master.specs.Flow.{FlowView, begun_flow, flow_after, step_of}
+use Rattle.bm_master.specs.Held.{is_free}
+use Rattle.bm_master.specs.KnownWorkers.{KnownView, first_of, owed_with}
+
+-- The builds, the workers and the flow of its work, and what it is about. What is told next, which
+-- build is to be cancelled, and of which worker the lane is told that its program has ended.
+-- Whether something may be owed to a worker. How many ticks are still to be told, and whether those
+-- of the next wait count. Whether all programs are to end.
+pub record MasterView : Type 0 where
+  pub builds : BuildsView
+  pub workers : List KnownView
+  pub flow : FlowView
+  pub agenda : Agenda
+  pub tells : Option MasterRemark
+  pub cancels : Option ℕ
+  pub ended : Option ℕ
+  pub owes : Bool
+  pub ticks : ℕ
+  pub timed : Bool
+  pub over : Bool
+
+-- nothing was started
+abbrev pub begun_master : QueueState → List KnownView → MasterView
+begun_master queue workers =
+    record {
+      builds = opened queue;
+      workers = workers;
+      flow = begun_flow;
+      agenda = topic.Look;
+      tells = None;
+      cancels = None;
+      ended = None;
+      owes = false;
+      ticks = 0;
+      timed = false;
+      over = false;
+    }
+
+-- This is the first that is to be done about the worker at this place.
+abbrev pub IsFirst : MasterView → ℕ → WorkerAct → Type 0
+IsFirst m at a = (w : KnownView) × (slice_get m.workers at ≡ Some w) × (first_of w.owed ≡ a)
+
+-- The program of the worker at this place was started, and its end was not told.
+abbrev pub Runs : MasterView → ℕ → Type 0
+Runs m at = (w : KnownView) × (slice_get m.workers at ≡ Some w) × (w.machine.running ≡ true)
+
+-- What is told although it was not noted before. A build has that result on the board, or is the
+-- first that waits for that worker.
+abbrev pub IsSo : MasterView → MasterRemark → Type 0
+IsSo m (news.BuildEnded build result) = result_on m.builds.queue.board build ≡ Ok (Some result)
+IsSo m (news.BuildWaits build worker) =
+    position (waits_for worker) m.builds.queue.board.jobs ≡ Some build
+IsSo m other = ⊥
+
+-- What each effect says of the master before it and behind it.
+abbrev pub Follows : {Y : Type 0} → MasterView → MasterView → MasterEffect Y → Type 0
+Follows old new order.Nothing = ⊤
+Follows old new (order.StartBuild build) =
+    IsNext old.builds new.builds build × (fate build.start build.cancelled ≡ fated.Try)
+Follows old new (order.CancelBuild build) = old.cancels ≡ Some build
+Follows old new (order.StartProgram at) = IsFirst old at act.Start
+Follows old new (order.LookAtProgram at) = Runs old at
+Follows old new (order.EndProgram at end) = IsFirst old at (act.End end)
+Follows old new (order.ShutDown at) = IsFirst old at act.ShutDown
+Follows old new (order.TellEnded at) = old.ended ≡ Some at
+Follows old new (order.Tell told) = (old.tells ≡ Some told) ⊎ IsSo new told
+Follows old new order.Report = step_of old.flow ≡ flow_step.Report
+Follows old new order.Listen = list_any is_free old.builds.held.places ≡ true
+Follows old new (order.Wait timed counted) = new.timed ≡ timed
+Follows old new order.Leave = step_of old.flow ≡ flow_step.Leave
+
+-- An input comes to the machine of the worker at this place. The board is told whether the worker
+-- takes builds. What follows is to be done besides what was.
+abbrev pub Hears : MasterView → MasterView → ℕ → WorkerInput → Type 0
+Hears old new at heard =
+    (w : KnownView) → slice_get old.workers at ≡ Some w
+    → (new.workers
+    ≡ slice_set old.workers at
+    (record w {
+      machine = machine_after w.machine heard;
+      owed = owed_with w.owed (effect_of w.machine heard);
+    }))
+    × (new.owes ≡ true)
+    × (at < length old.builds.queue.board.workers
+    → new.builds.queue.board
+    ≡ with_ready old.builds.queue.board at (effect_of w.machine heard).action.ready)
+
+-- The build is cancelled on the board, and an unstarted one of its number notes that. One that runs
+-- is to be cancelled. One that waited is told to have ended with its result.
+abbrev pub builds_cancelled : ℕ → BuildsView → BuildsView
+builds_cancelled build b =
+    record b {
+      queue = with_board b.queue (after_cancel b.queue.board build);
+      unstarted = option_map (noted build) b.unstarted;
+    }
+
+abbrev pub CancelsBy : Cancelled → MasterView → MasterView → ℕ → Type 0
+CancelsBy met.Running old new build = (new.cancels ≡ Some build) × (new.tells ≡ old.tells)
+CancelsBy met.Waiting old new build =
+    (new.cancels ≡ old.cancels)
+    × ((r : Results) → result_on new.builds.queue.board build ≡ Ok (Some r)
+    → new.tells ≡ Some (news.BuildEnded build r))
+CancelsBy met.Nothing old new build = new.cancels ≡ old.cancels
+
+pub record IsCancelled (old new : MasterView) (build : ℕ) : Type 0 where
+  pub builds : new.builds ≡ builds_cancelled build old.builds
+  pub by : CancelsBy
+      (met_by (answer_of (on_build cancel old.builds.queue.board build))) old new build
+
+-- What is noted to be told is so, or was noted before.
+abbrev pub IsNoted : MasterView → MasterView → Type 0
+IsNoted old new =
+    (build : ℕ) (r : Results) → new.tells ≡ Some (news.BuildEnded build r)
+    → (old.tells ≡ new.tells) ⊎ (result_on new.builds.queue.board build ≡ Ok (Some r))
+
+-- What an input does. What comes of a worker is said where it is heard.
+abbrev pub Takes : {Y : Type 0} → MasterView → MasterView → MasterInput Y → Type 0
+Takes old new (given.Woke ticks) = new.builds.queue ≡ old.builds.queue
+Takes old new (given.BuildStarted build worker) = new.builds ≡ old.builds
+Takes old new (given.Commanded build command) = new.builds.queue ≡ old.builds.queue
+Takes old new (given.Cancel build) = IsCancelled old new build
+Takes old new given.InputEnded =
+    new ≡ record old { flow = flow_after flow_input.InputEnded old.flow }
+Takes old new given.Over = new ≡ record old { agenda = topic.End 0; over = true }
+Takes old new other = ⊤
