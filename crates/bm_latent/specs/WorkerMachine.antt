@@ -12,7 +12,7 @@ use Rattle.bm_latent.specs.declared.worker_input.WorkerInput.TheVariants.{Happen
 use Rattle.bm_latent.specs.declared.worker_input.WorkerEffect.{WorkerEffect}
 use Rattle.bm_latent.specs.Deadline.{act_at, after_tick, begun}
 use Rattle.bm_latent.specs.StartTries.{is_given_up, tries_after}
-use Rattle.bm_latent.specs.WorkerState.{WorkerView, action_of, is_needless, is_ready, is_timed, is_to_stop, known_after}
+use Rattle.bm_latent.specs.WorkerState.{WorkerView, action_of, is_needless, is_occupied, is_ready, is_timed, is_to_stop, known_after}
 
 -- What is known of the worker. Whether its program is to be started, and for how many ticks that
 -- was tried. Whether a program runs, since how many ticks it is to end, and whether it was asked
@@ -142,7 +142,7 @@ after_ticking m wanted has_build =
     then m
     else (if m.starting
     then (if wanted then m else heard (unstarted m) (fault m))
-    else heard m (event.Tick has_build))
+    else heard m (event.Tick (is_occupied m.known wanted has_build)))
 
 abbrev pub tick_action : MachineView → Bool → Bool → WorkerAction
 tick_action m wanted has_build =
@@ -152,7 +152,7 @@ tick_action m wanted has_build =
     then (if wanted
     then record { ready = is_ready m.known; process = process_act.Start; gives_up = false }
     else answer (unstarted m) (fault m))
-    else answer m (event.Tick has_build))
+    else answer m (event.Tick (is_occupied m.known wanted has_build)))
 
 -- where the worker stands after an input
 abbrev pub machine_after : MachineView → WorkerInput → MachineView

@@ -146,6 +146,10 @@ action_of p event =
       gives_up = gives_up p event;
     }
 
+-- it has a build, or one waits that it may still take: it doesn't idle
+abbrev pub is_occupied : WorkerView → Bool → Bool → Bool
+is_occupied p wanted has_build = has_build || (wanted && not p.full)
+
 -- its process was started and no build waits for it: it is to be ended
 abbrev pub is_needless : WorkerView → Bool → Bool
 is_needless p wanted =

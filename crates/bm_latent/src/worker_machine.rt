@@ -269,6 +269,7 @@ impl WorkerMachine {
         } else if self.is_starting {
             self.tries_again(is_wanted)
         } else {
+            let has_build = self.state.is_occupied(is_wanted, has_build);
             self.hear(WorkerEvent::Tick { has_build })
         };
         WorkerEffect {

@@ -2,7 +2,7 @@
 
 ghost use Rattle.std.specs.Prelude.{◌≡◌, ◌≤◌, Some, None};
 ghost use Rattle.bm_latent.specs.declared.event.LatentState;
-ghost use Rattle.bm_latent.specs.WorkerState.{act_of, action_of, gives_up, is_needless, is_ready, is_timed, is_to_stop, known_after, latent_after, newcomer, process_action};
+ghost use Rattle.bm_latent.specs.WorkerState.{act_of, action_of, gives_up, is_needless, is_occupied, is_ready, is_timed, is_to_stop, known_after, latent_after, newcomer, process_action};
 
 use crate::event::{Act, LatentEvent, LatentState};
 use crate::machine::Latent;
@@ -177,6 +177,13 @@ impl WorkerState {
                 Some(latent) => latent.state() == LatentState::Substantiated,
                 None => self.attached,
             }
+    }
+
+    /// Whether it has a build, or one waits that it may still take. `is_wanted`: a build waits.
+    pub fn is_occupied(&self, is_wanted: bool, has_build: bool) -> bool
+        ensures { result ≡ is_occupied self.now is_wanted has_build }
+    {
+        has_build || (is_wanted && !self.full)
     }
 
     /// Whether the worker's process is to be ended, since no build waits for its login any more.

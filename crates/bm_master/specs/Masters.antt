@@ -1,5 +1,5 @@
 -- What a master does at an input, and what each of its effects says.
-use Rattle.std.specs.Prelude.{◌≡◌, ◌⊎◌, ◌<◌, ℕ, Bool, true, false, if◌then◌else◌, List, length, slice_get, slice_set, Option, Some, None, Ok, position, ⊤}
+use Rattle.std.specs.Prelude.{◌≡◌, ◌⊎◌, ◌<◌, ◌-◌, ℕ, Bool, true, false, if◌then◌else◌, List, length, slice_get, slice_set, Option, Some, None, Ok, position, ⊤}
 use Rattle.std.specs.List.{list_any}
 use Rattle.std.specs.Option.{option_map}
 use Rattle.bm_session.specs.declared.results.Results.{Results}
@@ -33,7 +33,9 @@ use Rattle.bm_master.specs.KnownWorkers.{KnownView, first_of, owed_with}
 -- The builds, the workers and the flow of its work, and what it is about. What is told next, which
 -- build is to be cancelled, and of which worker the lane is told that its program has ended.
 -- Whether something may be owed to a worker. How many ticks are still to be told, and whether those
--- of the next wait count. Whether all programs are to end.
+-- of the next wait count. Whether an event was taken that is handed in behind them. Whether all
+-- programs are to end. Whether the builds that hold their slots are to be looked at, and how many of
+-- the events that lay ready behind a look are still to be heard.
 pub record MasterView : Type 0 where
   pub builds : BuildsView
   pub workers : List KnownView
@@ -45,7 +47,10 @@ pub record MasterView : Type 0 where
   pub owes : Bool
   pub ticks : ℕ
   pub timed : Bool
+  pub hears : Bool
   pub over : Bool
+  pub looks : Bool
+  pub unheard : Option ℕ
 
 -- nothing was started
 abbrev pub begun_master : QueueState → List KnownView → MasterView
@@ -61,7 +66,10 @@ begun_master queue workers =
       owes = false;
       ticks = 0;
       timed = false;
+      hears = false;
       over = false;
+      looks = false;
+      unheard = None;
     }
 
 -- This is the first that is to be done about the worker at this place.
@@ -80,6 +88,11 @@ IsSo m (news.BuildWaits build worker) =
     position (waits_for worker) m.builds.queue.board.jobs ≡ Some build
 IsSo m other = ⊥
 
+-- One of the events is heard that lay ready at the count. No slot is given back.
+abbrev pub IsHeard : MasterView → MasterView → Option ℕ → Type 0
+IsHeard old new (Some left) = (0 < left) × (new ≡ record old { unheard = Some (left - 1) })
+IsHeard old new None = ⊥
+
 -- What each effect says of the master before it and behind it.
 abbrev pub Follows : {Y : Type 0} → MasterView → MasterView → MasterEffect Y → Type 0
 Follows old new order.Nothing = ⊤
@@ -93,8 +106,12 @@ Follows old new (order.ShutDown at) = IsFirst old at act.ShutDown
 Follows old new (order.TellEnded at) = old.ended ≡ Some at
 Follows old new (order.Tell told) = (old.tells ≡ Some told) ⊎ IsSo new told
 Follows old new order.Report = step_of old.flow ≡ flow_step.Report
-Follows old new order.Listen = list_any is_free old.builds.held.places ≡ true
+Follows old new (order.Count timed) =
+    (old.unheard ≡ None) × (list_any is_free new.builds.held.places ≡ true) × (new.timed ≡ timed)
+Follows old new order.Listen = IsHeard old new old.unheard
 Follows old new (order.Wait timed counted) = new.timed ≡ timed
+Follows old new order.Hear =
+    (old.agenda ≡ topic.Look) × (old.hears ≡ true) × (new ≡ record old { hears = false })
 Follows old new order.Leave = step_of old.flow ≡ flow_step.Leave
 
 -- An input comes to the machine of the worker at this place. The board is told whether the worker
@@ -143,7 +160,10 @@ IsNoted old new =
 
 -- What an input does. What comes of a worker is said where it is heard.
 abbrev pub Takes : {Y : Type 0} → MasterView → MasterView → MasterInput Y → Type 0
-Takes old new (given.Woke ticks) = new.builds.queue ≡ old.builds.queue
+Takes old new (given.Woke ticks) =
+    (new.builds ≡ old.builds) × (new.unheard ≡ old.unheard) × (new.hears ≡ true)
+Takes old new (given.Ready events) = new ≡ record old { unheard = Some events }
+Takes old new given.Quiet = new ≡ record old { unheard = Some 0 }
 Takes old new (given.BuildStarted build worker) = new.builds ≡ old.builds
 Takes old new (given.Commanded build command) = new.builds.queue ≡ old.builds.queue
 Takes old new (given.Cancel build) = IsCancelled old new build

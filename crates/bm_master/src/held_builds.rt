@@ -125,15 +125,14 @@ impl<Y: Yard> HeldBuilds<Y> {
         HeldBuild::new(number, viewer, commands)
     }
 
-    /// The build of this number has its result, and is held. It comes back where memory is wanting
-    /// for that.
+    /// The build of this number has its result, and is held. Only a later look sees which of its
+    /// commands have ended. It comes back where memory is wanting for that.
     pub fn hold(&mut self, number: u64, viewer: Viewer<Y>) -> Option<HeldBuild<Y>>
         ensures back { IfSome result (λ build. build.number ≡ number) }
         ensures lane { IfSome result (λ build. build.viewer.lane ≡ viewer.lane) }
         ensures unchanged { IfSome result (λ _. self.new.places ≡ self.old.places) }
     {
-        let mut build = self.reported(number, viewer);
-        look_at(&mut build);
+        let build = self.reported(number, viewer);
         self.put(build)
     }
 

@@ -1,6 +1,6 @@
 //! The machine of a master, and what comes to it.
 
-ghost use Rattle.std.specs.Prelude.{◌≡◌, Some, Ok};
+ghost use Rattle.std.specs.Prelude.{◌≡◌, Some, Ok, true};
 ghost use Rattle.bm_board.specs.Board.{result_on};
 ghost use Rattle.bm_session.specs.declared.results.Results.{Results};
 ghost use Rattle.bm_master.specs.Masters.{Hears, IsCancelled, IsNoted, Takes, begun_master};
@@ -56,8 +56,15 @@ pub struct Master<Y: Yard> {
     /// How many ticks are still to be told, and whether those of the next wait count.
     pub(crate) ticks: u64,
     pub(crate) is_timed: bool,
+    /// Whether an event was taken, which is handed in once those ticks are told.
+    pub(crate) hears: bool,
     /// Whether all programs are to end.
     pub(crate) is_over: bool,
+    /// Whether the builds that hold their slots are to be looked at.
+    pub(crate) looks: bool,
+    /// How many of the events that lay ready behind such a look are still to be heard, before slots
+    /// are given back. None where no build was free at the look.
+    pub(crate) unheard: Option<u64>,
 }
 
 impl<Y: Yard> Model for Master<Y> {
@@ -76,7 +83,10 @@ impl<Y: Yard> Model for Master<Y> {
       owes = m.owes;
       ticks = m.ticks;
       timed = m.is_timed;
+      hears = m.hears;
       over = m.is_over;
+      looks = m.looks;
+      unheard = m.unheard;
     } };
 }
 
@@ -96,7 +106,10 @@ impl<Y: Yard> Master<Y> {
             owes: false,
             ticks: 0,
             is_timed: false,
+            hears: false,
             is_over: false,
+            looks: false,
+            unheard: None,
         }
     }
 
@@ -106,7 +119,8 @@ impl<Y: Yard> Master<Y> {
     {
         match input {
             MasterInput::Woke { ticks } => self.wakes(ticks),
-            MasterInput::Quiet => self.releases(),
+            MasterInput::Ready { events } => self.unheard = Some(events),
+            MasterInput::Quiet => self.unheard = Some(0),
             MasterInput::Worker(at, event) => {
                 self.hears(at, WorkerInput::Happened(event));
                 self.flow.hears(FlowInput::Changed);
@@ -140,6 +154,7 @@ impl<Y: Yard> Master<Y> {
             MasterInput::BuildEnded(finished) => {
                 let number = finished.number;
                 self.builds.finish(finished);
+                self.looks = true;
                 self.tells_end(number);
                 self.flow.hears(FlowInput::Changed);
             }
@@ -154,32 +169,24 @@ impl<Y: Yard> Master<Y> {
     }
 
     // A wait is over. Builds may be started that couldn't be before it, and ticks count, where they
-    // were waited for.
+    // were waited for. They ended before the event came that the wait has brought.
     fn wakes(&mut self, ticks: u64)
-        ensures queue { self.new.builds.queue ≡ self.old.builds.queue }
+        ensures builds { self.new.builds ≡ self.old.builds }
         ensures tells { self.new.tells ≡ self.old.tells }
+        ensures unheard { self.new.unheard ≡ self.old.unheard }
+        ensures hears { self.new.hears ≡ true }
     {
+        self.hears = true;
         if !self.is_timed && !self.is_over {
             return;
         }
-        self.builds.look();
+        self.looks = true;
         if self.builds.is_short() {
             self.flow.hears(FlowInput::Changed);
         }
         self.ticks = ticks;
         if ticks > 0 {
             self.agenda = Agenda::Program(0);
-        }
-    }
-
-    // No event lies ready. A loss that ended the last command of a build lay ready before that end
-    // was seen. So it was heard, and no build is started on the worker that was lost.
-    fn releases(&mut self)
-        ensures workers { self.new.workers ≡ self.old.workers }
-        ensures tells { self.new.tells ≡ self.old.tells }
-    {
-        if self.builds.release_free() {
-            self.flow.hears(FlowInput::Changed);
         }
     }
 

@@ -1,8 +1,9 @@
 //! The moves of a master's machine: what it has done next.
 
-ghost use Rattle.std.specs.Prelude.{◌≡◌};
+ghost use Rattle.std.specs.Prelude.{◌≡◌, ◌<◌, ◌-◌, Some, None, false};
 ghost use Rattle.std.specs.List.{list_any};
 ghost use Rattle.bm_operator.specs.WaitNotice.{is_pending};
+ghost use Rattle.bm_master.specs.Held.{is_free};
 ghost use Rattle.bm_master.specs.Masters.{Follows};
 
 use crate::build_start::StartFate;
@@ -34,6 +35,10 @@ impl<Y: Yard> Master<Y> {
             return self.next_owed();
         }
         match self.agenda {
+            Agenda::Look if self.hears => {
+                self.hears = false;
+                MasterEffect::Hear
+            }
             Agenda::Look => self.looks(),
             Agenda::Program(at) => self.looks_at_program(at),
             Agenda::Tick(at) => self.ticks(at),
@@ -73,10 +78,16 @@ impl<Y: Yard> Master<Y> {
         }
     }
 
-    // What is next by the flow of its work.
+    // Slots are given back before all else. Then it goes by the flow of its work.
     fn looks(&mut self) -> MasterEffect<Y>
         ensures { Follows self.old self.new result }
     {
+        if let Some(left) = self.unheard {
+            return self.listens(left);
+        }
+        if self.looks && self.sees_free() {
+            return self.counts();
+        }
         match self.flow.take() {
             FlowStep::Start => {
                 self.agenda = Agenda::Want {
@@ -86,7 +97,6 @@ impl<Y: Yard> Master<Y> {
                 MasterEffect::Nothing
             }
             FlowStep::Report => MasterEffect::Report,
-            FlowStep::Wait if self.builds.has_free() => MasterEffect::Listen,
             FlowStep::Wait if self.is_waited_for() => {
                 self.agenda = Agenda::Notice { at: 0, waits: true };
                 MasterEffect::Nothing
@@ -97,6 +107,54 @@ impl<Y: Yard> Master<Y> {
                 MasterEffect::Leave
             }
         }
+    }
+
+    // The events that lay ready at the count are heard. Then the builds that were free at the look
+    // before it give their slots back. A loss that ended the last command of one lay ready before
+    // that end was seen. So it was heard, and no build is started on the worker that was lost.
+    // However many events come meanwhile, no more than those are heard before.
+    fn listens(&mut self, left: u64) -> MasterEffect<Y>
+        requires { self.old.unheard ≡ Some left }
+        ensures follows { Follows self.old self.new result }
+        ensures heard { left ≡ 0 → self.new.unheard ≡ None }
+        ensures kept { 0 < left → self.new ≡ record self.old { unheard = Some (left - 1) } }
+    {
+        if left > 0 {
+            self.unheard = Some(left - 1);
+            return MasterEffect::Listen;
+        }
+        self.unheard = None;
+        if self.builds.release_free() {
+            self.flow.hears(FlowInput::Changed);
+        }
+        MasterEffect::Nothing
+    }
+
+    // The builds that hold their slots are looked at. Whether one is free.
+    fn sees_free(&mut self) -> bool
+        ensures free { result ≡ list_any is_free self.new.builds.held.places }
+        ensures rest { self.new ≡ record self.old { builds = self.new.builds; looks = false } }
+        ensures queue { self.new.builds.queue ≡ self.old.builds.queue }
+    {
+        self.looks = false;
+        self.builds.look();
+        self.builds.has_free()
+    }
+
+    // It is counted how many events lie ready.
+    fn counts(&mut self) -> MasterEffect<Y>
+        ensures effect { result ≡ MasterEffect.Count self.new.timed }
+        ensures rest { self.new ≡ record self.old { timed = self.new.timed } }
+    {
+        self.is_timed = self.has_timed();
+        MasterEffect::Count {
+            is_timed: self.is_timed,
+        }
+    }
+
+    // Whether something waits for ticks.
+    fn has_timed(&self) -> bool {
+        self.builds.is_timed() || self.workers.iter().any(|worker| worker.is_timed())
     }
 
     // Whether it is to be looked again soon who waits.
@@ -112,8 +170,7 @@ impl<Y: Yard> Master<Y> {
             (list_any (λ w. is_pending w.waits) self.new.workers) }
     {
         self.agenda = Agenda::Look;
-        self.is_timed = self.builds.is_timed()
-            || self.workers.iter().any(|worker| worker.is_timed());
+        self.is_timed = self.has_timed();
         MasterEffect::Wait {
             is_timed: self.is_timed,
             is_counted: self.is_waited_for(),
@@ -193,6 +250,7 @@ impl<Y: Yard> Master<Y> {
                 return MasterEffect::StartBuild(build);
             }
             let number = self.builds.ends_unrun(build, fate == StartFate::Failed);
+            self.looks = true;
             self.tells_end(number);
             return MasterEffect::Nothing;
         }

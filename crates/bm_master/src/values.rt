@@ -27,8 +27,11 @@ pub struct FinishedBuild<Y: Yard> {
 /// What comes to a master's machine. Builds go by their numbers, workers by their places.
 #[derive(Drop)]
 pub enum MasterInput<Y: Yard> {
-    /// A wait is over, in which so many ticks have ended.
+    /// A wait is over, in which so many ticks have ended. The event that it brought is handed in
+    /// once it is asked for.
     Woke { ticks: u64 },
+    /// So many events lie ready.
+    Ready { events: u64 },
     /// No event lies ready.
     Quiet,
     /// This happened to the lane of a worker.
@@ -101,11 +104,16 @@ pub enum MasterEffect<Y: Yard> {
     Tell(MasterRemark),
     /// The results of all builds are written.
     Report,
-    /// An event that lies ready is handed in, or `Quiet` where none does.
+    /// It is counted how many events lie ready. The answer is `Ready`. `is_timed`: ticks count from
+    /// now on.
+    Count { is_timed: bool },
+    /// An event that lies ready is taken: the answer is `Woke`, or `Quiet` where none does.
     Listen,
-    /// The next event is waited for. It is handed in behind `Woke`. `is_timed`: ticks count.
-    /// `is_counted`: something is told once a second has passed.
+    /// The next event is waited for: the answer is `Woke`. `is_timed`: ticks count. `is_counted`:
+    /// something is told once a second has passed.
     Wait { is_timed: bool, is_counted: bool },
+    /// The ticks before it are told: the event that was taken last is handed in, if there is one.
+    Hear,
     /// Each build is over, the results are written, and the input has ended.
     Leave,
 }

@@ -60,6 +60,8 @@ pub struct Coordinator<'s, Y: Yard, R: Wait + Clock + Drop, O> {
     pub teller: Teller<'s, Y, R>,
     /// The ticks since it began.
     pub ticks: TickCounter,
+    /// The event that was taken last, until the machine asks for it.
+    pub taken: Option<MasterEvent<Y>>,
     pub has_failed: bool,
 }
 
@@ -115,23 +117,34 @@ where
         }
     }
 
-    // Waits for the next event, and hands it in.
+    // Waits for the next event, and takes it.
     fn wait(&mut self, events: &EventReceiver<Y>, is_timed: bool, is_counted: bool) {
-        let event = self.next_event(events, is_timed, is_counted);
+        self.taken = self.next_event(events, is_timed, is_counted);
+        self.wake();
+    }
+
+    // Takes an event that lies ready, or says that there is none.
+    fn listen(&mut self, events: &EventReceiver<Y>) {
+        self.taken = events.look(&self.shared.rt);
+        if self.taken.is_some() {
+            self.wake();
+        } else {
+            self.master.step(MasterInput::Quiet);
+        }
+    }
+
+    // Tells the machine how many ticks have ended.
+    fn wake(&mut self) {
         let ticks = self.ended_ticks();
         self.master.step(MasterInput::Woke { ticks });
-        if let Some(event) = event {
+    }
+
+    // Hands in the event that was taken.
+    fn hear_taken(&mut self) {
+        if let Some(event) = self.taken.take() {
             self.hear(event);
         }
         self.teller.tell_left_out();
-    }
-
-    // Hands in an event that lies ready, or that there is none.
-    fn listen(&mut self, events: &EventReceiver<Y>) {
-        match events.look(&self.shared.rt) {
-            Some(event) => self.hear(event),
-            None => self.master.step(MasterInput::Quiet),
-        }
     }
 
     // Does what the machine says. False once there is nothing more to do.
@@ -148,7 +161,12 @@ where
             MasterEffect::TellEnded(at) => self.tell_ended(at),
             MasterEffect::Tell(remark) => self.teller.tell(remark),
             MasterEffect::Report => self.report(),
+            MasterEffect::Count { .. } => {
+                let events = events.count();
+                self.master.step(MasterInput::Ready { events });
+            }
             MasterEffect::Listen => self.listen(events),
+            MasterEffect::Hear => self.hear_taken(),
             MasterEffect::Wait {
                 is_timed,
                 is_counted,
@@ -219,6 +237,7 @@ where
                 output,
                 teller: Teller::new(shared, remarks),
                 ticks: TickCounter::new(TICK_MS, 0),
+                taken: None,
                 has_failed,
             };
             coordinator.serve(scope, &events);

@@ -126,6 +126,11 @@ impl<Y: Yard> EventReceiver<Y> {
         self.receiver.recv_timeout(rt, most).ok()
     }
 
+    /// How many events lie ready.
+    pub fn count(&self) -> u64 {
+        self.receiver.len() as u64
+    }
+
     /// None where no event lies ready.
     pub fn look<R: Wait>(&self, rt: &R) -> Option<MasterEvent<Y>> {
         self.receiver.try_recv(rt).ok()
