@@ -1,10 +1,11 @@
 //! What can be asked of a master's machine.
 
-ghost use Rattle.std.specs.Prelude.{◌≡◌, IfSome, IfNone, Ok, Some, length};
+ghost use Rattle.std.specs.Prelude.{◌≡◌, IfSome, IfNone, Ok, Some, false, length, slice_get};
 ghost use Rattle.std.specs.List.{list_any};
-ghost use Rattle.std.specs.Option.{option_map};
+ghost use Rattle.std.specs.Option.{option_map, option_map_or};
 ghost use Rattle.bm_board.specs.Board.{result_on};
 ghost use Rattle.bm_build_queue.specs.BuildQueue.{AreResults, LacksResult};
+ghost use Rattle.bm_latent.specs.WorkerState.{is_ready};
 ghost use Rattle.bm_master.specs.Held.{is_of};
 
 use crate::master::Master;
@@ -30,7 +31,10 @@ impl<Y: Yard> Master<Y> {
     }
 
     /// Whether the worker was told to shut down, and hasn't gone or logged in since.
-    pub fn is_dismissed(&self, at: usize) -> bool {
+    pub fn is_dismissed(&self, at: usize) -> bool
+        ensures { result ≡ option_map_or (λ w. w.machine.dismissed)
+            (slice_get self.now.workers at) false }
+    {
         match self.workers.get(at) {
             Some(worker) => worker.is_dismissed(),
             None => false,
@@ -38,7 +42,10 @@ impl<Y: Yard> Master<Y> {
     }
 
     /// Whether the worker takes builds.
-    pub fn is_ready(&self, at: usize) -> bool {
+    pub fn is_ready(&self, at: usize) -> bool
+        ensures { result ≡ option_map_or (λ w. is_ready w.machine.known)
+            (slice_get self.now.workers at) false }
+    {
         match self.workers.get(at) {
             Some(worker) => worker.is_ready(),
             None => false,
@@ -60,12 +67,16 @@ impl<Y: Yard> Master<Y> {
     }
 
     /// Whether any worker was told to shut down, and hasn't gone since.
-    pub fn awaits_workers(&self) -> bool {
+    pub fn awaits_workers(&self) -> bool
+        ensures { result ≡ list_any (λ w. w.machine.dismissed) self.now.workers }
+    {
         self.workers.iter().any(|worker| worker.is_dismissed())
     }
 
     /// Whether the program of a worker runs.
-    pub fn has_program(&self) -> bool {
+    pub fn has_program(&self) -> bool
+        ensures { result ≡ list_any (λ w. w.machine.running) self.now.workers }
+    {
         self.workers.iter().any(|worker| worker.is_running())
     }
 
