@@ -34,8 +34,8 @@ use Rattle.bm_master.specs.KnownWorkers.{KnownView, first_of, owed_with}
 -- build is to be cancelled, and of which worker the lane is told that its program has ended.
 -- Whether something may be owed to a worker. How many ticks are still to be told, and whether those
 -- of the next wait count. Whether an event was taken that is handed in behind them. Whether all
--- programs are to end. Whether the builds that hold their slots are to be looked at, and how many of
--- the events that lay ready behind a look are still to be heard.
+-- programs are to end. Whether the builds that hold their slots are to be looked at. How many of
+-- the events that lay ready behind such a look are still to be heard.
 pub record MasterView : Type 0 where
   pub builds : BuildsView
   pub workers : List KnownView
