@@ -1,7 +1,9 @@
 """Processes that a script of this folder starts, and what they leave behind."""
 
 import os
+import signal
 import time
+from contextlib import suppress
 
 # What a script starts has this in its environment, and so has what that starts.
 MARK = ("STARTED_BY", f"{os.getpid()}-{time.time()}")
@@ -28,6 +30,15 @@ def marked():
     """All processes that were started here, directly or not, and run."""
     mark = "=".join(MARK).encode()
     return [pid for pid in all_processes() if mark in told_of(pid, "environ").split(b"\0")]
+
+
+def end_marked():
+    """Ends all processes that were started here. What they were."""
+    left = {pid: name_of(pid) for pid in marked()}
+    for pid in left:
+        with suppress(ProcessLookupError):
+            os.kill(pid, signal.SIGKILL)
+    return left
 
 
 def children_of(parent):

@@ -25,6 +25,9 @@ KINDS = {
 }
 # How long a file is looked at that isn't to grow. Each process writes sooner than that.
 STILL_SECONDS = 0.8
+# How long what a killed worker left is waited for that is to write on, and how often a part is played where
+# another worker of this user comes between.
+RUN_ON_SECONDS, MOST_PLAYS = 10, 5
 
 
 class Room:
@@ -78,6 +81,18 @@ def until(holds, why):
         time.sleep(0.01)
 
 
+def run_on(room, kinds):
+    """Whether all of these write on behind a killed worker. They don't where another worker of this user
+    has started since: it has ended what was left."""
+    before = {kind: room.size(kind) for kind in kinds}
+    end = time.monotonic() + RUN_ON_SECONDS
+    while not all(room.size(kind) > before[kind] for kind in kinds):
+        if time.monotonic() > end:
+            return False
+        time.sleep(0.01)
+    return True
+
+
 def configuration(room, kinds, more=""):
     """A worker and a build for each kind."""
     workers = ", ".join(f'{{ name = "{kind}", password = "p" }}' for kind in kinds)
@@ -98,22 +113,13 @@ def commands(kinds, more="", environment=()):
                 room.is_written(kinds)
                 yield room, master, hired
             finally:
-                ends_all()
+                processes.end_marked()
 
 
 def hires(master, name, environment=()):
     worker = subprocess.Popen([WORKER, master.address, name, "p"], env={**processes.environment(), **dict(environment)})
     master.workers.append(worker)
     return worker
-
-
-def ends_all():
-    """Ends what this script started and what is left of it."""
-    for pid in processes.marked():
-        try:
-            os.kill(pid, 9)
-        except ProcessLookupError:
-            pass
 
 
 def are_ended(master, kinds, result, header="hinterrupted"):
