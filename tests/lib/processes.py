@@ -46,6 +46,15 @@ def children_of(parent):
     return [pid for pid in all_processes() if told_of(pid, "stat").rpartition(b")")[2].split()[1:2] == [b"%d" % parent]]
 
 
+def state_of(pid):
+    """The letter of a process's state, as T of one that is stopped; nothing where it is gone."""
+    return told_of(pid, "stat").rpartition(b")")[2][1:2].decode()
+
+
+def is_running(pid):
+    return state_of(pid) not in ("", "Z", "X")
+
+
 def name_of(pid):
     return told_of(pid, "cmdline").replace(b"\0", b" ").decode(errors="replace")[:100]
 
