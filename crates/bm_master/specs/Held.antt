@@ -1,5 +1,5 @@
 -- The builds that hold their slots although they have their results.
-use Rattle.std.specs.Prelude.{◌≡◌, ℕ, ◌==◌, Bool, true, false, not, nat_lt, [], List, length, slice_get, slice_set, Option, Some, None}
+use Rattle.std.specs.Prelude.{◌≡◌, ◌⊎◌, ℕ, ◌==◌, Bool, true, false, not, nat_lt, [], ◌∷◌, ◌++◌, List, length, slice_get, slice_set, Option, Some, None}
 use Rattle.bm_build_queue.specs.HeldBuilds.{HeldState}
 use Rattle.bm_master.specs.declared.held_builds.StartedCommand.{StartedCommand}
 
@@ -27,6 +27,11 @@ is_of number None = false
 abbrev pub is_free : Option HeldState → Bool
 is_free (Some build) = not (nat_lt build.ended (length build.commands))
 is_free None = false
+
+-- The command is behind those that were started before it. Where memory is wanting it isn't noted.
+abbrev pub IsNotedIn : HeldView → HeldView → StartedCommand → Type 0
+IsNotedIn old new started =
+    (new ≡ old) ⊎ (new ≡ record old { started = old.started ++ started ∷ [] })
 
 -- The build was in this place, and was taken out of it. All else is as before.
 pub record IsTakenAt (old new : HeldView) (place : ℕ) (build : HeldState) : Type 0 where

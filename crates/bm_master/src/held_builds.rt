@@ -2,7 +2,7 @@
 
 ghost use Rattle.std.specs.Prelude.{◌≡◌, false, nat_lt, length, IfSome, position};
 ghost use Rattle.std.specs.List.{list_all, list_any};
-ghost use Rattle.bm_master.specs.Held.{IsTakenAt, IsTakenOut, is_free, is_of, is_vacant, no_held};
+ghost use Rattle.bm_master.specs.Held.{IsNotedIn, IsTakenAt, IsTakenOut, is_free, is_of, is_vacant, no_held};
 
 use bm_build_queue::HeldBuild;
 use bm_lane::{Viewer, Yard};
@@ -104,7 +104,7 @@ impl<Y: Yard> HeldBuilds<Y> {
     /// isn't held for the command. A start that then finds no room on the lane is tried again all
     /// the same.
     pub fn note(&mut self, build: u64, command: u64)
-        ensures { self.new.places ≡ self.old.places }
+        ensures { IsNotedIn self.old self.new (record { build = build; command = command }) }
     {
         let _ = self.started.push(StartedCommand { build, command });
     }
