@@ -65,13 +65,14 @@ class Room:
         grown = [kind for kind in kinds if self.size(kind) != before[kind]]
         assert not grown, f"what {grown} started writes on"
 
-    def becomes_still(self, kind):
-        """Waits until the file of a kind doesn't grow any more."""
-        end, before = time.monotonic() + MOST_SECONDS, -1
-        while self.size(kind) != before:
-            assert time.monotonic() < end, f"what {kind} started writes on"
-            before = self.size(kind)
+    def becomes_still(self, kinds):
+        """Waits until no file of these kinds grows any more."""
+        end, grown = time.monotonic() + MOST_SECONDS, kinds
+        while grown:
+            assert time.monotonic() < end, f"what {grown} started writes on"
+            before = {kind: self.size(kind) for kind in kinds}
             time.sleep(STILL_SECONDS)
+            grown = [kind for kind in kinds if self.size(kind) != before[kind]]
 
 
 def until(holds, why):
