@@ -8,7 +8,8 @@ use Rattle.bm_msg.specs.Messages.{IsMessage}
 use Rattle.bm_link.specs.declared.credentials.Credentials.{Credentials}
 use Rattle.bm_link.specs.declared.fault.LinkFault.{LinkFault}
 use Rattle.bm_link.specs.declared.fault.LinkFault.TheVariants.{BadMessage, Mem}
-use Rattle.bm_link.specs.Greeting.{IsAnswerOf, IsRefused, IsOther, AreOther, AreNoAnswer}
+use Rattle.bm_link.specs.declared.attaching.Attached.{Attached}
+use Rattle.bm_link.specs.Greeting.{IsAnswerOf, IsRefused, IsNoAnswer, IsAnswerIn, IsNoAnswerIn, AreAnswer, AreNoAnswer}
 use Rattle.bm_link.specs.Logins.{IsLoginOf, is_login, GivesNoLogin, AreLogin}
 
 ok-over : {T E : Type 0} (P Q : T → Type 0) → ((x : T) → P x → Q x) → (r : Result T E) → IfOk r P → IfOk r Q
@@ -52,6 +53,31 @@ gives_no_login bytes (Err f) bad fault = elim fault [
   | inr mem ↦ inr (inl mem)
 ]
 
+-- a message answers as its tree does
+module _ (t : Tree) (m : Meaning) (is : IsMessage t m) (only : (n : Meaning) → IsMessage t n → n ≡ m) where
+  pub answer_of_message : (r : Result Attached LinkFault) → IfOk r (IsAnswerOf m) → IfOk r (IsAnswerIn t)
+  answer_of_message r h = ok-over (IsAnswerOf m) (IsAnswerIn t) (λ a answers. (m, is, answers)) r h
+
+  no-answer : (f : LinkFault) → IsNoAnswer m f → IsNoAnswerIn t f
+  no-answer f (inl (bad, other)) = inr (inl (
+    bad,
+    (
+      (λ a x. other.0 a (subst (λ (n : Meaning). IsAnswerOf n a) (only x.0 x.1) x.2)),
+      (λ x. other.1 (subst (λ (n : Meaning). IsRefused n) (only x.0 x.1) x.2)),
+    ),
+  ))
+  no-answer f (inr (bad, refused)) = inr (inr (bad, (m, is, refused)))
+
+  pub no_answer_of_message : (r : Result Attached LinkFault) → IfErr r (IsNoAnswer m) → IfErr r (IsNoAnswerIn t)
+  no_answer_of_message r h = err-over (IsNoAnswer m) (IsNoAnswerIn t) no-answer r h
+
+-- a tree that is no message answers nothing
+pub no_answer_of_tree : (t : Tree) (f : LinkFault) → (f ≡ BadMessage) ⊎ (f ≡ Mem) → (f ≡ BadMessage → (m : Meaning) → ¬ IsMessage t m) → IsNoAnswerIn t f
+no_answer_of_tree t f fault none = elim fault [
+  | inl bad ↦ inr (inl (bad, ((λ a x. none bad x.0 x.1), (λ x. none bad x.0 x.1))))
+  | inr mem ↦ inl mem
+]
+
 -- bytes that spell no tree answer nothing
 pub no_answer_of_bytes : (bytes : List ℕ) (f : LinkFault) → (f ≡ BadMessage) ⊎ (f ≡ Mem) → (f ≡ BadMessage → (t : Tree) → Spells bytes t → ¬ (depth t ≤ 32))
     → AreNoAnswer bytes f
@@ -60,23 +86,24 @@ no_answer_of_bytes bytes f fault none = elim fault [
   | inr mem ↦ inl mem
 ]
 
-module _ (bytes : List ℕ) (v : Tree) (only : (t : Tree) → Spells bytes t → depth t ≤ 32 → t ≡ v) where
+-- bytes answer as the tree does that they spell
+module _ (bytes : List ℕ) (v : Tree) (spells : Spells bytes v) (flat : depth v ≤ 32) (only : (t : Tree) → Spells bytes t → depth t ≤ 32 → t ≡ v) where
   is-message : (t : Tree) (m : Meaning) → Spells bytes t → depth t ≤ 32 → IsMessage t m → IsMessage v m
   is-message t m s d is = subst (λ (x : Tree). IsMessage x m) (only t s d) is
 
-  -- nor do those of a tree that is no message
-  pub no_answer_of_tree : (f : LinkFault) → (f ≡ BadMessage) ⊎ (f ≡ Mem) → (f ≡ BadMessage → (m : Meaning) → ¬ IsMessage v m) → AreNoAnswer bytes f
-  no_answer_of_tree f fault none = elim fault [
-    | inl bad ↦ inr (inl (
-      bad,
-      ((λ a x. none bad x.1 (is-message x.0 x.1 x.2 x.3 x.4)), (λ x. none bad x.1 (is-message x.0 x.1 x.2 x.3 x.4))),
-    ))
-    | inr mem ↦ inl mem
-  ]
+  pub answer_of_spelled : (r : Result Attached LinkFault) → IfOk r (IsAnswerIn v) → IfOk r (AreAnswer bytes)
+  answer_of_spelled r h = ok-over (IsAnswerIn v) (AreAnswer bytes) (λ a x. (v, x.0, spells, flat, x.1, x.2)) r h
 
-  -- nor those of a message that answers neither so nor so
-  pub other_of_message : (m : Meaning) → ((n : Meaning) → IsMessage v n → n ≡ m) → IsOther m → AreOther bytes
-  other_of_message m same other = (
-    (λ a x. other.0 a (subst (λ (n : Meaning). IsAnswerOf n a) (same x.1 (is-message x.0 x.1 x.2 x.3 x.4)) x.5)),
-    (λ x. other.1 (subst (λ (n : Meaning). IsRefused n) (same x.1 (is-message x.0 x.1 x.2 x.3 x.4)) x.5)),
-  )
+  no-answer-spelled : (f : LinkFault) → IsNoAnswerIn v f → AreNoAnswer bytes f
+  no-answer-spelled f (inl mem) = inl mem
+  no-answer-spelled f (inr (inl (bad, other))) = inr (inl (
+    bad,
+    (
+      (λ a x. other.0 a (x.1, is-message x.0 x.1 x.2 x.3 x.4, x.5)),
+      (λ x. other.1 (x.1, is-message x.0 x.1 x.2 x.3 x.4, x.5)),
+    ),
+  ))
+  no-answer-spelled f (inr (inr (bad, (m, is, refused)))) = inr (inr (bad, (v, m, spells, flat, is, refused)))
+
+  pub no_answer_of_spelled : (r : Result Attached LinkFault) → IfErr r (IsNoAnswerIn v) → IfErr r (AreNoAnswer bytes)
+  no_answer_of_spelled r h = err-over (IsNoAnswerIn v) (AreNoAnswer bytes) no-answer-spelled r h

@@ -40,6 +40,21 @@ IsOther m = ((a : Attached) → ¬ IsAnswerOf m a) × ¬ IsRefused m
 abbrev pub IsNoAnswer : Meaning → LinkFault → Type 0
 IsNoAnswer m f = ((f ≡ BadMessage) × IsOther m) ⊎ ((f ≡ BadLogin) × IsRefused m)
 
+-- the tree is a message that tells this
+abbrev pub IsAnswerIn : Tree → Attached → Type 0
+IsAnswerIn t a = (m : Meaning) × IsMessage t m × IsAnswerOf m a
+
+-- the tree is an exception to the login
+abbrev pub IsRefusalIn : Tree → Type 0
+IsRefusalIn t = (m : Meaning) × IsMessage t m × IsRefused m
+
+-- why a tree is no answer: memory is wanting, it refuses the login, or it says something else
+abbrev pub IsNoAnswerIn : Tree → LinkFault → Type 0
+IsNoAnswerIn t f =
+    (f ≡ Mem)
+    ⊎ (((f ≡ BadMessage) × (((a : Attached) → ¬ IsAnswerIn t a) × ¬ IsRefusalIn t))
+    ⊎ ((f ≡ BadLogin) × IsRefusalIn t))
+
 -- the bytes spell such a message
 abbrev pub AreAnswer : List ℕ → Attached → Type 0
 AreAnswer bytes a =

@@ -35,7 +35,9 @@ pub mod Laws
 pub mod LawsOfFaults
 pub mod LawsOfTexts
 pub mod LawsOfSessions
--- This one only helps proofs: what a part of a call does. So do, of the others, `IsLimited`,
--- `Clears`, `unread_fault`, `is_login`, `IsLogin`, `AdmitsOrFails`, `IsKeptAs`, `ReadsNext`,
--- `GivesNext`, `HasNumber`, `items_of`, `Hears`, `ReadsMessage`, `HearsMessage` and `Responds`.
+-- These only help proofs: what a read gives, and what a part of a call does. So do, of the others,
+-- `IsLimited`, `Clears`, `GoesUp`, `unread_fault`, `is_login`, `IsLogin`, `AdmitsOrFails`,
+-- `IsKeptAs`, `ReadsNext`, `GivesNext`, `HasNumber`, `items_of`, `Hears`, `HearsBytes`,
+-- `HearsMessage`, `IsAnswerIn`, `IsRefusalIn`, `IsNoAnswerIn` and `Responds`.
+pub mod SocketReads
 pub mod Steps

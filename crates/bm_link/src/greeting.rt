@@ -6,19 +6,20 @@ ghost use Rattle.bm_value.specs.View.{tree};
 ghost use Rattle.bm_msg.specs.Meaning.{meaning};
 ghost use Rattle.bm_link.specs.declared.attaching.Attached.{Attached as How};
 ghost use Rattle.bm_link.specs.Causes.{FailsAtFirst};
-ghost use Rattle.bm_link.specs.Greeting.{auth_bytes, IsAnswerOf, IsNoAnswer, AreAnswer, AreNoAnswer, FailsToGreet, ReadsAnswer, Greets};
+ghost use Rattle.bm_link.specs.Greeting.{auth_bytes, IsAnswerOf, IsNoAnswer, IsAnswerIn, IsNoAnswerIn, AreAnswer, AreNoAnswer, FailsToGreet, ReadsAnswer, Greets};
 ghost use Rattle.bm_link.specs.Attaching.{IsAttached};
 
 use crate::attaching::Attached;
-use crate::fault::{LinkFault, fault_of};
+use crate::fault::LinkFault;
 use crate::parts::send;
 use crate::reading::{message_in, tree_in};
+use crate::socket::read_first;
 use bm_lines::Text;
 use bm_msg::{Message, Response, write_login};
 use bm_value::Value;
 use std::alloc::{AllocError, Global};
 use std::io::{Read, Write};
-use tungstenite::{MaskKeys, Message as Frame, WebSocket};
+use tungstenite::{MaskKeys, WebSocket};
 
 fn text_of(alloc: Global, text: Option<&str>) -> Result<Option<Text>, AllocError>
     ensures { IfOk result (λ t. t ≡ option_copied text.entry) }
@@ -95,20 +96,24 @@ fn answered(message: &Message) -> Result<Attached, LinkFault>
     attached_in(value)
 }
 
+/// How a tree answers the login.
+fn answer_in(alloc: Global, message: &Value<Global>) -> Result<Attached, LinkFault>
+    ensures answer { IfOk result (IsAnswerIn (tree message.now)) }
+    ensures fault { IfErr result (IsNoAnswerIn (tree message.now)) }
+{
+    match message_in(alloc, message) {
+        Ok(message) => answered(&message),
+        Err(fault) => Err(fault),
+    }
+}
+
 /// How the bytes of a message answer the login.
 fn answer_of_bytes(alloc: Global, bytes: &[u8]) -> Result<Attached, LinkFault>
     ensures answer { IfOk result (AreAnswer bytes.now) }
     ensures fault { IfErr result (AreNoAnswer bytes.now) }
 {
-    let tree = match tree_in(alloc, bytes) {
-        Ok(tree) => tree,
-        Err(fault) => return Err(fault),
-    };
-    match message_in(alloc, &tree) {
-        Ok(message) => match answered(&message) {
-            Ok(attached) => Ok(attached),
-            Err(fault) => Err(fault),
-        },
+    match tree_in(alloc, bytes) {
+        Ok(tree) => answer_in(alloc, &tree),
         Err(fault) => Err(fault),
     }
 }
@@ -122,18 +127,9 @@ fn read_answer<S: Read + Write + Drop, K: MaskKeys + Drop>(
     ensures fault { IfErr result
         (λ f. FailsAtFirst AreNoAnswer S.remaining S.contents socket.old f socket.new) }
 {
-    match socket.read() {
-        Ok(Frame::Binary(bytes)) => match answer_of_bytes(alloc, bytes.as_slice()) {
-            Ok(attached) => Ok(attached),
-            Err(fault) => Err(fault),
-        },
-        Ok(Frame::Close(_)) => {
-            // The answer to the close may not leave, since the link ends all the same.
-            let _ = socket.flush();
-            Err(LinkFault::Closed)
-        }
-        Ok(_) => Err(LinkFault::BadMessage),
-        Err(error) => Err(fault_of(&error)),
+    match read_first(socket) {
+        Ok(bytes) => answer_of_bytes(alloc, bytes.as_slice()),
+        Err(fault) => Err(fault),
     }
 }
 

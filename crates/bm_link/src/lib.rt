@@ -34,6 +34,7 @@ mod reading;
 mod received;
 mod requests;
 mod resume_state;
+mod socket;
 mod telling;
 mod texts;
 mod user;

@@ -8,8 +8,9 @@ ghost use Rattle.bm_msg.specs.Meaning.{meaning};
 ghost use Rattle.bm_link.specs.Logins.{is_login, IsLogin, IsLoginOf, AreLogin, GivesNoLogin, ReadsLogin, AdmitsOrFails};
 
 use crate::credentials::{Credentials, Named};
-use crate::fault::{LinkFault, fault_of};
+use crate::fault::LinkFault;
 use crate::reading::{message_in, reset, tree_in};
+use crate::socket::read_first;
 use crate::telling::send_refusal;
 use crate::user::{User, place_of};
 use bm_lines::Text;
@@ -18,7 +19,7 @@ use bm_value::Value;
 use bumpalo::Bump;
 use std::alloc::Global;
 use std::io::{Read, Write};
-use tungstenite::{Message as Frame, NoMask, WebSocket};
+use tungstenite::{NoMask, WebSocket};
 
 /// Why no user is let in. It has no `thiserror`: its crate makes another fault of it, and its text
 /// would be read by nobody.
@@ -107,18 +108,9 @@ fn read_login<S: Read + Write + Drop>(
     ensures fault { IfErr result
         (λ f. FailsAtFirst GivesNoLogin S.remaining S.contents socket.old f socket.new) }
 {
-    match socket.read() {
-        Ok(Frame::Binary(bytes)) => match login_of_bytes(alloc, arena, bytes.as_slice()) {
-            Ok(login) => Ok(login),
-            Err(fault) => Err(fault),
-        },
-        Ok(Frame::Close(_)) => {
-            // The answer to the close may not leave, since the link ends all the same.
-            let _ = socket.flush();
-            Err(LinkFault::Closed)
-        }
-        Ok(_) => Err(LinkFault::BadMessage),
-        Err(error) => Err(fault_of(&error)),
+    match read_first(socket) {
+        Ok(bytes) => login_of_bytes(alloc, arena, bytes.as_slice()),
+        Err(fault) => Err(fault),
     }
 }
 

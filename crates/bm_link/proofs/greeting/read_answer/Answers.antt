@@ -1,34 +1,24 @@
-use Rattle.std.proofs.Common.{rules, ◌≡◌, refl, sym, subst, inl, inr}
-use Rattle.tungstenite.specs.Content.{binary}
-use Rattle.tungstenite.specs.Socket.{content_of}
-use Rattle.tungstenite.specs.declared.message.Message.{Message}
-use Rattle.bm_link.specs.Causes.{IsCloseFrame}
-use Rattle.bm_link.specs.Parts.{ReadsOther}
+use Rattle.std.proofs.Common.{rules, ◌≡◌, subst, List, ℕ}
+use Rattle.bm_link.specs.Greeting.{AreAnswer, AreNoAnswer}
+use Rattle.bm_link.specs.SocketReads.{ReadsBinary}
+use Rattle.bm_link.proofs.SocketReads.{fails_before, fails_first, gives_first}
 use Rattle.bm_link.proofs.greeting.read_answer.Goals as goal
 
--- a binary message was read that is none
-pub returns-in-Ok-Binary-clause-fault : goal.returns-in-Ok-Binary-clause-fault
-returns-in-Ok-Binary-clause-fault g c =
-    let content : content_of c.in-Ok-Binary.field-0 ≡ binary c.as_slice.result.now = search rules in
-    inr (inr (inr (c.as_slice.result.now, c.in-Ok-Binary.field-0, c.in-Ok-Binary.ensures, content, c.in-Err-answer_of_bytes.ensures.fault)))
-
--- a close frame was read
-pub returns-in-Ok-Close-clause-fault : goal.returns-in-Ok-Close-clause-fault
-returns-in-Ok-Close-clause-fault g c = inr (inl (
-  c.in-Ok-Close.field-0,
-  c.read.new.self,
-  c.in-Ok-Close.ensures,
-  subst (λ (m : Message). IsCloseFrame m) (sym c.in-Ok-Close.field-0-is) tt,
-  c.flush.ensures.sent,
-  refl,
-))
-
--- a text, a ping or a pong was read
+-- a binary message was read
 pub returns-in-Ok : goal.returns-in-Ok
 returns-in-Ok g c =
-    let other : ReadsOther g.S.Read.remaining c.args.socket.now c.read.new.self = search rules in
-    record { answer = tt; fault = inr (inr (inl (other.0, other.1, other.2, refl))) }
+    let same : c.in-Ok.bytes ≡ c.as_slice.result.now = search rules in
+    let read = subst (λ (bs : List ℕ). ReadsBinary g.S.Read.remaining c.args.socket.now bs c.read_first.new.socket) same c.in-Ok.ensures.bytes in
+    record {
+      answer =
+          gives_first g.S.Read.remaining g.S.Write.contents c.args.socket.now c.read_first.new.socket AreAnswer AreNoAnswer
+          c.as_slice.result.now c.answer_of_bytes.result read c.answer_of_bytes.ensures.answer;
+      fault =
+          fails_first g.S.Read.remaining g.S.Write.contents c.args.socket.now c.read_first.new.socket AreAnswer AreNoAnswer
+          c.as_slice.result.now c.answer_of_bytes.result read c.answer_of_bytes.ensures.fault;
+    }
 
--- the socket failed
-pub returns-clause-fault : goal.returns-clause-fault
-returns-clause-fault g c = inl (c.in-Err.error, c.in-Err.ensures, c.fault_of.ensures)
+-- none was read
+pub returns-in-Err-clause-fault : goal.returns-in-Err-clause-fault
+returns-in-Err-clause-fault g c =
+    fails_before g.S.Read.remaining g.S.Write.contents c.args.socket.now c.read_first.new.socket AreAnswer AreNoAnswer c.in-Err.fault c.in-Err.ensures.fault
