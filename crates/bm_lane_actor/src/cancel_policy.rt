@@ -9,7 +9,7 @@ use crate::orders::is_left_out;
 use std::marker::Model;
 
 /// What comes to the policy of a build's cancels.
-#[derive(Clone, Copy, PartialEq, Eq)]
+#[derive(Clone, Copy)]
 pub enum CancelInput {
     /// A step was started. `is_set`: it always runs, and a cancel was taken back for it.
     Started { is_set: bool },
@@ -29,7 +29,7 @@ pub enum CancelInput {
 }
 
 /// What is then to be done.
-#[derive(Clone, Copy, PartialEq, Eq)]
+#[derive(Clone, Copy)]
 pub struct CancelActs {
     /// It is told that the build obeys a cancel.
     pub tells: bool,
@@ -40,7 +40,7 @@ pub struct CancelActs {
 }
 
 /// How far the interruption of a command has come.
-#[derive(Clone, Copy, PartialEq, Eq)]
+#[derive(Clone, Copy)]
 pub(crate) enum Interruption {
     NotWanted,
     /// It is to be ordered: memory was wanting for that.

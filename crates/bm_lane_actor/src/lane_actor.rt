@@ -11,6 +11,7 @@ use crate::lane_policy::{LaneInput, LanePolicy};
 use crate::lane_request::{LaneRequest, LaneSignal};
 use crate::lane_state::{Awaited, LaneState};
 use crate::mailbox::{Mailbox, NextRequest};
+use crate::placing::put;
 use crate::read_watch::ReadWatch;
 use crate::stop_orders::StopOrders;
 use crate::stream::WorkerStream;
@@ -117,7 +118,8 @@ where
     }
     actor.mailbox.shut();
     actor.follows(LaneInput::PutOff);
-    actor.leave()
+    actor.leave();
+    actor.into_reader()
 }
 
 impl<'a, Y, T, R> LaneActor<'a, Y, T, R>
@@ -254,7 +256,7 @@ where
             Err(fault) => self.note(before, loss_of(fault)),
         }
         if self.arena.allocated_bytes() > MOST_KEPT_BYTES {
-            self.arena = arena_of(self.alloc);
+            put(&mut self.arena, arena_of(self.alloc));
         }
     }
 
@@ -301,21 +303,22 @@ where
         self.note(before, why);
     }
 
-    /// Tells the worker that the master ends, gives the session up, and hands the lane's end back.
-    fn leave(self) -> ReaderEnd<Y> {
-        let rt = self.rt;
-        let gate = self.gate;
-        let place = self.place;
-        let mut state = self.state;
-        state.close();
-        for _ in rt.forever() {
-            let took = gate.took(place);
-            if state.give_up(rt) {
+    /// Tells the worker that the master ends, and gives the session up.
+    fn leave(&mut self) {
+        self.state.close();
+        for _ in self.rt.forever() {
+            let took = self.gate.took(self.place);
+            if self.state.give_up(self.rt) {
                 break;
             }
-            gate.wait_for_drain(place, took, Duration::from_millis(TICK_MS));
+            self.wait_for_place(took);
         }
-        gate.ring(place);
-        state.into_reader()
+        self.gate.ring(self.place);
+    }
+
+    /// Hands the lane's end back.
+    fn into_reader(self) -> ReaderEnd<Y> {
+        drop(self.waiting);
+        self.state.into_reader()
     }
 }

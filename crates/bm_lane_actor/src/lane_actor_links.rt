@@ -4,6 +4,7 @@ use crate::connection_state::ConnectionState;
 use crate::lane_actor::LaneActor;
 use crate::lane_event::{EventSink, LaneEvent, failed_login, greeting};
 use crate::lane_policy::{LaneActs, LaneInput, LinkAct, SecondAct};
+use crate::placing::put;
 use crate::stream::WorkerStream;
 use bm_lane::Yard;
 use bm_latent::millis;
@@ -55,12 +56,8 @@ where
         }
         match acts.second {
             SecondAct::Wait | SecondAct::Replace | SecondAct::Displace => {}
-            SecondAct::Admit => {
-                if let Some(link) = self.waiting.take() {
-                    self.admit(link);
-                }
-            }
-            SecondAct::Drop => self.waiting = None,
+            SecondAct::Admit => self.admit_waiting(),
+            SecondAct::Drop => put(&mut self.waiting, None),
             SecondAct::PutOff => self.put_off_waiting(),
         }
     }
@@ -108,16 +105,32 @@ where
         self.does(acts);
     }
 
-    /// A link comes. Where the lane is up it is looked first whether that still holds. One whose
-    /// arrivals the system doesn't tell is let go.
+    /// A link comes. One whose arrivals the system doesn't tell is let go.
     pub(crate) fn attach(&mut self, link: MasterLink<WorkerStream<R>>) {
-        let stream = link.get_ref();
-        if self.mailbox.watch(stream.connection()).is_err() {
-            let from = stream.from();
-            return self
-                .events
-                .tell(LaneEvent::Declined(LinkFault::Stream, from));
+        if !self.is_told_of(&link) {
+            return drop(link);
         }
+        match self.second_act(&link) {
+            SecondAct::Wait | SecondAct::Replace => self.put_waiting(link),
+            SecondAct::Displace => self.displace(link),
+            SecondAct::Admit | SecondAct::Drop | SecondAct::PutOff => self.admit(link),
+        }
+    }
+
+    /// Has the system tell what arrives by this link. False where it refuses that.
+    fn is_told_of(&mut self, link: &MasterLink<WorkerStream<R>>) -> bool {
+        let stream = link.get_ref();
+        let is_told = self.mailbox.watch(stream.connection()).is_ok();
+        if !is_told {
+            let event = LaneEvent::Declined(LinkFault::Stream, stream.from());
+            self.events.tell(event);
+        }
+        is_told
+    }
+
+    /// What is to be done with a link that comes. Where the lane is up it is looked first whether
+    /// that still holds.
+    fn second_act(&mut self, link: &MasterLink<WorkerStream<R>>) -> SecondAct {
         if self.is_up() {
             self.turn();
             self.watch();
@@ -129,22 +142,31 @@ where
         let now = self.now();
         let input = LaneInput::Login {
             is_up: self.is_up(),
-            is_own: self.state.names_kept(&link),
+            is_own: self.state.names_kept(link),
             is_first_own,
         };
         let acts = self.policy.step(input, now);
         if acts.link == LinkAct::Ping {
             self.ask();
         }
-        match acts.second {
-            SecondAct::Wait | SecondAct::Replace => self.waiting = Some(link),
-            SecondAct::Displace => {
-                if let Some(first) = self.waiting.take() {
-                    self.admit(first);
-                }
-                self.waiting = Some(link);
-            }
-            SecondAct::Admit | SecondAct::Drop | SecondAct::PutOff => self.admit(link),
+        acts.second
+    }
+
+    /// This link is the one that waits, from now on.
+    fn put_waiting(&mut self, link: MasterLink<WorkerStream<R>>) {
+        put(&mut self.waiting, Some(link));
+    }
+
+    /// This link waits in the place of the first, which is admitted.
+    fn displace(&mut self, link: MasterLink<WorkerStream<R>>) {
+        self.admit_waiting();
+        self.put_waiting(link);
+    }
+
+    /// The link that waits, if there is one, is admitted.
+    fn admit_waiting(&mut self) {
+        if let Some(link) = self.waiting.take() {
+            self.admit(link);
         }
     }
 
@@ -198,13 +220,13 @@ where
     /// A link that waits is told `busy`, since the master ends. It would else see an end without a
     /// word, and a text of its own would be one more exception of the protocol.
     fn put_off_waiting(&mut self) {
-        let Some(link) = self.waiting.take() else {
+        let Some(link) = &mut self.waiting else {
             return;
         };
-        let mut link = link;
         let from = link.get_ref().from();
         let fault = link.put_off(self.alloc);
         self.events.tell(LaneEvent::Declined(fault, from));
+        put(&mut self.waiting, None);
     }
 
     /// A count of what came from the worker by the lane's link.

@@ -15,7 +15,7 @@ use bm_session::Refusal;
 use std::net::SocketAddr;
 
 /// What the actor of a lane tells.
-#[derive(Clone, Copy, PartialEq, Eq)]
+#[derive(Clone, Copy)]
 pub enum LaneEvent {
     /// The worker logged in, and a session begins. Where its lane was cut, `Lost` comes before.
     Attached,

@@ -13,7 +13,7 @@ use bm_operator::LossCause;
 use std::marker::Model;
 
 /// What comes to the policy of a lane.
-#[derive(Clone, Copy, PartialEq, Eq)]
+#[derive(Clone, Copy)]
 pub enum LaneInput {
     /// It is looked whether the worker lives. `is_up`: the lane has a link. `came` counts what came
     /// by it, and `is_read` says that it was read until nothing came. `has_left`: the peer of the
@@ -75,7 +75,7 @@ pub enum SecondAct {
 }
 
 /// What a lane's actor is to do after an input.
-#[derive(Clone, Copy, PartialEq, Eq)]
+#[derive(Clone, Copy)]
 pub struct LaneActs {
     pub link: LinkAct,
     pub second: SecondAct,

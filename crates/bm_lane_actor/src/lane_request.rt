@@ -41,7 +41,7 @@ pub enum LaneRequest<S> {
 }
 
 /// What a lane's actor is told before the messages in its mailbox. Who tells it never waits.
-#[derive(Clone, Copy, PartialEq, Eq)]
+#[derive(Clone, Copy)]
 pub enum LaneSignal {
     /// Ask the worker to shut down: from then on its session isn't resumed.
     ShutDown,

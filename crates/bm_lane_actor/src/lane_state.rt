@@ -13,8 +13,9 @@ ghost use Rattle.bm_lane_actor.specs.LaneEvents.{connection_of};
 
 use crate::connection_state::ConnectionState;
 use crate::lane_event::connection_of;
-use crate::link_keeping::{decline, put, settle, take_up};
+use crate::link_keeping::{decline, settle, take_up};
 use crate::order_outcome::{OrderOutcome, interrupt_outcome, start_outcome, unlinked_outcome};
+use crate::placing::put;
 use crate::resume_timer::ResumeTimer;
 use bm_lane::{HearRefusal, ReaderEnd, Yard};
 use bm_lines::Text;
@@ -148,6 +149,7 @@ impl<Y: Yard, S> LaneState<Y, S> {
         S: Drop,
         ensures { result ≡ self.lane }
     {
+        drop(self.link);
         self.reader
     }
 }

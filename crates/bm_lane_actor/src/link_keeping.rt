@@ -7,6 +7,7 @@ ghost use Rattle.bm_lane_actor.specs.LaneStates.{counting, kept, renewed, timer_
 
 use crate::connection_state::ConnectionState;
 use crate::lane_event::connection_of;
+use crate::placing::put;
 use crate::resume_timer::ResumeTimer;
 use bm_lane::{ReaderEnd, Yard};
 use bm_link::{Attached, LinkFault, MasterLink, ResumeState};
@@ -36,7 +37,7 @@ fn keep<S: Drop>(link: &mut Option<MasterLink<S>>, connection: ConnectionState)
     ensures { link.new ≡ (if keeps_link connection then link.old else None) }
 {
     if !connection.keeps_link() {
-        *link = None;
+        put(link, None);
     }
 }
 
@@ -49,12 +50,6 @@ fn count(timer: &mut ResumeTimer, connection: ConnectionState)
         ConnectionState::Cut => timer.cut(),
         ConnectionState::Down => timer.begin(),
     }
-}
-
-pub(crate) fn put<S: Drop>(place: &mut Option<MasterLink<S>>, link: Option<MasterLink<S>>)
-    ensures { place.new ≡ link }
-{
-    *place = link;
 }
 
 /// After a login at a lane that had so many events: the count begins anew where it had more of
@@ -106,6 +101,7 @@ pub(crate) fn decline<Y: Yard, S: Read + Write + Drop, R: Wait>(
     let mut link = link;
     let answer = link.attach(rt, alloc, reader, resume_state);
     let _events = reader.trace();
+    drop(link);
     match answer {
         Err(fault) => fault,
         Ok(_) => unreachable!(),

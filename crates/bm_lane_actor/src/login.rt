@@ -1,9 +1,11 @@
 //! The login of a new connection: its handshake, and the hand-over to its lane.
 
 ghost use Rattle.std.specs.Prelude.{◌≡◌, IfOk, IfSome, slice_get};
+ghost use Rattle.bm_link.specs.Logins.{LogsInAt};
 ghost use Rattle.bm_lane_actor.specs.Login.{IsLoggedIn};
 
 use crate::mailbox::{HandOver, LaneHandle, handle_of};
+use crate::placing::put;
 use crate::stream::WorkerStream;
 use bm_lines::Text;
 use bm_link::{LinkFault, MasterLink, User};
@@ -36,6 +38,20 @@ fn stranger<S: Read + Write + Drop>(alloc: Global, link: &MasterLink<S>) -> Opti
     }
 }
 
+/// Reads the login by an arena of its own.
+fn read_login<S: Read + Write + Drop>(
+    alloc: Global,
+    link: &mut MasterLink<S>,
+    users: &[User],
+) -> Result<usize, LinkFault>
+    ensures { LogsInAt S.remaining S.contents users.now link.old.stage link.old.login link.old result
+        link.new }
+{
+    let mut arena = Bump::new(alloc);
+    arena.set_allocation_limit(Some(MOST_LOGIN_BYTES));
+    link.login(alloc, &mut arena, users)
+}
+
 /// Agrees on a WebSocket over the stream, and reads the login. `refused` becomes the name of one
 /// that is refused as one of no user.
 fn accept<S: Read + Write + Drop>(
@@ -50,12 +66,11 @@ fn accept<S: Read + Write + Drop>(
         Ok(link) => link,
         Err(fault) => return Err(fault),
     };
-    let mut arena = Bump::new(alloc);
-    arena.set_allocation_limit(Some(MOST_LOGIN_BYTES));
-    match link.login(alloc, &mut arena, users) {
+    match read_login(alloc, &mut link, users) {
         Ok(place) => Ok(LoggedIn { place, link }),
         Err(fault) => {
-            *refused = stranger(alloc, &link);
+            put(refused, stranger(alloc, &link));
+            drop(link);
             Err(fault)
         }
     }
@@ -66,6 +81,14 @@ fn name_of(users: &[User], place: usize) -> Option<Text>
     ensures { IfSome result (λ name. IfSome (slice_get users.now place) (λ u. name ≡ u.name)) }
 {
     users.get(place)?.name.copy().ok()
+}
+
+/// Tells a worker `busy`, and lets its link go.
+fn put_off<S: Read + Write + Drop>(alloc: Global, link: MasterLink<S>) -> LinkFault {
+    let mut link = link;
+    let fault = link.put_off(alloc);
+    drop(link);
+    fault
 }
 
 /// Hands the link of a worker that has logged in as one of these users to the actor of its own
@@ -90,13 +113,10 @@ fn hand_over<S: Read + Write + Drop, R: Wait + Clock>(
     let LoggedIn { place, link } = worker;
     let fault = match handle.attach(rt, link) {
         HandOver::Taken => return Ok(place),
-        HandOver::Back(link) => {
-            let mut link = link;
-            link.put_off(alloc)
-        }
+        HandOver::Back(link) => put_off(alloc, link),
         HandOver::Left => LinkFault::Closed,
     };
-    *refused = name_of(users, place);
+    put(refused, name_of(users, place));
     Err(fault)
 }
 
@@ -123,6 +143,7 @@ where
     R: Wait + Clock + Drop,
 {
     if stream.bound_calls().is_err() {
+        drop(stream);
         return Err(LinkFault::Stream);
     }
     let worker = match accept(alloc, stream, users, refused) {
@@ -130,10 +151,12 @@ where
         Err(fault) => return Err(fault),
     };
     let Some(handle) = handle_of(handles, worker.place) else {
+        drop(worker);
         return Err(LinkFault::Closed);
     };
     let stream = worker.link.get_ref();
     if stream.set_logged_in().is_err() {
+        drop(worker);
         return Err(LinkFault::Stream);
     }
     hand_over(rt, alloc, handle, users, worker, refused)

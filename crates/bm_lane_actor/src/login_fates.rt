@@ -4,7 +4,7 @@ ghost use Rattle.std.specs.Prelude.{◌≡◌};
 ghost use Rattle.bm_lane_actor.specs.LoginFates.{login_fate, waiting_fate};
 
 /// What becomes of a link that has logged in.
-#[derive(Clone, Copy, Debug, PartialEq, Eq)]
+#[derive(Clone, Copy)]
 pub enum LoginFate {
     /// It takes the lane up, or is told why not.
     Admit,
@@ -16,7 +16,7 @@ pub enum LoginFate {
 }
 
 /// What becomes of a link that waits.
-#[derive(Clone, Copy, Debug, PartialEq, Eq)]
+#[derive(Clone, Copy)]
 pub enum WaitingFate {
     /// It takes the lane up, or is told why not.
     Admit,

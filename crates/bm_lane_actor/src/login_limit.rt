@@ -15,7 +15,7 @@ use std::sync::{Arc, Mutex, Wait};
 pub const MOST_PENDING_LOGINS: u64 = 256;
 
 /// How one more connection comes in.
-#[derive(Clone, Copy, Debug, PartialEq, Eq)]
+#[derive(Clone, Copy)]
 pub(crate) enum LoginEntry {
     /// There is a place for it.
     Room,

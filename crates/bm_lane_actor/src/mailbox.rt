@@ -25,20 +25,27 @@ const MOST_REQUESTS: usize = 64;
 /// How long a link waits for room in a mailbox, in milliseconds.
 const ATTACH_MS: u64 = 1_000;
 
-/// Which signals were given, and not taken.
+/// What both ends of a mailbox share. Beside the waker these are the signals that were given and
+/// not taken.
 #[derive(Drop)]
-struct SignalFlags {
+struct SharedFlags {
     shut_down: AtomicBool,
     ended: AtomicBool,
     leave: AtomicBool,
+    /// Set once the actor has left.
+    is_shut: AtomicBool,
+    /// What wakes the actor.
+    waker: Waker,
 }
 
-impl SignalFlags {
-    fn new() -> SignalFlags {
-        SignalFlags {
+impl SharedFlags {
+    fn new(waker: Waker) -> SharedFlags {
+        SharedFlags {
             shut_down: AtomicBool::new(false),
             ended: AtomicBool::new(false),
             leave: AtomicBool::new(false),
+            is_shut: AtomicBool::new(false),
+            waker,
         }
     }
 
@@ -51,14 +58,42 @@ impl SignalFlags {
     }
 }
 
-/// What became of a link that was sent to a mailbox.
+/// What became of a message that was sent to a mailbox with a limit of time.
 #[derive(Drop)]
-pub(crate) enum HandOver<S> {
+pub(crate) enum HandOver<T> {
     Taken,
     /// The mailbox had no room for it.
-    Back(MasterLink<S>),
+    Back(T),
     /// The mailbox is shut, since its actor has left.
     Left,
+}
+
+/// Sends a message once there is room. False where its receiver is gone. It is generic, as
+/// `send_within` is: else its proof would take a request of each kind apart.
+fn is_sent<T: Drop, R: Wait>(rt: &R, sender: &Sender<T, Global>, message: T) -> bool {
+    sender.send(rt, message).is_ok()
+}
+
+/// Sends a message once there is room, within this time.
+fn send_within<T: Drop, R: Wait + Clock>(
+    rt: &R,
+    sender: &Sender<T, Global>,
+    message: T,
+    most: Duration,
+) -> HandOver<T> {
+    match sender.send_timeout(rt, message, most) {
+        Ok(()) => HandOver::Taken,
+        Err(SendTimeoutError::Timeout(message)) => HandOver::Back(message),
+        Err(_) => HandOver::Left,
+    }
+}
+
+/// What became of a link whose request has come back.
+fn handed_back<S: Drop>(request: LaneRequest<S>) -> HandOver<MasterLink<S>> {
+    match request {
+        LaneRequest::Attach(link) => HandOver::Back(link),
+        _ => HandOver::Left,
+    }
 }
 
 /// The end of a mailbox for those who send. Contracts see the number of its lane.
@@ -66,10 +101,7 @@ pub(crate) enum HandOver<S> {
 pub struct LaneHandle<S> {
     lane: u64,
     sender: Sender<LaneRequest<S>, Global>,
-    signals: Arc<SignalFlags, Global>,
-    /// Set once the actor has left.
-    is_shut: Arc<AtomicBool, Global>,
-    waker: Arc<Waker, Global>,
+    shared: Arc<SharedFlags, Global>,
 }
 
 impl<S> Model for LaneHandle<S> {
@@ -85,8 +117,7 @@ impl<S> Model for LaneHandle<S> {
 pub struct Mailbox<S> {
     lane: u64,
     receiver: Receiver<LaneRequest<S>, Global>,
-    signals: Arc<SignalFlags, Global>,
-    is_shut: Arc<AtomicBool, Global>,
+    shared: Arc<SharedFlags, Global>,
     arrivals: Arrivals,
 }
 
@@ -109,20 +140,16 @@ pub fn open_mailbox<S: Drop, N: Net>(
 {
     let (arrivals, waker) = open_arrivals(rt, alloc)?;
     let (sender, receiver) = bounded(alloc, MOST_REQUESTS).ok()?;
-    let is_shut = Arc::new(alloc, AtomicBool::new(false)).ok()?;
-    let signals = Arc::new(alloc, SignalFlags::new()).ok()?;
+    let shared = Arc::new(alloc, SharedFlags::new(waker)).ok()?;
     let handle = LaneHandle {
         lane,
         sender,
-        signals: Arc::try_clone(&signals).ok()?,
-        is_shut: Arc::try_clone(&is_shut).ok()?,
-        waker: Arc::new(alloc, waker).ok()?,
+        shared: Arc::try_clone(&shared).ok()?,
     };
     let mailbox = Mailbox {
         lane,
         receiver,
-        signals,
-        is_shut,
+        shared,
         arrivals,
     };
     Some((handle, mailbox))
@@ -146,7 +173,11 @@ pub fn open_mailboxes<S: Drop, N: Net>(rt: &N, alloc: Global, lanes: usize) -> O
         let Some((handle, mailbox)) = open_mailbox(rt, alloc, lane as u64) else {
             return None;
         };
-        if handles.push(handle).is_err() || mailboxes.push(mailbox).is_err() {
+        if handles.push(handle).is_err() {
+            drop(mailbox);
+            return None;
+        }
+        if mailboxes.push(mailbox).is_err() {
             return None;
         }
     }
@@ -169,9 +200,7 @@ impl<S: Drop> LaneHandle<S> {
         Ok(LaneHandle {
             lane: self.lane,
             sender: self.sender.clone()?,
-            signals: Arc::try_clone(&self.signals)?,
-            is_shut: Arc::try_clone(&self.is_shut)?,
-            waker: Arc::try_clone(&self.waker)?,
+            shared: Arc::try_clone(&self.shared)?,
         })
     }
 
@@ -185,42 +214,48 @@ impl<S: Drop> LaneHandle<S> {
     /// Sends the actor a request, once its mailbox has room. It answers false where the actor has
     /// left.
     pub fn tell<R: Wait>(&self, rt: &R, request: LaneRequest<S>) -> bool {
-        if self.is_shut() || self.sender.send(rt, request).is_err() {
+        if self.is_shut() {
+            drop(request);
             return false;
         }
-        self.wake();
-        true
+        let is_sent = is_sent(rt, &self.sender, request);
+        if is_sent {
+            self.wake();
+        }
+        is_sent
     }
 
     /// Wakes the actor, or has its next wait end at once.
     fn wake(&self) {
-        let _ = self.waker.wake();
+        let _ = self.shared.waker.wake();
     }
 
     /// Hands the actor a link that has logged in. It comes back where the mailbox has no room for
     /// a second.
-    pub(crate) fn attach<R: Wait + Clock>(&self, rt: &R, link: MasterLink<S>) -> HandOver<S> {
+    pub(crate) fn attach<R: Wait + Clock>(
+        &self,
+        rt: &R,
+        link: MasterLink<S>,
+    ) -> HandOver<MasterLink<S>> {
         if self.is_shut() {
+            drop(link);
             return HandOver::Left;
         }
         let most = Duration::from_millis(ATTACH_MS);
-        match self
-            .sender
-            .send_timeout(rt, LaneRequest::Attach(link), most)
-        {
-            Ok(()) => {
+        match send_within(rt, &self.sender, LaneRequest::Attach(link), most) {
+            HandOver::Taken => {
                 self.wake();
                 HandOver::Taken
             }
-            Err(SendTimeoutError::Timeout(LaneRequest::Attach(link))) => HandOver::Back(link),
-            Err(_) => HandOver::Left,
+            HandOver::Back(request) => handed_back(request),
+            HandOver::Left => HandOver::Left,
         }
     }
 
     /// Gives the actor a signal, and doesn't wait for it. Where the mailbox is full the actor looks
     /// at it all the same, after its next request. One that it has yet to take wakes it once.
     pub fn signal(&self, signal: LaneSignal) {
-        if !self.signals.flag(signal).swap(true, Ordering::SeqCst) {
+        if !self.shared.flag(signal).swap(true, Ordering::SeqCst) {
             self.wake();
         }
     }
@@ -243,7 +278,7 @@ impl<S: Drop> LaneHandle<S> {
     }
 
     fn is_shut(&self) -> bool {
-        self.is_shut.load(Ordering::SeqCst)
+        self.shared.is_shut.load(Ordering::SeqCst)
     }
 }
 
@@ -266,12 +301,12 @@ impl<S: Drop> Mailbox<S> {
 
     /// The actor leaves: from now on nobody who sends waits for it.
     pub(crate) fn shut(&self) {
-        self.is_shut.store(true, Ordering::SeqCst);
+        self.shared.is_shut.store(true, Ordering::SeqCst);
     }
 
     /// Whether the signal was given, told once.
     pub(crate) fn takes(&self, signal: LaneSignal) -> bool {
-        self.signals.flag(signal).swap(false, Ordering::SeqCst)
+        self.shared.flag(signal).swap(false, Ordering::SeqCst)
     }
 
     /// From now on a wait ends by what comes on this connection, or by its end.

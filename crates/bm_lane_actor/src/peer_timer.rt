@@ -23,7 +23,7 @@ const GLANCE_MS: u64 = 60_000;
 const WANTED_GLANCE_MS: u64 = 100;
 
 /// What is to be done about a worker.
-#[derive(Clone, Copy, Debug, PartialEq, Eq)]
+#[derive(Clone, Copy, PartialEq, Eq)]
 pub enum PeerAction {
     Nothing,
     /// It is asked for a sign of life.

@@ -7,7 +7,7 @@ use bm_link::{LinkFault, Turn};
 use std::marker::Model;
 
 /// What a read of a connection came to.
-#[derive(Clone, Copy, PartialEq, Eq)]
+#[derive(Clone, Copy)]
 pub(crate) enum LastRead {
     /// Bytes, or the stream's end.
     Gave,

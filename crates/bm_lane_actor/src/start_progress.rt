@@ -16,7 +16,7 @@ use std::sync::{Arc, Wait};
 use std::time::Clock;
 
 /// What a build does by the answer to one order.
-#[derive(Clone, Copy, PartialEq, Eq)]
+#[derive(Clone, Copy)]
 pub enum StartStep {
     /// The lane can't take the order now: it asks again once an item was drained, or a tick passed.
     AskAgain,
@@ -87,6 +87,22 @@ pub fn after_step(before: StartStage, step: StartStep) -> StartStage
     }
 }
 
+/// The order to start a step's command. None where memory is wanting.
+fn order_of(step: &StepPlan, cancelled: &CancelFlag, bytes: &ByteCount) -> Option<StartOrder> {
+    let cancelled = if step.always_run {
+        None
+    } else {
+        Some(Arc::try_clone(cancelled).ok()?)
+    };
+    let bytes = Arc::try_clone(bytes).ok()?;
+    let words = step.argv.copy().ok()?;
+    Some(StartOrder {
+        words,
+        bytes,
+        cancelled,
+    })
+}
+
 /// What the actor answers to a start; `Refused` where it has left. None where memory is wanting.
 fn try_start<S: Drop, R: Wait + Clock>(
     rt: &R,
@@ -96,16 +112,8 @@ fn try_start<S: Drop, R: Wait + Clock>(
     cancelled: &CancelFlag,
     bytes: &ByteCount,
 ) -> Option<OrderOutcome> {
+    let order = order_of(step, cancelled, bytes)?;
     let (answer, answers) = bounded(alloc, 1).ok()?;
-    let order = StartOrder {
-        words: step.argv.copy().ok()?,
-        bytes: Arc::try_clone(bytes).ok()?,
-        cancelled: if step.always_run {
-            None
-        } else {
-            Some(Arc::try_clone(cancelled).ok()?)
-        },
-    };
     if !handle.tell(rt, LaneRequest::Start(order, answer)) {
         return Some(OrderOutcome::Refused);
     }
