@@ -11,7 +11,6 @@ use crate::lane_policy::{LaneInput, LanePolicy};
 use crate::lane_request::{LaneRequest, LaneSignal};
 use crate::lane_state::{Awaited, LaneState};
 use crate::mailbox::{Mailbox, NextRequest};
-use crate::placing::put;
 use crate::read_watch::ReadWatch;
 use crate::stop_orders::StopOrders;
 use crate::stream::WorkerStream;
@@ -256,7 +255,7 @@ where
             Err(fault) => self.note(before, loss_of(fault)),
         }
         if self.arena.allocated_bytes() > MOST_KEPT_BYTES {
-            put(&mut self.arena, arena_of(self.alloc));
+            self.arena = arena_of(self.alloc);
         }
     }
 

@@ -7,8 +7,8 @@
 //! calls builds. What an actor decides is in [`LaneState`] and [`LanePolicy`], what a port decides
 //! in `CancelPolicy` and [`StepMeter`].
 //!
-//! A large value is dropped by a call of `drop`, also where it would be dropped without one: else
-//! the proof takes it apart in each such place.
+//! A large value is dropped by a call of `drop`, also at the end of a function. Else the proof
+//! takes it apart in each such place.
 //!
 //! Promised: what each call of it does to lane, link and timers, and that the orders without an
 //! answer are those sent again. The loops round it have no clauses: a body could still wait too

@@ -13,7 +13,6 @@ use crate::drain_gate::DrainGate;
 use crate::lane_request::{CancelFlag, LaneRequest};
 use crate::mailbox::LaneHandle;
 use crate::orders::{interrupt, start, wait_until_told};
-use crate::placing::put;
 use crate::port_log::{header_in, is_lost, polled};
 use crate::port_tick::{left_of_tick, next_tick};
 use crate::seen_flag::SeenFlag;
@@ -217,7 +216,7 @@ impl<'a, Y: Yard, S: Drop, R: Wait + Clock + Drop, W: Watch + Drop> LanePort<'a,
             }
         };
         self.meter = StepMeter::new(step.max_bytes, step.timeout_ticks, step.silent_ticks);
-        put(&mut self.bytes, Some(bytes));
+        self.bytes = Some(bytes);
         self.tick_began = None;
         match self.entries.begin(command) {
             Ok(()) => {}
