@@ -38,10 +38,12 @@ impl<S: Read + Write + Drop, K: MaskKeys + Drop> BuildWorker<S, K> {
         session: Option<&str>,
         marks: Marks,
     ) -> Result<BuildWorker<S, K>, AllocError> {
+        let texts = SessionTexts::new(alloc, session)?;
+        let processes = Processes::new(alloc, marks)?;
         Ok(BuildWorker {
             session: WorkerSession::new(alloc),
-            texts: SessionTexts::new(alloc, session)?,
-            processes: Processes::new(alloc, marks)?,
+            texts,
+            processes,
             tries: Tries::new(),
         })
     }

@@ -4,7 +4,7 @@ ghost use Rattle.std.specs.Prelude.{◌≡◌, ◌++◌, OnOk, position};
 ghost use Rattle.bm_commands.specs.Queues.{IsOwn, stepped};
 ghost use Rattle.bm_commands.specs.declared.values.Input.TheVariants.{Turn};
 ghost use Rattle.bm_outbox.specs.Opening.{waiting_texts};
-ghost use Rattle.bm_worker_threads.specs.Turns.{KeepsBy, TakesText, TellsBy, TellsText, first_text, is_of, part_of, without};
+ghost use Rattle.bm_worker_threads.specs.Turns.{KeepsBy, TakesText, TellsBy, TellsText, first_text, is_of, part_of, texts_of, without};
 
 use crate::host::Host;
 use crate::process_parts::{ProcessParts, place_of};
@@ -102,12 +102,22 @@ impl Processes {
                 push_text(command, said, outbox)
             }
             Effect::TellEnd(process, command, end) => {
-                if let Some(part) = self.take_part(process) {
-                    push_texts(command, part.texts, outbox)?;
-                }
+                let texts = self.take_texts(alloc, process);
+                push_texts(command, texts, outbox)?;
                 outbox.end(alloc, command, end)
             }
             _ => Ok(()),
+        }
+    }
+
+    /// Takes out what belongs to a process, and answers the texts that were kept of it.
+    fn take_texts(&mut self, alloc: Global, process: u64) -> VecDeque<Said>
+        ensures texts { result.items ≡ texts_of (part_of process self.old.parts.items) }
+        ensures kept { self.new.parts.items ≡ without process self.old.parts.items }
+    {
+        match self.take_part(process) {
+            Some(mut part) => part.take_texts(alloc),
+            None => VecDeque::new(alloc),
         }
     }
 

@@ -76,7 +76,7 @@ impl<S: Read + Write + Drop, K: MaskKeys + Drop> BuildWorker<S, K> {
                 Ok((Turn::Quiet, _)) => break,
                 Ok((turn, act)) => {
                     self.counts(turn);
-                    self.does(rt, alloc, act)?;
+                    self.does(rt, alloc, &act)?;
                 }
                 Err(_) if self.session.is_closed() => return Err(ConnectionEnd::Closed),
                 Err(_) => return Err(ConnectionEnd::Lost),
@@ -96,14 +96,14 @@ impl<S: Read + Write + Drop, K: MaskKeys + Drop> BuildWorker<S, K> {
         }
     }
 
-    fn does<R: Host>(&mut self, rt: &R, alloc: Global, act: WorkAct) -> Result<(), ConnectionEnd> {
+    fn does<R: Host>(&mut self, rt: &R, alloc: Global, act: &WorkAct) -> Result<(), ConnectionEnd> {
         let outbox = &mut self.session.outbox;
         let done = match act {
             WorkAct::Run { command, argv } => {
-                self.processes.run(rt, alloc, command, &argv, outbox)
+                self.processes.run(rt, alloc, *command, argv, outbox)
             }
             WorkAct::Interrupt(command) => {
-                self.processes.put(rt, alloc, Input::Interrupt(command))
+                self.processes.put(rt, alloc, Input::Interrupt(*command))
             }
             WorkAct::Shutdown => return Err(ConnectionEnd::Shutdown),
             _ => Ok(()),

@@ -1,6 +1,8 @@
 //! What the worker waits for.
 
 use bm_outbox::{Keepalive, PipeEnd, Said};
+use crossbeam_channel::Sender;
+use std::sync::Wait;
 
 /// What the thread of a pipe tells of it.
 #[derive(Drop)]
@@ -30,4 +32,12 @@ pub enum WorkerMail {
     Readable(u64),
     /// The connection with this number is silent, and this is to be done about it.
     Silent(u64, Keepalive),
+}
+
+/// Puts mail before its owner. False where nobody hears it any more.
+pub(crate) fn send<R: Wait>(rt: &R, owner: &Sender<WorkerMail>, mail: WorkerMail) -> bool {
+    match owner.send(rt, mail) {
+        Ok(()) => true,
+        Err(_) => false,
+    }
 }

@@ -3,7 +3,7 @@
 ghost use Rattle.std.specs.Prelude.{MatchOption};
 ghost use Rattle.std.specs.Io.KnownBytes.{Consumes, Keeps};
 
-use crate::mailbox::{PipeEvent, ProcessEvent, WorkerMail};
+use crate::mailbox::{PipeEvent, ProcessEvent, WorkerMail, send};
 use bm_lines::Letter;
 use bm_outbox::{PipeEnd, PipeTexts, Said};
 use crossbeam_channel::{Receiver, Sender};
@@ -81,7 +81,7 @@ impl PipeReader {
             process: self.process,
             event,
         };
-        self.owner.send(rt, WorkerMail::Process(told)).is_ok()
+        send(rt, &self.owner, WorkerMail::Process(told))
     }
 }
 

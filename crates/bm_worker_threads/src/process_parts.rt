@@ -8,7 +8,9 @@ use crate::sweeping::Sweeper;
 use bm_commands::{ChildState, ProcessLook};
 use bm_outbox::{Said, Sweep};
 use crossbeam_channel::Sender;
+use std::alloc::Global;
 use std::collections::VecDeque;
+use std::mem;
 use std::process::Child;
 
 /// What belongs to a process of the worker. Where its command stands says its row of the machine.
@@ -25,6 +27,13 @@ pub(crate) struct ProcessParts {
 }
 
 impl ProcessParts {
+    /// Takes its texts that were kept.
+    pub(crate) fn take_texts(&mut self, alloc: Global) -> VecDeque<Said>
+        ensures { result ≡ self.old.texts }
+    {
+        mem::replace(&mut self.texts, VecDeque::new(alloc))
+    }
+
     /// What a look shows of it. A process that can't be asked has ended.
     pub(crate) fn look<R: Host>(&mut self, rt: &R) -> ProcessLook {
         let sweep = match &mut self.sweeper {

@@ -75,8 +75,7 @@ impl SessionTexts {
         if !self.wants_next() {
             return Ok(None);
         }
-        let text = new_session(rt)?;
-        Ok(Some(Text::from_str(rt.alloc(), text.as_str())?))
+        Ok(Some(Text::from_string(new_session(rt)?)))
     }
 
     /// A login that named this next session was answered so. Where a session began by it, that one

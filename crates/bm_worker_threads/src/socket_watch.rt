@@ -3,7 +3,7 @@
 ghost use Rattle.std.specs.Prelude.{◌≡◌};
 ghost use Rattle.bm_worker_threads.specs.Connections.{is_of_silence};
 
-use crate::mailbox::WorkerMail;
+use crate::mailbox::{WorkerMail, send};
 use bm_outbox::{Keepalive, after_silence};
 use crossbeam_channel::{Receiver, Sender};
 use std::io::ErrorKind;
@@ -63,7 +63,7 @@ impl<S: OpenStream + Drop> SocketWatch<S> {
 
     /// False where nobody hears it.
     fn tell<R: Wait>(&self, rt: &R, mail: WorkerMail) -> bool {
-        self.owner.send(rt, mail).is_ok()
+        send(rt, &self.owner, mail)
     }
 }
 

@@ -73,33 +73,48 @@ where
 
 /// A process of these words with an empty input, and with pipes for its output and its errors; or
 /// why it can't be started. Its environment is the worker's, with this mark.
-fn started_once<R>(rt: &R, alloc: Global, words: &[Text], mark: &str) -> Result<Child, StartFault>
-where
-    R: Host,
-{
-    let Ok(mut command) = command_of(alloc, words) else {
-        return Err(StartFault::NoMemory);
-    };
-    if command.env(VARIABLE, mark).is_err() {
-        return Err(StartFault::NoMemory);
+fn started_once<R: Host>(
+    rt: &R,
+    alloc: Global,
+    words: &[Text],
+    mark: &str,
+) -> Result<Child, StartFault> {
+    match command_of(alloc, words, mark) {
+        Ok(mut command) => spawned(rt, &mut command),
+        Err(_) => Err(StartFault::NoMemory),
     }
-    command.stdin(Stdio::null());
-    command.stdout(Stdio::piped());
-    command.stderr(Stdio::piped());
+}
+
+/// The process of a command, or why it can't be started.
+fn spawned<R: Host>(rt: &R, command: &mut Command) -> Result<Child, StartFault> {
     match command.spawn(rt) {
         Ok(child) => Ok(child),
         Err(error) => Err(StartFault::of(&error)),
     }
 }
 
-/// The command of these words. One without words has no program.
-fn command_of(alloc: Global, words: &[Text]) -> Result<Command, AllocError> {
-    let Some((first, rest)) = words.split_first() else {
-        return Command::new(alloc, "");
-    };
-    let mut command = Command::new(alloc, first.as_str())?;
-    for word in rest {
+/// The command of these words and this mark. One without words has no program.
+fn command_of(alloc: Global, words: &[Text], mark: &str) -> Result<Command, AllocError> {
+    let mut command = Command::new(alloc, program_of(words))?;
+    fill(&mut command, words, mark)?;
+    Ok(command)
+}
+
+fn program_of(words: &[Text]) -> &str {
+    match words.first() {
+        Some(first) => first.as_str(),
+        None => "",
+    }
+}
+
+/// Gives a command its streams, its mark, and the words behind the first one.
+fn fill(command: &mut Command, words: &[Text], mark: &str) -> Result<(), AllocError> {
+    command.stdin(Stdio::null());
+    command.stdout(Stdio::piped());
+    command.stderr(Stdio::piped());
+    command.env(VARIABLE, mark)?;
+    for word in words.iter().skip(1) {
         command.arg(word.as_str())?;
     }
-    Ok(command)
+    Ok(())
 }

@@ -252,14 +252,20 @@ fn unstarted(error: &io::Error) -> Sweep
 /// A shell that sweeps with these words.
 fn script(alloc: Global, words: &[&str]) -> Result<Command, AllocError> {
     let mut command = Command::new(alloc, "/bin/sh")?;
-    command.arg("-c")?;
-    command.arg(SWEEP)?;
-    command.arg("sweep")?;
-    for word in words {
-        command.arg(*word)?;
-    }
+    fill(&mut command, words)?;
+    Ok(command)
+}
+
+/// Gives a shell its script with these words, and no streams.
+fn fill(command: &mut Command, words: &[&str]) -> Result<(), AllocError> {
     command.stdin(Stdio::null());
     command.stdout(Stdio::null());
     command.stderr(Stdio::null());
-    Ok(command)
+    for word in ["-c", SWEEP, "sweep"] {
+        command.arg(word)?;
+    }
+    for word in words {
+        command.arg(*word)?;
+    }
+    Ok(())
 }
