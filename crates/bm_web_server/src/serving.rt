@@ -1,12 +1,12 @@
 //! Serves until it is told to stop.
 ghost use Rattle.std.specs.Prelude.{◌<◌};
 
-use crate::admission::{Admission, PauseSink};
+use crate::admission::{Admission, Entrance, PauseSink};
 use crate::connections::Connections;
 use crate::handler::Handler;
 use futures::StreamExt;
 use hyper::rt::TokioTimer;
-use hyper::server::conn::http1;
+use hyper::server::conn::http1::Builder;
 use std::alloc::AllocGlobal;
 use std::hash::RandomState;
 use std::net::Net;
@@ -15,9 +15,9 @@ use std::sync::{Arc, Wait};
 use std::thread::Threads;
 use std::time::{Clock, Duration};
 use std::{io, net};
-use tokio::net::TcpListener;
 use tokio::runtime::Runtime;
-use tokio::sync::{Semaphore, oneshot};
+use tokio::sync::oneshot;
+use tokio::time::Handle;
 
 /// How many milliseconds connections may go on after the stop.
 const GRACE_MS: u64 = 200;
@@ -58,34 +58,35 @@ where
     P: PauseSink + Send + Sync,
     requires { 0 < limits.workers }
 {
-    let alloc = rt.alloc();
     let mut runtime = Runtime::with_worker_threads(&rt, limits.workers)?;
     runtime.set_shutdown_timeout(Some(Duration::from_millis(GRACE_MS)));
-    let listener = TcpListener::from_std(listener, runtime.handle().reactor())?;
-    let timers = runtime.handle().time().clone()?;
-    let pause = timers.sleep(&rt, Duration::from_millis(GRACE_MS))?;
-    let mut http = http1::Builder::new(alloc, RandomState::new(&rt)?).timer(TokioTimer::new(
-        rt,
-        timers.clone()?,
-    ));
-    http.header_read_timeout(Some(limits.idle));
-    http.max_buf_size(BUFFERED);
-    // Who has asked may close its side, and still gets the answer.
-    http.half_close(true);
-    let places = limits.connections.min(Semaphore::MAX_PERMITS);
+    let entrance = Entrance::open(&rt, listener, limits.connections, runtime.handle())?;
+    let http = http_settings(rt, runtime.handle().time(), limits.idle)?;
     let admission = Admission {
         rt,
-        alloc,
-        incoming: listener.incoming(),
+        alloc: rt.alloc(),
+        entrance,
         service,
-        places: Arc::new(alloc, Semaphore::new(alloc, places)?)?,
-        timers,
         stalled: limits.stalled,
-        pause,
         is_pausing: false,
         sink,
         is_told: false,
     };
     let connections = Connections::new(admission.take_until(stop), http);
     runtime.run_all(&rt, connections)
+}
+
+/// How a connection is served, which may take so long over a request's head.
+fn http_settings<R>(rt: R, timers: &Handle, idle: Duration) -> io::Result<Builder<TokioTimer<R>>>
+where
+    R: Clock + RandomSource + AllocGlobal + Copy,
+{
+    let keys = RandomState::new(&rt)?;
+    let timer = TokioTimer::new(rt, timers.clone()?);
+    let mut http = Builder::new(rt.alloc(), keys).timer(timer);
+    http.header_read_timeout(Some(idle));
+    http.max_buf_size(BUFFERED);
+    // Who has asked may close its side, and still gets the answer.
+    http.half_close(true);
+    Ok(http)
 }
