@@ -124,7 +124,8 @@ policy_after (Look up came read left) now p = look_after up came read left now p
 policy_after (Login up own first_own) now p = login_after up own now p
 policy_after (Attached came) now p = record p { peer = started came now; why = cause.Expired }
 policy_after ShutDown now p = record p { why = cause.Dismissed }
-policy_after (Ended up) now p = asked up now (record p { why = cause.Ended })
+policy_after (Ended up came) now p =
+    asked up now (record p { peer = heard_at came now p.peer; why = cause.Ended })
 policy_after PutOff now p = record p { waits = false }
 
 -- what is then to be done
@@ -133,5 +134,5 @@ acts_of (Look up came read left) now p = look_acts up came read left now p
 acts_of (Login up own first_own) now p = login_acts up own first_own p
 acts_of (Attached came) now p = does link.Nothing second.Wait
 acts_of ShutDown now p = does link.Nothing second.Wait
-acts_of (Ended up) now p = does (if up then link.Ping else link.Nothing) second.Wait
+acts_of (Ended up came) now p = does (if up then link.Ping else link.Nothing) second.Wait
 acts_of PutOff now p = put_off_acts p

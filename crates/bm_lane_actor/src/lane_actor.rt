@@ -178,7 +178,8 @@ where
         }
     }
 
-    /// Signals come before each request that lies in the mailbox.
+    /// Signals come before each request that lies in the mailbox. What lies ready of a worker whose
+    /// process has ended is read before it is asked, since that is no answer.
     fn takes_signals(&mut self) {
         if self.mailbox.takes(LaneSignal::ShutDown) {
             self.follows(LaneInput::ShutDown);
@@ -187,8 +188,11 @@ where
             self.expire();
         }
         if self.mailbox.takes(LaneSignal::Ended) {
-            let is_up = self.is_up();
-            self.follows(LaneInput::Ended { is_up });
+            if self.is_up() {
+                self.turn();
+            }
+            let (is_up, came) = (self.is_up(), self.came());
+            self.follows(LaneInput::Ended { is_up, came });
             self.state.dismiss();
             self.reads.told();
             self.expire();

@@ -230,7 +230,7 @@ where
     }
 
     /// A count of what came from the worker by the lane's link.
-    fn came(&self) -> u64 {
+    pub(crate) fn came(&self) -> u64 {
         match self.state.stream() {
             Some(stream) => stream.heard(),
             None => 0,

@@ -37,9 +37,10 @@ pub enum LaneInput {
     },
     /// The worker was told to shut down.
     ShutDown,
-    /// The worker's process has ended.
+    /// The worker's process has ended. `came`: the count of what came from the worker until now.
     Ended {
         is_up: bool,
+        came: u64,
     },
     /// The master ends.
     PutOff,
@@ -150,8 +151,10 @@ impl LanePolicy {
                 self.why = LossCause::Dismissed;
                 self.nothing()
             }
-            LaneInput::Ended { is_up } => {
+            LaneInput::Ended { is_up, came } => {
                 self.why = LossCause::Ended;
+                // What came before is no answer.
+                self.peer.hear(came, now);
                 self.ask(is_up, now)
             }
             LaneInput::PutOff => self.put_off(),

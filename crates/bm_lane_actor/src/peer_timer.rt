@@ -72,7 +72,7 @@ impl PeerTimer {
     }
 
     /// The count stands so: where it has changed the worker lives, and nobody waits for it.
-    fn hear(&mut self, count: u64, now: u64)
+    pub fn hear(&mut self, count: u64, now: u64)
         ensures { self.new ≡ heard_at count now self.old }
     {
         if self.count != count {
