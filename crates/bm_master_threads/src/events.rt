@@ -97,21 +97,34 @@ impl<Y: Yard> EventSender<Y> {
     /// Tells the coordinator. Where memory is wanting it is tried again after a while. So no event
     /// is lost but those that come after the coordinator has left.
     pub fn tell<R: Wait + Clock>(&self, rt: &R, event: MasterEvent<Y>) {
-        let mut event = event;
-        for _ in rt.forever() {
-            match self.sender.send(rt, event) {
-                Ok(()) => return,
-                Err(error) if error.is_disconnected() => return,
-                Err(error) => event = error.into_inner(),
-            }
-            thread::sleep(rt, Duration::from_millis(PAUSE_MS));
-        }
+        send_at_last(rt, &self.sender, event);
     }
 
     /// Tells the coordinator at once. False where memory is wanting, or it has left: then it isn't
     /// told.
     pub fn try_tell<R: Wait>(&self, rt: &R, event: MasterEvent<Y>) -> bool {
         self.sender.send(rt, event).is_ok()
+    }
+}
+
+// Sends a message. It comes back where memory is wanting. It is generic: else its proof would take
+// an event of each kind apart.
+fn unsent<T: Drop, R: Wait>(rt: &R, sender: &Sender<T, Global>, message: T) -> Option<T> {
+    match sender.send(rt, message) {
+        Err(error) if !error.is_disconnected() => Some(error.into_inner()),
+        _ => None,
+    }
+}
+
+// Sends a message, again after a while where memory is wanting.
+fn send_at_last<T: Drop, R: Wait + Clock>(rt: &R, sender: &Sender<T, Global>, message: T) {
+    let mut left = unsent(rt, sender, message);
+    for _ in rt.forever() {
+        let Some(message) = left else {
+            return;
+        };
+        thread::sleep(rt, Duration::from_millis(PAUSE_MS));
+        left = unsent(rt, sender, message);
     }
 }
 

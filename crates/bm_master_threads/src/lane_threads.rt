@@ -1,12 +1,16 @@
 //! The threads that serve lanes: their actors, the pool that drains them, and the acceptor of
 //! workers' connections.
 
+use crate::acceptor::accept_connections;
 use crate::events::{EventSender, MasterEvent};
+use crate::host::MasterHost;
 use crate::shared_state::SharedState;
+use crate::sockets::SocketEvents;
 use bm_lane::{Gate, Pass, ReaderEnd, Yard, writers};
 use bm_lane_actor::{
     EventSink, LaneEvent, LaneSignal, LaneState, Mailbox, WorkerStream, serve_lane,
 };
+use std::net::TcpListener;
 use std::sync::Wait;
 use std::sync::atomic::Ordering;
 use std::thread::{JoinHandle, Scope, Threads};
@@ -51,8 +55,8 @@ where
         .ok()
 }
 
-/// Starts the lanes' actors. `actors` has room for so many. The answer is whether all were started.
-pub fn start_actors<'s, E, Y, R>(
+// Starts the lanes' actors. The answer is whether all were started.
+fn start_actors<'s, E, Y, R>(
     scope: &Scope<'s, E>,
     shared: &'s SharedState<Y, R>,
     states: Vec<LaneState<Y, WorkerStream<R>>>,
@@ -63,6 +67,9 @@ where
     Y: Yard + Send + Sync + 's,
     R: Wait + Clock + Threads + Drop + Send + Sync + 's,
 {
+    if actors.reserve(states.len()).is_err() {
+        return false;
+    }
     let mut mailboxes = mailboxes.into_iter();
     for state in states {
         let Some(mailbox) = mailboxes.next() else {
@@ -76,6 +83,34 @@ where
         }
     }
     true
+}
+
+/// Starts the threads that serve lanes. The answer is also whether all were started.
+pub fn start_lanes<'s, E, Y, R>(
+    scope: &Scope<'s, E>,
+    shared: &'s SharedState<Y, R>,
+    states: Vec<LaneState<Y, WorkerStream<R>>>,
+    mailboxes: Vec<Mailbox<WorkerStream<R>>>,
+    workers: TcpListener,
+    sockets: SocketEvents,
+) -> (LaneThreads<Y>, bool)
+where
+    Y: Yard + Send + Sync + 's,
+    R: MasterHost + 's,
+{
+    let pool = scope.spawn(move || drain_lanes(shared)).ok();
+    let mut actors = Vec::new(shared.alloc);
+    let have_started = start_actors(scope, shared, states, mailboxes, &mut actors);
+    let acceptor = scope
+        .spawn(move || accept_connections(shared, workers, sockets))
+        .ok();
+    let are_started = have_started && pool.is_some() && acceptor.is_some();
+    let threads = LaneThreads {
+        pool,
+        actors,
+        acceptor,
+    };
+    (threads, are_started)
 }
 
 /// Drains the lanes until the gate says stop. Where the pool's writers can't be started this thread
@@ -115,11 +150,6 @@ pub struct LaneThreads<Y: Yard> {
 }
 
 impl<Y: Yard> LaneThreads<Y> {
-    /// Whether the pool and the acceptor were started.
-    pub fn are_started(&self) -> bool {
-        self.pool.is_some() && self.acceptor.is_some()
-    }
-
     /// Ends all of them: no connection is waited for any more, and the actors end while the pool
     /// still drains. The lanes' reader's ends come back in `room`, where there is room for them.
     /// The answer is also whether the pool did its work.

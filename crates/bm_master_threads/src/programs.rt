@@ -5,18 +5,84 @@ ghost use Rattle.std.specs.Prelude.{◌≤◌};
 use crate::worker_process::WorkerProcess;
 use bm_board::Words;
 use bm_config::{Config, WorkerConfig};
-use bm_latent::WorkerState;
-use bm_master::KnownWorker;
-use bm_operator::place_master;
+use bm_latent::{EndAct, WorkerState};
+use bm_master::{KnownWorker, StartFailure};
+use bm_operator::{ProgramRefusal, place_master};
 use std::alloc::{AllocError, Global};
 use std::net::SocketAddr;
+use std::process::{Processes, SystemProcess};
 
-/// The workers of a configuration, in their order, and their programs. None for a worker that
-/// connects by itself.
+/// The workers of a configuration, in their order, and their programs.
 #[derive(Drop)]
 pub struct WorkerList {
     pub workers: Vec<KnownWorker>,
-    pub programs: Vec<Option<WorkerProcess>>,
+    pub programs: WorkerPrograms,
+}
+
+/// The programs of the workers, in their order. None for a worker that connects by itself.
+#[derive(Drop)]
+pub struct WorkerPrograms {
+    list: Vec<Option<WorkerProcess>>,
+}
+
+impl WorkerPrograms {
+    // The program of a worker, where it has one.
+    fn of(&mut self, worker: usize) -> Option<&mut WorkerProcess> {
+        match self.list.get_mut(worker) {
+            Some(Some(program)) => Some(program),
+            _ => None,
+        }
+    }
+
+    /// Starts the program of a worker.
+    ///
+    /// # Errors
+    ///
+    /// Why the system doesn't start it, or that there is none.
+    pub fn start<R: Processes<Started = SystemProcess>>(
+        &mut self,
+        rt: &R,
+        alloc: Global,
+        worker: usize,
+    ) -> Result<(), StartFailure> {
+        match self.of(worker) {
+            Some(program) => program.start(rt, alloc),
+            None => Err(StartFailure {
+                why: ProgramRefusal::NotFound,
+                may_pass: false,
+            }),
+        }
+    }
+
+    /// Whether the program of a worker has ended, told once.
+    pub fn has_ended(&mut self, worker: usize) -> bool {
+        match self.of(worker) {
+            Some(program) => program.has_ended(),
+            None => false,
+        }
+    }
+
+    /// Asks the program of a worker to end, or kills it.
+    pub fn end<R: Processes<Started = SystemProcess>>(
+        &mut self,
+        rt: &R,
+        alloc: Global,
+        worker: usize,
+        act: EndAct,
+    ) {
+        if let Some(program) = self.of(worker) {
+            program.end(rt, alloc, act);
+        }
+    }
+
+    /// Ends the programs that are still there.
+    pub fn kill(&mut self) {
+        for program in self.list.iter_mut() {
+            if let Some(program) = program {
+                program.kill();
+            }
+        }
+    }
 }
 
 // A worker of which nothing was heard. `master` is the address that its program is given.
@@ -58,5 +124,6 @@ pub fn workers_of(
         workers.push(known)?;
         programs.push(program)?;
     }
+    let programs = WorkerPrograms { list: programs };
     Ok(WorkerList { workers, programs })
 }

@@ -7,19 +7,21 @@ use crate::first_remarks::tell_first;
 use crate::host::MasterHost;
 use crate::remarks::Remarks;
 use crate::setup::{MasterStreams, prepare};
-use crate::threads::run_threads;
+use crate::shared_state::SharedState;
+use crate::threads::{ThreadOwned, run_threads};
 use crate::waiting_stream::WaitingStream;
 use bm_config::{Config, UnknownKey, WorkerConfig};
 use bm_lane::{Blank, Yard, ends_of_all};
 use bm_lane_actor::WorkerStream;
 use bm_lanes::{DealtLanes, deal, open_all};
 use bm_operator::{OutputLine, REFUSED};
+use bm_web_server::LogService;
 use std::alloc::Global;
 use std::io;
 use std::io::{Read, Write};
 use std::marker::Brand;
 use std::net::{SocketAddr, TcpListener};
-use std::sync::Wait;
+use std::sync::{Arc, Wait};
 use std::time::Clock;
 
 // Tells of a key whose address can't be bound, and why.
@@ -107,8 +109,7 @@ fn ends_by_owner<Y: Yard, R: Wait + Clock + Drop>(
     }
 }
 
-// Runs a master over these blanks, and answers its exit status. Where it can't be told where it
-// listens nobody could connect: then no thread is started.
+// Runs a master over these blanks, and answers its exit status.
 fn run<Y, R, I, O>(
     rt: &R,
     alloc: Global,
@@ -124,21 +125,46 @@ where
     O: Write + Drop + Send,
     requires placed { ArePlaced Y.queue Y.copy 0 blanks.items }
 {
-    let ends = ends_by_owner::<Y, R>(alloc, config.workers.as_slice(), blanks);
-    let Some((at, ends)) = streams.listen().zip(ends) else {
+    let Some((workers, web)) = streams.listen() else {
+        drop(streams);
         return Err(BeginFault::Room);
     };
-    let (workers, web) = at;
-    let Some((shared, owned, logs)) = prepare(rt, alloc, config, streams, ends, workers) else {
+    let Some(ends) = ends_by_owner::<Y, R>(alloc, config.workers.as_slice(), blanks) else {
+        drop(streams);
         return Err(BeginFault::Room);
     };
+    match prepare(rt, alloc, config, streams, ends, workers) {
+        Some((shared, owned, logs)) => {
+            let listening = OutputLine::Listening { workers, web };
+            run_prepared(shared, owned, logs, listening, unknown)
+        }
+        None => Err(BeginFault::Room),
+    }
+}
+
+// Runs a master that is prepared, and answers its exit status. Where it can't be told where it
+// listens nobody could connect: then no thread is started.
+fn run_prepared<Y, R, I, O>(
+    shared: SharedState<Y, R>,
+    owned: ThreadOwned<Y, R, I, O>,
+    logs: Arc<LogService<Y>>,
+    listening: OutputLine<'_>,
+    unknown: &[UnknownKey],
+) -> Result<u8, BeginFault>
+where
+    Y: Yard + Send + Sync,
+    R: MasterHost,
+    I: Read + Drop + Send,
+    O: Write + Drop + Send,
+{
     let mut owned = owned;
-    let listening = OutputLine::Listening { workers, web };
-    if !write_line(alloc, listening, &mut owned.coordinator.output) {
+    let coordinator = &mut owned.coordinator;
+    if !write_line(shared.alloc, listening, &mut coordinator.output) {
+        drop(owned);
         return Err(BeginFault::Output);
     }
-    if let Some(remarks) = &owned.coordinator.remarks {
-        tell_first(rt, alloc, remarks, &shared.config, unknown);
+    if let Some(remarks) = &coordinator.remarks {
+        tell_first(&shared.rt, shared.alloc, remarks, &shared.config, unknown);
     }
     match run_threads(&shared, owned) {
         Some(left) => Ok(end(shared, left, logs)),

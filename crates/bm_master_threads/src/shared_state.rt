@@ -7,7 +7,7 @@ use crate::web::WebStop;
 use bm_board::Build;
 use bm_config::Config;
 use bm_lane::{WriterEnd, Yard};
-use bm_lane_actor::{CancelFlag, DrainGate, LaneHandle, LoginLimit, WorkerStream};
+use bm_lane_actor::{CancelFlag, DrainGate, LaneHandle, LaneSignal, LoginLimit, WorkerStream};
 use bm_lanes::users_of;
 use bm_link::User;
 use std::alloc::{AllocError, Global};
@@ -112,6 +112,20 @@ impl<Y: Yard, R: Wait + Clock + Drop> SharedState<Y, R> {
     pub fn build(&self, number: u64) -> Option<(&Build, &BuildCancel)> {
         let build = self.config.builds.as_slice().get(number as usize)?;
         Some((build, self.cancels.get(number as usize)?))
+    }
+
+    /// Calls a build that is to be cancelled. It tells itself that it obeys.
+    pub fn cancel(&self, build: u64) {
+        if let Some(cancel) = self.cancels.get(build as usize) {
+            self.drain_gate.call_builds(cancel.set());
+        }
+    }
+
+    /// Gives the lane of a worker a signal.
+    pub fn signal(&self, worker: usize, signal: LaneSignal) {
+        if let Some(lane) = self.lanes.get(worker) {
+            lane.signal(signal);
+        }
     }
 }
 

@@ -184,32 +184,42 @@ impl<'s, Y: Yard, R: MasterHost> Teller<'s, Y, R> {
         self.refusals.tells(second, name)
     }
 
-    // A refused connection was told. Where its name can't be kept, another one of it is told too.
-    fn note_refused(&mut self, name: Option<Text>) {
-        if let Some(name) = name {
-            let _ = self.refusals.note(name);
+    // Notes the name of a refused connection that was told. Where it can't be kept, another one of
+    // it is told too.
+    fn note_refused(&mut self, is_told: bool, name: Option<Text>) {
+        match name {
+            Some(name) if is_told => {
+                let _ = self.refusals.note(name);
+            }
+            other => drop(other),
         }
     }
 
     /// A connection was not taken up.
     pub fn hear_refused(&mut self, refused: RefusedConnection) {
         let RefusedConnection { from, name, why } = refused;
-        if self.tells_refused(&name) {
+        let is_told = self.tells_refused(&name);
+        if is_told {
             self.remark(&refusal_remark(&name, from, why));
-            self.note_refused(name);
         }
+        self.note_refused(is_told, name);
     }
 
     // A login was declined at the lane of a worker.
     fn tell_declined(&mut self, at: usize, event: LaneEvent) {
         let name = Text::from_str(self.shared.alloc, self.name(at)).ok();
-        if !self.tells_refused(&name) {
-            return;
+        let is_told = self.tells_refused(&name);
+        if is_told {
+            self.tell_event(at, event, false);
         }
-        if let Some(remark) = remark_of(event, false, self.name(at)) {
+        self.note_refused(is_told, name);
+    }
+
+    // Tells an event of a worker's lane.
+    fn tell_event(&self, at: usize, event: LaneEvent, is_dismissed: bool) {
+        if let Some(remark) = remark_of(event, is_dismissed, self.name(at)) {
             self.remark(&remark);
         }
-        self.note_refused(name);
     }
 
     /// Tells what happened to a worker's lane. `is_dismissed`: the worker was told to shut down.
@@ -217,8 +227,6 @@ impl<'s, Y: Yard, R: MasterHost> Teller<'s, Y, R> {
         if declines(event) {
             return self.tell_declined(at, event);
         }
-        if let Some(remark) = remark_of(event, is_dismissed, self.name(at)) {
-            self.remark(&remark);
-        }
+        self.tell_event(at, event, is_dismissed);
     }
 }

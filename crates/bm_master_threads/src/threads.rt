@@ -13,11 +13,10 @@
 //! one for each build. The thread of remarks stands by itself.
 ghost use Rattle.std.specs.Thread.{IsSend, IsSync};
 
-use crate::acceptor::accept_connections;
 use crate::coordinator::{CoordinatorLeft, CoordinatorOwned, coordinate};
 use crate::host::MasterHost;
 use crate::input::start_input;
-use crate::lane_threads::{LaneThreads, drain_lanes, start_actors};
+use crate::lane_threads::{LaneThreads, start_lanes};
 use crate::shared_state::SharedState;
 use crate::sockets::SocketEvents;
 use crate::web::serve_web;
@@ -77,13 +76,15 @@ where
         Some(thread) => Some(thread.join(&shared.rt)),
         None => None,
     };
-    let (readers, is_drained) = lane_threads.end(shared, room);
-    let (coordinator, readers) = left.zip(Some(readers))?;
-    Some(MasterLeft {
-        readers,
-        coordinator,
-        is_whole: is_drained,
-    })
+    let (readers, is_whole) = lane_threads.end(shared, room);
+    match left {
+        Some(coordinator) => Some(MasterLeft {
+            readers,
+            coordinator,
+            is_whole,
+        }),
+        None => None,
+    }
 }
 
 // Starts the coordinator, and the thread that reads the input for it. None where one of them can't
@@ -121,9 +122,10 @@ where
     O: Write + Drop + Send + 's,
 {
     let lanes = shared.writers.len();
-    let actors = Vec::with_capacity(shared.alloc, lanes).ok();
-    let (actors, room) = actors.zip(Vec::with_capacity(shared.alloc, lanes).ok())?;
-    let mut actors = actors;
+    let Ok(room) = Vec::with_capacity(shared.alloc, lanes) else {
+        drop(owned);
+        return None;
+    };
     let ThreadOwned {
         states,
         mailboxes,
@@ -134,19 +136,14 @@ where
         coordinator,
         input,
     } = owned;
-    let pool = scope.spawn(move || drain_lanes(shared)).ok();
-    let has_actors = start_actors(scope, shared, states, mailboxes, &mut actors);
-    let acceptor = scope
-        .spawn(move || accept_connections(shared, workers, sockets))
-        .ok();
-    let lane_threads = LaneThreads {
-        pool,
-        actors,
-        acceptor,
-    };
-    let coordinator = if has_actors && lane_threads.are_started() {
+    let (lane_threads, are_started) = start_lanes(
+        scope, shared, states, mailboxes, workers, sockets,
+    );
+    let coordinator = if are_started {
         start_coordinator(scope, shared, coordinator, input)
     } else {
+        drop(coordinator);
+        drop(input);
         None
     };
     if coordinator.is_none() {

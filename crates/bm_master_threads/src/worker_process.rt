@@ -13,22 +13,27 @@ use std::io;
 use std::io::ErrorKind;
 use std::process::{Child, Command, Processes, Stdio, SystemProcess};
 
+// The command of the shell that has these words. None where memory is wanting.
+fn shell(alloc: Global, words: &str) -> Option<Command> {
+    let mut command = Command::new(alloc, "/bin/sh").ok()?;
+    command.arg("-c").ok()?;
+    command.arg(words).ok()?;
+    command.stdin(Stdio::null());
+    command.stdout(Stdio::null());
+    command.stderr(Stdio::null());
+    Some(command)
+}
+
 // Asks a process to end, by SIGTERM. The shell sends it: the process can't be mistaken, since
 // nobody has waited for it. Where no shell can be started it isn't asked. The toolchain kills
 // alone, and a scheduler's client may have something to take back.
 fn ask<R: Processes<Started = SystemProcess>>(rt: &R, alloc: Global, id: u32) {
-    let (Ok(mut command), Ok(words)) = (
-        Command::new(alloc, "/bin/sh"),
-        format!(in alloc; "kill {id}"),
-    ) else {
+    let Ok(words) = format!(in alloc; "kill {id}") else {
         return;
     };
-    if command.arg("-c").is_err() || command.arg(words.as_str()).is_err() {
+    let Some(mut command) = shell(alloc, words.as_str()) else {
         return;
-    }
-    command.stdin(Stdio::null());
-    command.stdout(Stdio::null());
-    command.stderr(Stdio::null());
+    };
     if let Ok(mut child) = command.spawn(rt) {
         let _ = child.wait();
     }
