@@ -2,25 +2,32 @@
 use Rattle.std.proofs.Common.{◌≡◌, refl, ◌∙◌, ap, sym, ℕ}
 use Rattle.bm_lane.proofs.Prefixes.{prefix_self, prefix_trans}
 use Rattle.bm_runner.specs.declared.port.Polled.{Polled}
-use Rattle.bm_lane_actor.specs.Ports.{PortView, Looks, Waits}
+use Rattle.bm_lane_actor.specs.declared.step_machine.StepInput.{StepInput}
+use Rattle.bm_lane_actor.specs.declared.step_machine.StepInput.TheVariants.{Seen}
+use Rattle.bm_lane_actor.specs.declared.step_machine.StepActs.{StepActs}
+use Rattle.bm_lane_actor.specs.Ports.{PortView, Looks, Orders, Waits}
+use Rattle.bm_lane_actor.specs.StepMachine.{StepView}
 
 pub waits_nothing : (p : PortView) → Waits p p
-waits_nothing p = (refl, prefix_self p.viewer.seen, refl, refl, refl)
+waits_nothing p = (refl, prefix_self p.viewer.seen, refl, refl, refl, refl)
 
 pub waits_more : (old mid new : PortView) (k : ℕ) (said : Polled) → Waits old mid → Looks mid k said new → Waits old new
 waits_more old mid new k said w l = (
   l.1.lane ∙ w.0,
   prefix_trans old.viewer.seen mid.viewer.seen new.viewer.seen w.1 l.1.seen,
-  l.3 ∙ w.2,
-  l.4 ∙ w.3,
-  l.5 ∙ w.4,
+  ap (λ (s : StepView). s.meter) l.3 ∙ w.2,
+  ap (λ (s : StepView). s.none) l.3 ∙ w.3,
+  l.4 ∙ w.4,
+  l.5 ∙ w.5,
 )
 
-pub waits_same : (old mid new : PortView) → new ≡ mid → Waits old mid → Waits old new
-waits_same old mid new e w = (
-  ap (λ (p : PortView). p.viewer.lane) e ∙ w.0,
-  (w.1.0, w.1.1 ∙ sym (ap (λ (p : PortView). p.viewer.seen) e)),
-  ap (λ (p : PortView). p.meter) e ∙ w.2,
-  ap (λ (p : PortView). p.told) e ∙ w.3,
-  ap (λ (p : PortView). p.refused) e ∙ w.4,
+-- what is done about cancels changes neither the limits nor the log
+pub waits_on : (old mid new : PortView) (said : Polled) (acts : StepActs) → Orders mid (Seen said) acts new → Waits old mid → Waits old new
+waits_on old mid new said acts o w = (
+  ap (λ (p : PortView). p.viewer.lane) o.1 ∙ w.0,
+  (w.1.0, w.1.1 ∙ sym (ap (λ (p : PortView). p.viewer.seen) o.1)),
+  ap (λ (p : PortView). p.step.meter) o.1 ∙ w.2,
+  ap (λ (p : PortView). p.step.none) o.1 ∙ w.3,
+  ap (λ (p : PortView). p.told) o.1 ∙ w.4,
+  ap (λ (p : PortView). p.refused) o.1 ∙ w.5,
 )

@@ -19,6 +19,10 @@ uncancelled = record { held = false; told = false; interruption = order.NotWante
 abbrev pub does_nothing : CancelActs
 does_nothing = record { tells = false; interrupts = false; uses_up = false }
 
+-- a step isn't started, since its build was cancelled before
+abbrev pub is_left_out : Bool → Bool → Bool
+is_left_out cancelled always_run = cancelled && not always_run
+
 -- the order to interrupt a command is given once; without memory for it, again
 abbrev pub is_to_order : Bool → Interruption → Bool
 is_to_order wanted order.NotWanted = wanted
@@ -29,19 +33,19 @@ abbrev pub ordered : Bool → Interruption
 ordered kept = if kept then order.Ordered else order.Wanted
 
 -- what is to be done after an input: a cancel is told once, and used up by the step that it ends
-abbrev pub acts_of : CancelInput → CancelView → CancelActs
-acts_of (Started set) c = record does_nothing { tells = set && not c.told }
-acts_of LeftOut c = does_nothing
-acts_of Refused c = record { tells = not c.told; interrupts = false; uses_up = true }
-acts_of (Runs cancelled over) c =
+abbrev pub cancel_acts : CancelInput → CancelView → CancelActs
+cancel_acts (Started set) c = record does_nothing { tells = set && not c.told }
+cancel_acts LeftOut c = does_nothing
+cancel_acts Refused c = record { tells = not c.told; interrupts = false; uses_up = true }
+cancel_acts (Runs cancelled over) c =
     record {
       tells = cancelled && not c.told;
       interrupts = is_to_order (cancelled || over) c.interruption;
       uses_up = false;
     }
-acts_of Asked c = record does_nothing { interrupts = is_to_order true c.interruption }
-acts_of (Ordered kept) c = does_nothing
-acts_of (Ended by_cancel) c = record does_nothing { uses_up = by_cancel }
+cancel_acts Asked c = record does_nothing { interrupts = is_to_order true c.interruption }
+cancel_acts (Ordered kept) c = does_nothing
+cancel_acts (Ended by_cancel) c = record does_nothing { uses_up = by_cancel }
 
 -- where the build then stands
 abbrev pub cancel_after : CancelInput → CancelView → CancelView

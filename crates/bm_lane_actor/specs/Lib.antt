@@ -16,7 +16,9 @@ pub mod Login
 pub mod LoginFates
 pub mod LoginRefusals
 -- CancelPolicy: which step a cancel of a build ends, what is told of it, and what is interrupted.
+-- StepMachine: what a build does with its steps, by that policy and by their limits.
 pub mod CancelPolicy
+pub mod StepMachine
 -- Ports: what a build's port to a lane is, and answers. StartProgress: how far a build has come
 -- with a command that it wants to have started. ByteCount: how many bytes an update carries.
 pub mod Ports

@@ -2,10 +2,8 @@
 //! interrupted.
 
 ghost use Rattle.std.specs.Prelude.{◌≡◌};
-ghost use Rattle.bm_lane_actor.specs.Ports.{is_left_out};
-ghost use Rattle.bm_lane_actor.specs.CancelPolicy.{acts_of, cancel_after, does_nothing, is_to_order, uncancelled};
+ghost use Rattle.bm_lane_actor.specs.CancelPolicy.{cancel_acts, cancel_after, does_nothing, is_left_out, is_to_order, uncancelled};
 
-use crate::orders::is_left_out;
 use std::marker::Model;
 
 /// What comes to the policy of a build's cancels.
@@ -71,7 +69,8 @@ impl Model for CancelPolicy {
     } };
 }
 
-fn does_nothing() -> CancelActs
+// A cancel is nothing to be done about.
+pub(crate) fn does_nothing() -> CancelActs
     ensures { result ≡ does_nothing }
 {
     CancelActs {
@@ -97,13 +96,13 @@ impl CancelPolicy {
     pub fn leaves_out(&self, always_run: bool) -> bool
         ensures { result ≡ is_left_out self.now.held always_run }
     {
-        is_left_out(self.is_held, always_run)
+        self.is_held && !always_run
     }
 
     /// Takes an input, and answers what is to be done.
     pub fn step(&mut self, input: CancelInput) -> CancelActs
         ensures policy { self.new ≡ cancel_after input self.old }
-        ensures acts { result ≡ acts_of input self.old }
+        ensures acts { result ≡ cancel_acts input self.old }
     {
         let is_told = self.is_told;
         let mut acts = does_nothing();

@@ -57,7 +57,8 @@ pub(crate) struct LaneActor<'a, Y: Yard, T, R: Wait + Clock + Drop> {
     pub(crate) reads: ReadWatch,
     /// The commands that are to be interrupted once the lane takes that order.
     pub(crate) stops: StopOrders,
-    /// The ticks of a lane that is cut, from the cut on.
+    /// The ticks of a lane that is cut, from the cut on. A link that takes the lane up ends them:
+    /// the next cut has its own.
     pub(crate) ticks: Option<TickCounter>,
     /// Where it waits.
     pub(crate) mailbox: Mailbox<WorkerStream<R>>,

@@ -183,6 +183,7 @@ where
                 let is_heard = self.state.events() != events;
                 self.tell_failed(failed_login(before, after, is_own, is_heard, fault, from));
                 if is_heard {
+                    self.ticks = None;
                     self.gate.call_builds(self.place);
                 }
                 self.gate.wake(self.place);
@@ -208,6 +209,7 @@ where
     fn welcome(&mut self, attached: Attached, before: ConnectionState) {
         let (came, now) = (self.came(), self.now());
         self.policy.step(LaneInput::Attached { came }, now);
+        self.ticks = None;
         let (loss, login) = greeting(before, attached == Attached::Resumed);
         if let Some(loss) = loss {
             self.events.tell(loss);

@@ -5,7 +5,7 @@
 //! leave. It waits in one place for its mailbox and for its worker's connections. [`log_in`] brings
 //! a new connection there, [`LanePort`] a build. [`DrainGate`] lets the pool of writers sleep, and
 //! calls builds. What an actor decides is in [`LaneState`] and [`LanePolicy`], what a port decides
-//! in `CancelPolicy` and [`StepMeter`].
+//! in [`StepMachine`].
 //!
 //! A large value is dropped by a call of `drop`, also at the end of a function. Else the proof
 //! takes it apart in each such place.
@@ -50,13 +50,14 @@ mod read_watch;
 mod resume_timer;
 mod seen_flag;
 mod start_progress;
+mod step_machine;
 mod step_meter;
 mod stop_orders;
 mod stream;
 mod watch;
 
 pub use byte_count::{ByteCount, ByteCounts};
-pub use cancel_policy::{CancelActs, CancelInput, CancelPolicy};
+pub use cancel_policy::CancelActs;
 pub use connection_state::ConnectionState;
 pub use drain_gate::DrainGate;
 pub use lane_actor::serve_lane;
@@ -76,11 +77,11 @@ pub use order_outcome::OrderOutcome;
 pub use peer_timer::{ANSWER_WITHIN_MS, ASK_AFTER_MS, DEAD_AFTER_MS, PeerAction, PeerTimer};
 pub use pending_login::PendingLogin;
 pub use port::LanePort;
-pub use port_log::{is_lost, polled};
+pub use port_log::polled;
 pub use resume_timer::ResumeTimer;
 pub use seen_flag::SeenFlag;
 pub use start_progress::{StartProgress, StartStage, StartStep, after_step, start_step};
-pub use step_meter::StepMeter;
+pub use step_machine::{StepActs, StepInput, StepMachine};
 pub use stop_orders::StopOrders;
 pub use stream::{LOGIN_MS, WorkerStream};
 pub use watch::Watch;

@@ -1,7 +1,6 @@
 //! The orders of a build to the actor of its worker's lane.
 
 ghost use Rattle.std.specs.Prelude.{◌≡◌};
-ghost use Rattle.bm_lane_actor.specs.Ports.{is_left_out};
 ghost use Rattle.bm_lane_actor.specs.StartProgress.{settled};
 
 use crate::byte_count::ByteCount;
@@ -17,13 +16,6 @@ use std::alloc::Global;
 use std::sync::Wait;
 use std::thread;
 use std::time::{Clock, Duration};
-
-/// Whether a step isn't started, since its build was cancelled before.
-pub(crate) fn is_left_out(is_cancelled: bool, always_run: bool) -> bool
-    ensures { result ≡ is_left_out is_cancelled always_run }
-{
-    is_cancelled && !always_run
-}
 
 /// Hands the lane's actor the order to interrupt a command. It keeps the order until its lane can
 /// send it, so nobody waits for a lane that is cut. False where memory is wanting for that: it is

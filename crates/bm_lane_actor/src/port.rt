@@ -4,20 +4,23 @@
 ghost use Rattle.std.specs.Prelude.{◌≡◌, ◌++◌, ◌∷◌, [], List, false, true, IfSome, IfNone};
 ghost use Rattle.bm_runner.specs.declared.port.Told.{Told};
 ghost use Rattle.bm_runner.specs.Port.{IsAsking, asked, first_entry};
-ghost use Rattle.bm_lane_actor.specs.Ports.{Begins, Looks, Polls, Sees, StartsAs, Unstarts, Waits, at_limits, ticked, with_meter};
+ghost use Rattle.bm_lane_actor.specs.Ports.{Begins, Looks, Orders, Polls, Sees, StartsAs, Unstarts, Waits, with_step};
+ghost use Rattle.bm_lane_actor.specs.StepMachine.{step_acts, step_after};
+ghost use Rattle.bm_lane_actor.specs.declared.start_progress.StartStage.TheVariants as stage;
+ghost use Rattle.bm_lane_actor.specs.declared.step_machine.StepInput.TheVariants as input;
 ghost use Rattle.bm_lane_actor.specs.StepMeter.{fresh};
 
 use crate::byte_count::ByteCount;
-use crate::cancel_policy::{CancelActs, CancelInput, CancelPolicy};
+use crate::cancel_policy::CancelActs;
 use crate::drain_gate::DrainGate;
 use crate::lane_request::{CancelFlag, LaneRequest};
 use crate::mailbox::LaneHandle;
 use crate::orders::{interrupt, start, wait_until_told};
-use crate::port_log::{header_in, is_lost, polled};
+use crate::port_log::{header_in, polled};
 use crate::port_tick::{left_of_tick, next_tick};
 use crate::seen_flag::SeenFlag;
 use crate::start_progress::StartProgress;
-use crate::step_meter::StepMeter;
+use crate::step_machine::{StepActs, StepInput, StepMachine};
 use crate::watch::Watch;
 use bm_board::StepPlan;
 use bm_lane::{Viewer, Yard};
@@ -31,8 +34,8 @@ use std::sync::atomic::{AtomicU64, Ordering};
 use std::sync::{Arc, Wait};
 use std::time::{Clock, Instant};
 
-/// The number of no command: that of a step whose build was cancelled before it was started. As a
-/// third answer of `start` every port would have to know it.
+/// What stands as a number in the entry of a step that has no command. Its machine knows that it
+/// has none, so nobody compares it.
 const NO_COMMAND: u64 = u64::MAX;
 
 /// The port of a build. It asks how its command does once a tick, and at once where it has ended.
@@ -56,10 +59,8 @@ pub struct LanePort<'a, Y: Yard, S, R: Wait + Clock + Drop, W> {
     cancelled: SeenFlag<'a>,
     /// How far the start of the last step has come.
     progress: StartProgress,
-    /// What is done about cancels, and what is interrupted.
-    cancels: CancelPolicy,
-    /// The limits of the last step that was started.
-    meter: StepMeter,
+    /// What is done with that step.
+    machine: StepMachine,
     /// What the updates of its command carried.
     bytes: Option<ByteCount>,
     watch: W,
@@ -77,7 +78,7 @@ impl<'a, Y: Yard, S, R: Wait + Clock + Drop, W> Model for LanePort<'a, Y, S, R, 
       viewer = p.viewer;
       cancelled = p.cancelled;
       stage = p.progress.stage;
-      meter = p.meter;
+      step = p.machine;
       told = p.entries.told;
       refused = p.refused;
     } };
@@ -109,8 +110,7 @@ impl<'a, Y: Yard, S: Drop, R: Wait + Clock + Drop, W: Watch + Drop> LanePort<'a,
             tick_began: None,
             cancelled: SeenFlag::new(cancelled),
             progress: StartProgress::new(),
-            cancels: CancelPolicy::new(),
-            meter: StepMeter::new(0, 0, 0),
+            machine: StepMachine::new(),
             bytes: None,
             watch,
             entries: Entries::new(alloc),
@@ -137,7 +137,7 @@ impl<'a, Y: Yard, S: Drop, R: Wait + Clock + Drop, W: Watch + Drop> Port
         ensures stands { IfSome result (λ k. self.new.refused ≡ self.old.refused) }
         ensures nothing_told { IfNone result (self.new.told ≡ self.old.told) }
         ensures refuses { IfNone result (self.new.refused ≡ true) }
-        ensures answer { IfSome result (λ k. StartsAs self.new.stage k) }
+        ensures answer { IfSome result (λ k. StartsAs self.new k) }
     {
         let why = match self.begin(step) {
             Ok(command) => return Some(command),
@@ -157,30 +157,22 @@ impl<'a, Y: Yard, S: Drop, R: Wait + Clock + Drop, W: Watch + Drop> Port
         ensures refused { self.new.refused ≡ self.old.refused }
         ensures answer { Polls self.old k result self.new }
     {
-        if k == NO_COMMAND {
+        if self.machine.has_no_command() {
             let said = Polled::Ended(Results::Cancelled);
             self.entries.note(k, said);
             return said;
         }
         self.wait(k);
-        let said = self.see(k);
-        self.entries.note(k, said);
-        if let Polled::Ended(outcome) = said {
-            self.follows(CancelInput::Ended {
-                by_cancel: outcome == Results::Cancelled,
-            });
-            self.handle.tell(self.rt, LaneRequest::Seen(k));
-            if is_lost(outcome) {
-                wait_until_told(self.rt, self.alloc, &self.handle);
-            }
-            let said = self.said(k, outcome);
-            self.watch.ended(k, outcome, said);
+        let acts = self.see(k);
+        self.entries.note(k, acts.said);
+        if let Polled::Ended(outcome) = acts.said {
+            self.end(k, outcome, acts);
         }
-        said
+        acts.said
     }
 
     fn interrupt(&mut self, k: u64) {
-        self.orders(k, CancelInput::Asked);
+        self.orders(k, StepInput::Interrupt);
     }
 }
 
@@ -195,27 +187,26 @@ impl<'a, Y: Yard, S: Drop, R: Wait + Clock + Drop, W: Watch + Drop> LanePort<'a,
         ensures { Begins self.old (fresh step.now.max_bytes step.now.timeout_ticks step.now.silent_ticks) result self.new }
     {
         if self.entries.reserve().is_err() {
-            return Err(self.progress.refuse(StartRefusal::Memory));
+            return Err(self.refuse(StartRefusal::Memory));
         }
-        if self.cancels.leaves_out(step.always_run) {
-            self.follows(CancelInput::LeftOut);
+        self.machine.step(StepInput::Next {
+            always_run: step.always_run,
+        });
+        if self.machine.has_no_command() {
             return Err(self.progress.refuse(StartRefusal::Cancelled));
         }
         let Ok(bytes) = Arc::new(self.alloc, AtomicU64::new(0)) else {
-            return Err(self.progress.refuse(StartRefusal::Memory));
+            return Err(self.refuse(StartRefusal::Memory));
         };
         let (rt, alloc, gate, flag) = (self.rt, self.alloc, self.gate, self.cancelled.flag());
         let progress = &mut self.progress;
         let command = match start(rt, alloc, gate, &self.handle, step, flag, &bytes, progress) {
             Ok(command) => command,
             Err(why) => {
-                if why == StartRefusal::Cancelled {
-                    self.follows(CancelInput::Refused);
-                }
+                self.follows(StepInput::Refused(why));
                 return Err(why);
             }
         };
-        self.meter = StepMeter::new(step.max_bytes, step.timeout_ticks, step.silent_ticks);
         self.bytes = Some(bytes);
         self.tick_began = None;
         match self.entries.begin(command) {
@@ -223,9 +214,23 @@ impl<'a, Y: Yard, S: Drop, R: Wait + Clock + Drop, W: Watch + Drop> LanePort<'a,
             Err(_) => unreachable!(),
         }
         let is_set = step.always_run && self.cancelled.take();
-        self.follows(CancelInput::Started { is_set });
+        self.follows(StepInput::Started {
+            max_bytes: step.max_bytes,
+            timeout_ticks: step.timeout_ticks,
+            silent_ticks: step.silent_ticks,
+            is_set,
+        });
         self.watch.started(step, command);
         Ok(command)
+    }
+
+    // The lane isn't asked to start the step.
+    fn refuse(&mut self, why: StartRefusal) -> StartRefusal
+        ensures told { result ≡ why }
+        ensures port { self.new ≡ record self.old { stage = stage.Unasked why; step = step_after (input.Refused why) self.old.step } }
+    {
+        self.follows(StepInput::Refused(why));
+        self.progress.refuse(why)
     }
 
     /// What is to be told of a step that isn't started for this cause. True: that it is no command,
@@ -248,46 +253,60 @@ impl<'a, Y: Yard, S: Drop, R: Wait + Clock + Drop, W: Watch + Drop> LanePort<'a,
         self.calls = calls;
     }
 
-    /// An input comes to the policy of cancels: what follows is told, and a cancel that is used up
-    /// is taken back. The answer is what else is to be done.
-    fn follows(&mut self, input: CancelInput) -> CancelActs
+    /// Tells that the build obeys a cancel, and takes back one that is used up, where it is to.
+    fn obeys(&mut self, acts: CancelActs)
         ensures { self.new ≡ self.old }
     {
-        let acts = self.cancels.step(input);
         if acts.tells {
             self.watch.cancelled();
         }
         if acts.uses_up {
             self.cancelled.take();
         }
+    }
+
+    /// An input comes to the machine of its steps. The answer says what else is to be done.
+    fn follows(&mut self, input: StepInput) -> StepActs
+        ensures port { self.new ≡ with_step self.old (step_after input self.old.step) }
+        ensures acts { result ≡ step_acts input self.old.step }
+    {
+        let acts = self.machine.step(input);
+        self.obeys(acts.cancel);
         acts
     }
 
-    /// As `follows`, where the command may have to be interrupted.
-    fn orders(&mut self, k: u64, input: CancelInput)
-        ensures { self.new ≡ self.old }
+    /// As `follows`, where the command may have reached a limit, or has to be interrupted.
+    fn orders(&mut self, k: u64, input: StepInput) -> StepActs
+        ensures { Orders self.old input result self.new }
     {
-        let acts = self.follows(input);
-        if acts.interrupts {
-            let is_kept = interrupt(self.rt, self.alloc, &self.handle, k);
-            self.follows(CancelInput::Ordered { is_kept });
+        let acts = self.machine.step(input);
+        if let Some(limit) = acts.limit {
+            self.watch.stopped(k, limit);
         }
+        self.obeys(acts.cancel);
+        if acts.cancel.interrupts {
+            let is_kept = interrupt(self.rt, self.alloc, &self.handle, k);
+            self.follows(StepInput::Ordered { is_kept });
+        }
+        acts
     }
 
-    /// Does at once what need not wait for the end of a tick: a cancel is told and obeyed. The tick
-    /// goes on: so many polls bound a time.
-    fn obey(&mut self, k: u64, seen: Polled)
-        ensures { self.new ≡ self.old }
+    /// The step has ended so, and the machine has said what else is to be done. What is told of it
+    /// is told behind the loss of its worker, if it ended by that.
+    fn end(&mut self, k: u64, outcome: Results, acts: StepActs)
+        ensures told { self.new.told ≡ self.old.told }
+        ensures refused { self.new.refused ≡ self.old.refused }
+        ensures cancelled { self.new.cancelled ≡ self.old.cancelled }
     {
-        let is_cancelled = seen == Polled::Cancel;
-        let is_over = false;
-        self.orders(
-            k,
-            CancelInput::Runs {
-                is_cancelled,
-                is_over,
-            },
-        );
+        self.handle.tell(self.rt, LaneRequest::Seen(k));
+        if acts.is_loss {
+            wait_until_told(self.rt, self.alloc, &self.handle);
+        }
+        if acts.is_failure {
+            let said = self.said(k);
+            self.watch.failed(k, said);
+        }
+        self.watch.ended(k, outcome);
     }
 
     /// Waits until the command is seen to have ended, or a tick is over. Once the gate has called
@@ -305,7 +324,7 @@ impl<'a, Y: Yard, S: Drop, R: Wait + Clock + Drop, W: Watch + Drop> LanePort<'a,
             if let Polled::Ended(_) = seen {
                 return;
             }
-            self.obey(k, seen);
+            self.orders(k, StepInput::Seen(seen));
             let Some(left) = left_of_tick(self.rt, &began) else {
                 return self.has_looked(began, called);
             };
@@ -318,12 +337,12 @@ impl<'a, Y: Yard, S: Drop, R: Wait + Clock + Drop, W: Watch + Drop> LanePort<'a,
     }
 
     // How the command does, by what the viewer sees and by the limits of its step.
-    fn see(&mut self, k: u64) -> Polled
-        ensures { Sees self.old k result self.new }
+    fn see(&mut self, k: u64) -> StepActs
+        ensures { Sees self.old k result.said self.new }
     {
         let seen = self.look(k);
         let bytes = self.carried();
-        self.limited(k, seen, bytes)
+        self.orders(k, StepInput::Ticked(seen, bytes))
     }
 
     // How many bytes the updates of its command have carried.
@@ -342,15 +361,12 @@ impl<'a, Y: Yard, S: Drop, R: Wait + Clock + Drop, W: Watch + Drop> LanePort<'a,
         polled(self.viewer.state(k, STDIO), is_cancelled)
     }
 
-    /// What its worker said last of a command that ended so, where that is to be told.
-    fn said(&mut self, k: u64, outcome: Results) -> Option<Text>
+    /// What its worker said last of a command that failed, where that is to be told.
+    fn said(&mut self, k: u64) -> Option<Text>
         ensures told { self.new.told ≡ self.old.told }
         ensures refused { self.new.refused ≡ self.old.refused }
         ensures cancelled { self.new.cancelled ≡ self.old.cancelled }
     {
-        if outcome != Results::Exception {
-            return None;
-        }
         let lines = match self.viewer.state(k, STDIO) {
             Ok(state) if state.lines > 1 => state.lines,
             _ => return None,
@@ -358,36 +374,6 @@ impl<'a, Y: Yard, S: Drop, R: Wait + Clock + Drop, W: Watch + Drop> LanePort<'a,
         match self.viewer.chunk(k, STDIO, lines - 1, 1) {
             Ok(chunk) => header_in(self.alloc, chunk.content.as_str()),
             Err(_) => None,
-        }
-    }
-
-    /// What is to be said of a command that was seen so, a tick later, when its updates have
-    /// carried so many bytes. Where it has reached a limit of its step it is interrupted. The end
-    /// of one that was interrupted is waited for, but not for ever.
-    fn limited(&mut self, k: u64, seen: Polled, bytes: u64) -> Polled
-        ensures said { result ≡ at_limits self.old.meter bytes seen }
-        ensures meter { self.new ≡ with_meter self.old (ticked self.old.meter bytes seen) }
-    {
-        if let Polled::Ended(outcome) = seen {
-            return Polled::Ended(self.meter.outcome(outcome));
-        }
-        let is_cancelled = seen == Polled::Cancel;
-        let reached = self.meter.tick(bytes, is_cancelled);
-        if let Some(limit) = reached {
-            self.watch.stopped(k, limit);
-        }
-        let is_over = reached.is_some();
-        self.orders(
-            k,
-            CancelInput::Runs {
-                is_cancelled,
-                is_over,
-            },
-        );
-        if self.meter.is_given_up() {
-            Polled::Ended(self.meter.given_up_result())
-        } else {
-            seen
         }
     }
 }

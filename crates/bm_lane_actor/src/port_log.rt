@@ -1,7 +1,7 @@
 //! What a build reads of the log of its command.
 
 ghost use Rattle.std.specs.Prelude.{◌≡◌, ◌≤◌, ◌++◌, codes, length, IfSome};
-ghost use Rattle.bm_lane_actor.specs.Ports.{is_lost, polled};
+ghost use Rattle.bm_lane_actor.specs.Ports.{polled};
 
 use bm_lines::Text;
 use bm_runner::Polled;
@@ -41,11 +41,4 @@ pub(crate) fn header_in(alloc: Global, line: &str) -> Option<Text>
     } else {
         None
     }
-}
-
-/// Whether a command that ended so did by the loss of its lane.
-pub fn is_lost(outcome: Results) -> bool
-    ensures { result ≡ is_lost outcome }
-{
-    outcome == Results::Retry
 }

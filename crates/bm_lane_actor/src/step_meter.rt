@@ -1,6 +1,6 @@
 //! The limits of a step.
 
-ghost use Rattle.std.specs.Prelude.{◌≡◌, None};
+ghost use Rattle.std.specs.Prelude.{◌≡◌, None, is_some};
 ghost use Rattle.bm_lane_actor.specs.StepMeter.{cancelled_after, fresh, given_up_result, is_given_up, meter_after, outcome_of, reached_at, silence_after};
 
 use bm_operator::StepLimit;
@@ -114,6 +114,13 @@ impl StepMeter {
         }
         self.reached = reached;
         reached
+    }
+
+    /// Whether a limit was reached.
+    pub fn has_reached(&self) -> bool
+        ensures { result ≡ is_some self.now.reached }
+    {
+        self.reached.is_some()
     }
 
     /// Whether the end of a command that was interrupted isn't waited for any more.

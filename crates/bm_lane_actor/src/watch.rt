@@ -20,7 +20,10 @@ pub trait Watch {
     /// The step was not started.
     fn refused(&mut self, step: &StepPlan, why: StartRefusal);
 
-    /// The command ended so. `said` is what its worker said last of one that ended EXCEPTION,
-    /// where that is a short line of headers behind the first.
-    fn ended(&mut self, command: u64, outcome: Results, said: Option<Text>);
+    /// The command failed without having reached a limit, and ends EXCEPTION. `said` is what its
+    /// worker said last of it, where that is a short line of headers behind the first.
+    fn failed(&mut self, command: u64, said: Option<Text>);
+
+    /// The command ended so.
+    fn ended(&mut self, command: u64, outcome: Results);
 }

@@ -63,8 +63,6 @@ struct StepReporter<'s, Y: Yard, R: Wait + Clock> {
     /// The place of the last that was started or refused, and its name.
     place: usize,
     name: Option<Text>,
-    /// Whether its command has reached a limit.
-    is_stopped: bool,
 }
 
 impl<'s, Y: Yard, R: Wait + Clock> StepReporter<'s, Y, R> {
@@ -83,7 +81,6 @@ impl<'s, Y: Yard, R: Wait + Clock> StepReporter<'s, Y, R> {
             behind: 0,
             place: 0,
             name: None,
-            is_stopped: false,
         }
     }
 
@@ -118,7 +115,6 @@ impl<'s, Y: Yard, R: Wait + Clock> StepReporter<'s, Y, R> {
 impl<'s, Y: Yard, R: Wait + Clock> Watch for StepReporter<'s, Y, R> {
     fn started(&mut self, step: &StepPlan, command: u64) {
         self.reaches(step);
-        self.is_stopped = false;
         self.tell(StepEvent::Started(command), None);
     }
 
@@ -128,7 +124,6 @@ impl<'s, Y: Yard, R: Wait + Clock> Watch for StepReporter<'s, Y, R> {
     }
 
     fn stopped(&mut self, command: u64, limit: StepLimit) {
-        self.is_stopped = true;
         self.tell(StepEvent::Stopped(command, limit), None);
     }
 
@@ -137,10 +132,11 @@ impl<'s, Y: Yard, R: Wait + Clock> Watch for StepReporter<'s, Y, R> {
         self.tell(StepEvent::Refused(why), None);
     }
 
-    fn ended(&mut self, command: u64, outcome: Results, said: Option<Text>) {
-        if outcome == Results::Exception && !self.is_stopped {
-            self.tell(StepEvent::Failed(command), said);
-        }
+    fn failed(&mut self, command: u64, said: Option<Text>) {
+        self.tell(StepEvent::Failed(command), said);
+    }
+
+    fn ended(&mut self, command: u64, outcome: Results) {
         self.tell(StepEvent::Ended(command, outcome), None);
     }
 }
