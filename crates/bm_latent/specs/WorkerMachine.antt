@@ -77,12 +77,23 @@ ordered process_act.None m = m
 abbrev pub outlived : MachineView → MachineView
 outlived m = if is_to_stop m.known then ending m else m
 
--- what is to be done once the event was heard, and where the worker then stands
+-- A program is started at once only where a build was just said to wait for it. Else the next tick
+-- starts it, where one waits by then, or gives its start up.
+abbrev pub at_once : WorkerEvent → ProcessAction → ProcessAction
+at_once event.Wanted act = act
+at_once e process_act.Start = process_act.None
+at_once e act = act
+
+-- what follows for the program once the event was heard, what is to be done now, and where the
+-- worker then stands
+abbrev pub follows : MachineView → WorkerEvent → ProcessAction
+follows m e = allowed m (action_of m.known e).process
+
 abbrev pub answer : MachineView → WorkerEvent → WorkerAction
-answer m e = record (action_of m.known e) { process = allowed m (action_of m.known e).process }
+answer m e = record (action_of m.known e) { process = at_once e (follows m e) }
 
 abbrev pub heard : MachineView → WorkerEvent → MachineView
-heard m e = outlived (ordered (answer m e).process (record m { known = known_after m.known e }))
+heard m e = outlived (ordered (follows m e) (record m { known = known_after m.known e }))
 
 -- one that logs in or has gone is dismissed no more
 abbrev pub came : MachineView → WorkerEvent → MachineView
@@ -187,7 +198,7 @@ effect_of m (Tick wanted has_build) =
     }
 effect_of m Over =
     does
-    (if m.running && not m.over
+    (if m.running && not m.over && not m.dismissed
     then record { ready = is_ready m.known; process = process_act.Shutdown; gives_up = false }
     else nothing m)
 

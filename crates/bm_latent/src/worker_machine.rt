@@ -143,7 +143,8 @@ impl WorkerMachine {
         }
     }
 
-    // Hears an event, and answers what is to be done.
+    // Hears an event, and answers what is to be done. A program that no build was just said to wait
+    // for is started by the next tick, if by then one does.
     fn hear(&mut self, event: WorkerEvent) -> WorkerAction
         ensures machine { self.new ≡ heard self.old event }
         ensures action { result ≡ answer self.old event }
@@ -163,6 +164,9 @@ impl WorkerMachine {
         }
         if self.state.is_stopping() {
             self.must_end();
+        }
+        if action.process == ProcessAction::Start && event != WorkerEvent::Wanted {
+            action.process = ProcessAction::None;
         }
         action
     }
@@ -320,7 +324,7 @@ impl WorkerMachine {
     {
         self.must_end();
         let mut action = self.nothing();
-        if self.is_running && !self.is_over {
+        if self.is_running && !self.is_over && !self.is_dismissed {
             action.process = ProcessAction::Shutdown;
         }
         self.is_dismissed = self.is_dismissed || self.is_running;
