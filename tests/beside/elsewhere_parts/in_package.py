@@ -18,7 +18,7 @@ import tempfile
 
 import drive
 
-PACKAGE = os.path.join(os.path.dirname(os.path.abspath(__file__)), "..", "..", "package")
+PACKAGE = os.path.abspath(f"{__file__}/../../../../package")
 UNITS = ("bolgrudi-master@main.service", "bolgrudi-worker@w0.service")
 # What systemd-analyze may say at the most, of 10.
 MOST_EXPOSED = 2.0
