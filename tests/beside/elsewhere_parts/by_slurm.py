@@ -57,8 +57,8 @@ def job_of_worker():
     raise drive.Fault("no job of the worker")
 
 
-def leaves_nothing(what, master=None):
-    BEFORE.leaves_nothing(what, but=[master.process.pid] if master else [], jobs=jobs)
+def leaves_nothing(what, master=None, seconds=drive.MOST_SECONDS_TO_END):
+    BEFORE.leaves_nothing(what, but=[master.process.pid] if master else [], seconds=seconds, jobs=jobs)
 
 
 def builds():
@@ -129,7 +129,7 @@ def master_killed():
         master.begin(2)
         master.process.kill()
         master.process.wait()
-        leaves_nothing("the master's kill")
+        leaves_nothing("the master's kill", seconds=drive.MOST_SECONDS_OF_TRIES)
 
 
 def occupy(seconds):

@@ -212,7 +212,7 @@ def master_killed(way, before, machine):
         master.begin(2)
         master.process.kill()
         master.process.wait()
-        before.leaves_nothing("the master's kill")
+        before.leaves_nothing("the master's kill", seconds=drive.MOST_SECONDS_OF_TRIES)
 
 
 # What leaves nothing behind in each way. In the ways but the last a step may outlive its worker:

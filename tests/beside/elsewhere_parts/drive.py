@@ -25,6 +25,8 @@ import urllib.request
 # Bounds for a hang, and no part of what is tested.
 MOST_SECONDS = 60
 MOST_SECONDS_TO_END = 30
+# A worker whose master is gone tries to connect for a minute, and its commands go on meanwhile.
+MOST_SECONDS_OF_TRIES = 150
 
 
 class Fault(Exception):
