@@ -3,3 +3,4 @@ pub mod Declining
 pub mod Serving
 pub mod Waiting
 pub mod ConnectionStates
+pub mod StepLawful

@@ -16,9 +16,11 @@ pub mod Login
 pub mod LoginFates
 pub mod LoginRefusals
 -- CancelPolicy: which step a cancel of a build ends, what is told of it, and what is interrupted.
--- StepMachine: what a build does with its steps, by that policy and by their limits.
+-- StepMachine: what a build does with its steps, by that policy and by their limits. StepLaws: what
+-- follows of it, whatever comes.
 pub mod CancelPolicy
 pub mod StepMachine
+pub mod StepLaws
 -- Ports: what a build's port to a lane is, and answers. StartProgress: how far a build has come
 -- with a command that it wants to have started. ByteCount: how many bytes an update carries.
 pub mod Ports

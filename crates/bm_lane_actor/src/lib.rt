@@ -50,6 +50,7 @@ mod read_watch;
 mod resume_timer;
 mod seen_flag;
 mod start_progress;
+mod step_laws;
 mod step_machine;
 mod step_meter;
 mod stop_orders;
@@ -81,6 +82,10 @@ pub use port_log::polled;
 pub use resume_timer::ResumeTimer;
 pub use seen_flag::SeenFlag;
 pub use start_progress::{StartProgress, StartStage, StartStep, after_step, start_step};
+pub use step_laws::{
+    cancels_are_told_once, commands_are_interrupted_once, held_cancel_leaves_out_one_step,
+    interrupted_steps_end, limits_are_told_once,
+};
 pub use step_machine::{StepActs, StepInput, StepMachine};
 pub use stop_orders::StopOrders;
 pub use stream::{LOGIN_MS, WorkerStream};
