@@ -6,21 +6,17 @@ use Rattle.std.proofs.lemmas.Bool.{true≢false}
 use Rattle.std.proofs.lemmas.Bool.Decides.{nat_tests}
 use Rattle.std.proofs.lemmas.List.Sums.{sum_by-cons}
 use Rattle.bm_session.specs.declared.results.Results.{Results}
-use Rattle.bm_session.specs.declared.results.Results.TheVariants.{Cancelled}
-use Rattle.bm_operator.specs.declared.reasons.StartRefusal.{StartRefusal}
 use Rattle.bm_operator.specs.declared.reasons.StartRefusal.TheVariants as why
 use Rattle.bm_operator.specs.declared.reasons.StepLimit.{StepLimit}
 use Rattle.bm_runner.specs.declared.port.Polled.{Polled}
 use Rattle.bm_runner.specs.declared.port.Polled.TheVariants.{Running, Cancel, Ended}
-use Rattle.bm_lane_actor.specs.declared.cancel_policy.Interruption.{Interruption}
 use Rattle.bm_lane_actor.specs.declared.cancel_policy.Interruption.TheVariants as order
 use Rattle.bm_lane_actor.specs.declared.step_machine.StepInput.{StepInput}
 use Rattle.bm_lane_actor.specs.declared.step_machine.StepInput.TheVariants.{Next, Started, Refused, Seen, Ticked, Interrupt, Ordered}
-use Rattle.bm_lane_actor.specs.declared.step_machine.StepActs.{StepActs}
 use Rattle.bm_lane_actor.specs.CancelPolicy.{CancelView, is_left_out, is_to_order}
 use Rattle.bm_lane_actor.specs.StepMeter.{MeterView, cancelled_after, is_given_up, is_late, limit_at, meter_after, reached_at}
 use Rattle.bm_lane_actor.specs.StepMachine.{StepView, at_limits, ended, heard, heard_acts, limit_seen, step_acts, step_after, uses_up}
-use Rattle.bm_lane_actor.specs.StepLaws.{CancelledStepsEnd, CancelsAreTold, CancelsToldOnce, HeldCancelLeavesOutOne, HeldCancelWaits, InterruptedOnce, LimitedStepsEnd, LimitsToldOnce, NoMoreAreLeftOut, OneCancelToldOnce, OneLimitACommand, acts, after, ends_by_cancel, holds_one, interrupts, is_end, is_next, is_plain_next, is_start, is_tick, is_to_be_ordered, left_out, says_end, takes_back, tells, tells_limit}
+use Rattle.bm_lane_actor.specs.StepLaws.{CancelledStepsEnd, CancelsAreTold, CancelsToldOnce, HeldCancelLeavesOutOne, HeldCancelWaits, InterruptedOnce, LimitedStepsEnd, LimitsToldOnce, NoMoreAreLeftOut, OneCancelToldOnce, OneLimitACommand, StepsEndSoon, acts, after, ends_by_cancel, holds_one, interrupts, is_end, is_next, is_plain_next, is_start, is_tick, is_to_be_ordered, says_end, takes_back, tells, tells_limit}
 
 -- neither of two tests holds
 neither : (a b : Bool) → (a || b) ≡ false → (a ≡ false) × (b ≡ false)
@@ -288,6 +284,28 @@ cancelled_steps_end s k (Ticked Cancel bytes ∷ is) e st en =
 cancelled_steps_end s k (i ∷ is) e st en =
     let parts = neither (says_end (step_acts i s)) (list_any says_end (acts (step_after i s) is)) en in
     omega (arith, other-input i is refl, cancelled_steps_end (step_after i s) k is e st parts.1)
+
+begun : (o : Option ℕ) → (k : ℕ) × (cancelled_after o true ≡ Some k)
+begun (Some k) = (min (k + 1) (2 ^ 32 - 1), refl)
+begun None = (0, refl)
+
+now-reached : (o l : Option StepLimit) → is_some (cond (is_some o) None l) ≡ true → is_some (cond (is_some o) o l) ≡ true
+now-reached (Some x) l h = refl
+now-reached None l h = h
+
+first-of-two : (a : Bool) → (a || false) ≡ true → a ≡ true
+first-of-two true h = refl
+first-of-two false h = h
+
+pub steps_end_soon : StepsEndSoon
+steps_end_soon s (Ended result) bytes is h st en = absurd (true≢false (sym h))
+steps_end_soon s Running bytes is h st en =
+    let told : is_some (reached_at s.meter bytes) ≡ true = first-of-two (is_some (reached_at s.meter bytes)) h in
+    let reached = now-reached s.meter.reached (limit_at s.meter bytes) told in
+    omega (arith, limited_steps_end (step_after (Ticked Running bytes) s) is reached st en)
+steps_end_soon s Cancel bytes is h st en =
+    let some = begun s.meter.cancelled in
+    omega (arith, cancelled_steps_end (step_after (Ticked Cancel bytes) s) some.0 is some.1 st en)
 
 -- Steps that are left out. One takes the cancel that is held; else that stays.
 

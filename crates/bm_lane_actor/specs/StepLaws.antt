@@ -1,13 +1,13 @@
 -- What follows for a build's steps, whatever comes.
-use Rattle.std.specs.Prelude.{◌≡◌, ℕ, ◌+◌, ◌-◌, ◌≤◌, Bool, true, false, ◌&&◌, not, if◌then◌else◌, List, [], ◌∷◌, count_by, Option, Some, None, is_some}
+use Rattle.std.specs.Prelude.{◌≡◌, ℕ, ◌+◌, ◌-◌, ◌≤◌, Bool, true, false, ◌&&◌, ◌||◌, not, if◌then◌else◌, List, [], ◌∷◌, count_by, Some, is_some}
 use Rattle.std.specs.List.{list_any}
 use Rattle.bm_runner.specs.declared.port.Polled.{Polled}
-use Rattle.bm_runner.specs.declared.port.Polled.TheVariants.{Running, Cancel, Ended}
+use Rattle.bm_runner.specs.declared.port.Polled.TheVariants.{Ended}
 use Rattle.bm_lane_actor.specs.declared.cancel_policy.Interruption.TheVariants as order
 use Rattle.bm_lane_actor.specs.declared.step_machine.StepInput.{StepInput}
-use Rattle.bm_lane_actor.specs.declared.step_machine.StepInput.TheVariants.{Next, Started, Refused, Seen, Ticked, Interrupt, Ordered}
+use Rattle.bm_lane_actor.specs.declared.step_machine.StepInput.TheVariants.{Next, Started, Refused, Ticked, Ordered}
 use Rattle.bm_lane_actor.specs.declared.step_machine.StepActs.{StepActs}
-use Rattle.bm_lane_actor.specs.StepMachine.{StepView, is_cancelled, step_acts, step_after}
+use Rattle.bm_lane_actor.specs.StepMachine.{StepView, is_cancel, is_cancelled, step_acts, step_after}
 
 -- the machine after these inputs, and what it told to do, an answer an input
 abbrev pub after : StepView → List StepInput → StepView
@@ -26,8 +26,8 @@ abbrev pub is_start : StepInput → Bool
 is_start (Started max_bytes timeout_ticks silent_ticks set) = true
 is_start i = false
 
--- the order to interrupt a command is to be given from here: the command was just started, or there
--- was no memory for the order
+-- From here an order to interrupt is to be given. A command was started, or there was no memory for
+-- the order.
 abbrev pub is_to_be_ordered : StepInput → Bool
 is_to_be_ordered (Started max_bytes timeout_ticks silent_ticks set) = true
 is_to_be_ordered (Ordered kept) = not kept
@@ -88,14 +88,14 @@ abbrev pub CancelsToldOnce : Type 0
 CancelsToldOnce =
     (s : StepView) (is : List StepInput)
     → count_by tells (acts s is) + one_if s.cancels.told
-      ≤ count_by takes_back is + count_by ends_by_cancel (acts s is) + one_if (after s is).cancels.told
+    ≤ count_by takes_back is + count_by ends_by_cancel (acts s is) + one_if (after s is).cancels.told
 
 -- and each cancel was told that a start has taken back
 abbrev pub CancelsAreTold : Type 0
 CancelsAreTold =
     (s : StepView) (is : List StepInput)
     → count_by takes_back is + one_if (after s is).cancels.told
-      ≤ count_by tells (acts s is) + one_if s.cancels.told
+    ≤ count_by tells (acts s is) + one_if s.cancels.told
 
 -- a cancel that is neither taken back nor used up is told at most once
 abbrev pub OneCancelToldOnce : Type 0
@@ -114,7 +114,7 @@ abbrev pub OneLimitACommand : Type 0
 OneLimitACommand =
     (s : StepView) (is : List StepInput)
     → count_by tells_limit (acts s is) + one_if (is_some s.meter.reached)
-      ≤ count_by is_start is + one_if (is_some (after s is).meter.reached)
+    ≤ count_by is_start is + one_if (is_some (after s is).meter.reached)
 
 -- A command that has reached a limit goes on for at most 999 ticks: by the next its step has ended.
 abbrev pub LimitedStepsEnd : Type 0
@@ -129,6 +129,15 @@ CancelledStepsEnd =
     (s : StepView) (ticks : ℕ) (is : List StepInput) → s.meter.cancelled ≡ Some ticks
     → list_any is_start is ≡ false → list_any says_end (acts s is) ≡ false
     → count_by is_tick is ≤ 999 - ticks
+
+-- at most 999 ticks follow the one in which a limit is told or a cancel is seen
+abbrev pub StepsEndSoon : Type 0
+StepsEndSoon =
+    (s : StepView) (seen : Polled) (bytes : ℕ) (is : List StepInput)
+    → (tells_limit (step_acts (Ticked seen bytes) s) || is_cancel seen) ≡ true
+    → list_any is_start is ≡ false
+    → list_any says_end (acts (step_after (Ticked seen bytes) s) is) ≡ false
+    → count_by is_tick is ≤ 999
 
 -- how many steps are left out
 abbrev pub left_out : StepView → List StepInput → ℕ
@@ -146,12 +155,12 @@ abbrev pub HeldCancelLeavesOutOne : Type 0
 HeldCancelLeavesOutOne =
     (s : StepView) → s.cancels.held ≡ true
     → ((step_after (Next false) s).none ≡ true)
-      × ((step_after (Next false) s).cancels.held ≡ false)
-      × ((step_after (Next false) (step_after (Next false) s)).none ≡ false)
+    × ((step_after (Next false) s).cancels.held ≡ false)
+    × ((step_after (Next false) (step_after (Next false) s)).none ≡ false)
 
 -- no more steps are left out than cancels were held for one
 abbrev pub NoMoreAreLeftOut : Type 0
 NoMoreAreLeftOut =
     (s : StepView) (is : List StepInput)
     → left_out s is + one_if (after s is).cancels.held
-      ≤ count_by holds_one is + one_if s.cancels.held
+    ≤ count_by holds_one is + one_if s.cancels.held

@@ -1,6 +1,6 @@
 //! Laws of a build's steps over whatever comes, as contracts.
 
-ghost use Rattle.bm_lane_actor.specs.StepLaws.{CancelledStepsEnd, CancelsAreTold, CancelsToldOnce, HeldCancelLeavesOutOne, HeldCancelWaits, InterruptedOnce, LimitedStepsEnd, LimitsToldOnce, NoMoreAreLeftOut, OneCancelToldOnce, OneLimitACommand};
+ghost use Rattle.bm_lane_actor.specs.StepLaws.{CancelledStepsEnd, CancelsAreTold, CancelsToldOnce, HeldCancelLeavesOutOne, HeldCancelWaits, InterruptedOnce, LimitedStepsEnd, LimitsToldOnce, NoMoreAreLeftOut, OneCancelToldOnce, OneLimitACommand, StepsEndSoon};
 
 /// Once the order to interrupt a command was kept, it isn't given again for that command.
 pub fn commands_are_interrupted_once()
@@ -24,6 +24,7 @@ pub fn limits_are_told_once()
 pub fn interrupted_steps_end()
     ensures limited { LimitedStepsEnd }
     ensures cancelled { CancelledStepsEnd }
+    ensures soon { StepsEndSoon }
 {}
 
 /// A cancel that is held waits for the next step that doesn't always run, and leaves out that one
