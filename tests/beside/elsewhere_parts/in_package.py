@@ -193,7 +193,8 @@ def examples():
                 file.write(text)
             words = ["chroot", packages.root, "buildmaster", "serve", "/build.toml"]
             done = subprocess.run(words, stdin=subprocess.DEVNULL, capture_output=True, text=True, env=ENVIRONMENT)
-            drive.check(done.returncode == 1 and "program of w0 not started" in done.stderr, f"{name}: {done.stderr}")
+            is_taken = done.returncode == 1 and re.search(r"^program of \S+ not started", done.stderr, re.MULTILINE)
+            drive.check(is_taken, f"{name}: {done.stderr}")
             print(f"   {name} is taken")
 
 
