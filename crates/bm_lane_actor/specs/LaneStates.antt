@@ -15,6 +15,7 @@ use Rattle.bm_link.specs.declared.asks.Ask.TheVariants.{Shutdown}
 use Rattle.bm_link.specs.declared.attaching.Attached.{Attached}
 use Rattle.bm_link.specs.declared.fault.LinkFault.{LinkFault}
 use Rattle.bm_link.specs.declared.fault.LinkFault.TheVariants.{Lane}
+use Rattle.bm_link.specs.declared.fault.LinkFault.TheVariants as fault
 use Rattle.bm_link.specs.declared.parts.Turn.{Turn}
 use Rattle.bm_link.specs.declared.parts.Turn.TheVariants.{Quiet}
 use Rattle.bm_link.specs.Asking.{AsksFor}
@@ -61,15 +62,17 @@ abbrev pub renewed : ℕ → Heard → TimerView → TimerView
 renewed n lane t = if is_up lane.trace || not (n == length lane.trace) then begun t else t
 
 -- What a build is told of a start: the command's number, or to try it later, or that it is
--- refused. It is tried later where the lane is busy, has no room for one more open command or wants
--- memory. Or the link failed and the lane took no order. A full lane refuses it with that reason.
+-- refused. It is tried later where the lane is busy or has no room for one more open command, or
+-- the link failed and the lane took no order. So it is where memory is wanting, which is told. A
+-- full lane refuses it with that reason.
 abbrev pub start_outcome : Bool → Result ℕ LinkFault → OrderOutcome
 start_outcome taken (Ok k) = outcome.Started k
 start_outcome taken (Err (Lane Busy)) = outcome.Later
 start_outcome taken (Err (Lane (Session TooManyOpen))) = outcome.Later
-start_outcome taken (Err (Lane (Session Mem))) = outcome.Later
+start_outcome taken (Err (Lane (Session Mem))) = outcome.Short
 start_outcome taken (Err (Lane (Session Full))) = outcome.Full
 start_outcome taken (Err (Lane why)) = outcome.Refused
+start_outcome taken (Err fault.Mem) = if taken then outcome.Refused else outcome.Short
 start_outcome taken (Err f) = if taken then outcome.Refused else outcome.Later
 
 -- of an interruption: an order that the lane took is sent again where its session is resumed
@@ -88,7 +91,7 @@ unlinked_outcome lane = if is_cut lane.trace then outcome.Later else outcome.Ref
 abbrev pub is_untried : OrderOutcome → Bool
 is_untried outcome.TooLong = true
 is_untried outcome.Cancelled = true
-is_untried outcome.Later = true
+is_untried outcome.Short = true
 is_untried came = false
 
 abbrev pub is_busy_refusal : HearRefusal → Bool

@@ -1,5 +1,6 @@
 -- How far a build has come with the command that it wants to have started.
-use Rattle.std.specs.Prelude.{ℕ, Option, Some, None, Result, Ok, Err}
+use Rattle.std.specs.Prelude.{ℕ, Bool, false, if◌then◌else◌, Option, Some, None, Result, Ok, Err}
+use Rattle.bm_latent.specs.StartTries.{is_given_up, tries_after}
 use Rattle.bm_operator.specs.declared.reasons.StartRefusal.{StartRefusal}
 use Rattle.bm_operator.specs.declared.reasons.StartRefusal.TheVariants as why
 use Rattle.bm_lane_actor.specs.declared.order_outcome.OrderOutcome.{OrderOutcome}
@@ -20,12 +21,24 @@ start_refusal _ = why.Lost
 abbrev pub start_step : Option OrderOutcome → StartStep
 start_step (Some (outcome.Started k)) = step.Started k
 start_step (Some outcome.Later) = step.AskAgain
+start_step (Some outcome.Short) = step.AskShort
 start_step (Some came) = step.Refused (start_refusal came)
 start_step None = step.Refused why.Memory
+
+-- where memory is wanting it is asked again, for so many ticks
+abbrev pub bounded : ℕ → StartStep → StartStep
+bounded tries step.AskShort = if is_given_up tries false then step.Refused why.Memory else step.AskShort
+bounded tries s = s
+
+-- for how many ticks memory was wanting, once this was done
+abbrev pub tries_in : ℕ → StartStep → ℕ
+tries_in tries step.AskShort = tries_after tries
+tries_in tries s = tries
 
 -- after one order more: the first answer that isn't to try it later settles it
 abbrev pub after_step : StartStage → StartStep → StartStage
 after_step stage.Asking step.AskAgain = stage.Asking
+after_step stage.Asking step.AskShort = stage.Asking
 after_step stage.Asking (step.Started k) = stage.Started k
 after_step stage.Asking (step.Refused e) = stage.Refused e
 after_step _ _ = stage.AskedTwice

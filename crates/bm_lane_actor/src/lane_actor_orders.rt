@@ -11,7 +11,6 @@ use crate::order_outcome::OrderOutcome;
 use crate::stream::WorkerStream;
 use bm_lane::Yard;
 use bm_link::are_short;
-use bm_operator::LossCause;
 use crossbeam_channel::Sender;
 use std::alloc::Global;
 use std::io::Write;
@@ -60,8 +59,9 @@ where
     }
 
     /// Starts a command. The words of a configuration are short enough. A plan by which others
-    /// come is refused here, before its order is kept to be sent again. The flag is looked at last:
-    /// who set it before the lane took the order knows that no command follows.
+    /// come is refused here, before its order is kept to be sent again. The flag is looked at right
+    /// before the lane takes the order: who set it by then knows that no command follows. It is
+    /// looked at before memory is wanting, so that a cancel ends what waits for that.
     fn start(&mut self, order: StartOrder) -> OrderOutcome
         ensures { StartsOrder ⟦<WorkerStream<R> as Write>⟧.contents order.words self.old.state
             result self.new.state }
@@ -75,12 +75,13 @@ where
         if !are_short(argv) {
             return OrderOutcome::TooLong;
         }
-        if self.commands.reserve().is_err() {
-            return OrderOutcome::Later;
-        }
+        let has_room = self.commands.reserve().is_ok();
         let before = self.state.connection();
         if is_set(&cancelled) {
             return OrderOutcome::Cancelled;
+        }
+        if !has_room {
+            return OrderOutcome::Short;
         }
         let outcome = self.state.start(self.rt, self.alloc, argv);
         match outcome {
@@ -89,10 +90,12 @@ where
             OrderOutcome::Interrupted
             | OrderOutcome::Cancelled
             | OrderOutcome::Later
+            | OrderOutcome::Short
             | OrderOutcome::Refused
             | OrderOutcome::TooLong => {}
         }
-        self.note(before, LossCause::Stream);
+        let why = self.state.order_loss();
+        self.note(before, why);
         self.reads.told();
         outcome
     }
@@ -112,7 +115,8 @@ where
         };
         let outcome = self.state.interrupt(self.rt, self.alloc, command);
         self.stops.tried(outcome);
-        self.note(before, LossCause::Stream);
+        let why = self.state.order_loss();
+        self.note(before, why);
         if outcome == OrderOutcome::Later && self.state.connection() == ConnectionState::Up {
             self.wait_for_place(took);
         }

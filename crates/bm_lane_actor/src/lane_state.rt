@@ -12,7 +12,7 @@ ghost use Rattle.bm_lane_actor.specs.LaneStates.{awaited_of, Attaches, Closes, E
 ghost use Rattle.bm_lane_actor.specs.LaneEvents.{connection_of};
 
 use crate::connection_state::ConnectionState;
-use crate::lane_event::connection_of;
+use crate::lane_event::{connection_of, loss_of};
 use crate::link_keeping::{decline, settle, take_up};
 use crate::order_outcome::{OrderOutcome, interrupt_outcome, start_outcome, unlinked_outcome};
 use crate::placing::put;
@@ -20,6 +20,7 @@ use crate::resume_timer::ResumeTimer;
 use bm_lane::{HearRefusal, ReaderEnd, Yard};
 use bm_lines::Text;
 use bm_link::{Ask, Attached, LinkFault, MasterLink, ResumeState, Turn};
+use bm_operator::LossCause;
 use bm_session::Event;
 use bumpalo::Bump;
 use std::alloc::Global;
@@ -37,6 +38,8 @@ pub struct LaneState<Y: Yard, S> {
     resume_state: ResumeState,
     link: Option<MasterLink<S>>,
     timer: ResumeTimer,
+    /// What the link answered to the last order, where that was a fault.
+    fault: Option<LinkFault>,
 }
 
 impl<Y: Yard, S> Model for LaneState<Y, S> {
@@ -89,6 +92,7 @@ impl<Y: Yard, S> LaneState<Y, S> {
             resume_state: ResumeState::new(alloc, resume_ticks > 0),
             link: None,
             timer: ResumeTimer::new(resume_ticks),
+            fault: None,
         }
     }
 
@@ -97,6 +101,14 @@ impl<Y: Yard, S> LaneState<Y, S> {
         ensures { result ≡ connection_of self.now.lane.trace }
     {
         connection_of(&self.reader)
+    }
+
+    /// Why the lane is cut or given up, where the last order was.
+    pub fn order_loss(&self) -> LossCause {
+        match self.fault {
+            Some(fault) => loss_of(fault),
+            None => LossCause::Stream,
+        }
     }
 
     /// The last event of the lane, if it had one.
@@ -236,6 +248,7 @@ impl<Y: Yard, S: Read + Write + Drop> LaneState<Y, S> {
         let command = self.reader.next_command();
         let answer = link.start(rt, alloc, &mut self.reader, &mut self.resume_state, argv);
         settle(&self.reader, &mut self.link, &mut self.timer);
+        self.fault = answer.err();
         start_outcome(answer, command != self.reader.next_command())
     }
 
@@ -249,6 +262,7 @@ impl<Y: Yard, S: Read + Write + Drop> LaneState<Y, S> {
         let order = self.reader.next_order();
         let answer = link.interrupt(rt, alloc, &mut self.reader, &mut self.resume_state, command);
         settle(&self.reader, &mut self.link, &mut self.timer);
+        self.fault = answer.err();
         interrupt_outcome(answer, order != self.reader.next_order())
     }
 

@@ -17,8 +17,10 @@ pub enum OrderOutcome {
     /// Nothing was done: the build was cancelled before the lane took the order.
     Cancelled,
     /// Nothing was done, and it may be tried again. The lane is cut and may be resumed, is busy, or
-    /// has no room for one more open command. Or memory is wanting.
+    /// has no room for one more open command. Or memory is wanting for an interruption.
     Later,
+    /// Nothing was done, since memory is wanting. It may be tried again.
+    Short,
     /// The lane was given up, or refuses the order.
     Refused,
     /// The lane has had as many events as it may.
@@ -27,21 +29,20 @@ pub enum OrderOutcome {
     TooLong,
 }
 
-/// What came of a start, by the link's answer and whether the lane took the order. One for which
-/// memory is wanting comes later: its session goes on, so the worker isn't lost.
+/// What came of a start, by the link's answer and whether the lane took the order. Where memory is
+/// wanting for it the session goes on, so the worker isn't lost.
 pub(crate) fn start_outcome(answer: Result<u64, LinkFault>, is_taken: bool) -> OrderOutcome
     ensures { result ≡ start_outcome is_taken answer }
 {
     match answer {
         Ok(command) => OrderOutcome::Started(command),
-        Err(
-            LinkFault::Lane(
-                HearRefusal::Busy | HearRefusal::Session(Refusal::TooManyOpen | Refusal::Mem),
-            ),
-        ) => OrderOutcome::Later,
+        Err(LinkFault::Lane(HearRefusal::Busy | HearRefusal::Session(Refusal::TooManyOpen))) =>
+            OrderOutcome::Later,
+        Err(LinkFault::Lane(HearRefusal::Session(Refusal::Mem))) => OrderOutcome::Short,
         Err(LinkFault::Lane(HearRefusal::Session(Refusal::Full))) => OrderOutcome::Full,
         Err(LinkFault::Lane(HearRefusal::Session(_))) => OrderOutcome::Refused,
         Err(_) if is_taken => OrderOutcome::Refused,
+        Err(LinkFault::Mem) => OrderOutcome::Short,
         Err(_) => OrderOutcome::Later,
     }
 }

@@ -55,7 +55,7 @@ pub(crate) fn wait_until_told<S: Drop, R: Wait + Clock>(
 }
 
 /// Starts a step's command once the lane is up. An order that is to come later is tried again once
-/// an item was drained, and each tick. Whether the build is cancelled is looked at by the lane's
+/// an item was drained, and each tick; one for which the lane wants memory, each tick. Whether the build is cancelled is looked at by the lane's
 /// actor alone, as the last thing before it takes the order. The first answer that isn't to try it
 /// later settles it, and no order follows that one.
 ///
@@ -64,7 +64,7 @@ pub(crate) fn wait_until_told<S: Drop, R: Wait + Clock>(
 /// `Lost` where the lane is given up, or refuses. `Full` where it has had as many events as it
 /// may. `TooLong` where the words are more than an order can have. `Cancelled` where the step
 /// doesn't always run and its build is cancelled before the lane takes the order. `Memory` where
-/// that is wanting. Nothing is started then.
+/// that is wanting here, or at the lane for a minute. Nothing is started then.
 pub(crate) fn start<S: Drop, R: Wait + Clock + Drop>(
     rt: &R,
     alloc: Global,
@@ -86,6 +86,7 @@ pub(crate) fn start<S: Drop, R: Wait + Clock + Drop>(
             StartStep::Started(command) => return Ok(command),
             StartStep::Refused(why) => return Err(why),
             StartStep::AskAgain => gate.wait_for_drain(place, took, tick),
+            StartStep::AskShort => thread::sleep(rt, tick),
         }
     }
     unreachable!()

@@ -1,7 +1,8 @@
 //! The orders of a build to start one command, and how far it has come by their answers.
 
-ghost use Rattle.std.specs.Prelude.{◌≡◌};
-ghost use Rattle.bm_lane_actor.specs.StartProgress.{after_step, start_refusal, start_step};
+ghost use Rattle.std.specs.Prelude.{◌≡◌, false};
+ghost use Rattle.bm_latent.specs.StartTries.{is_given_up};
+ghost use Rattle.bm_lane_actor.specs.StartProgress.{after_step, bounded, start_refusal, start_step, tries_in};
 ghost use Rattle.bm_lane_actor.specs.declared.start_progress.StartStage.TheVariants as stage;
 
 use crate::byte_count::ByteCount;
@@ -9,6 +10,7 @@ use crate::lane_request::{CancelFlag, LaneRequest, StartOrder};
 use crate::mailbox::LaneHandle;
 use crate::order_outcome::OrderOutcome;
 use bm_board::StepPlan;
+use bm_latent::StartTries;
 use bm_operator::StartRefusal;
 use crossbeam_channel::bounded;
 use std::alloc::Global;
@@ -16,10 +18,12 @@ use std::sync::{Arc, Wait};
 use std::time::Clock;
 
 /// What a build does by the answer to one order.
-#[derive(Clone, Copy)]
+#[derive(Clone, Copy, PartialEq, Eq)]
 pub enum StartStep {
     /// The lane can't take the order now: it asks again once an item was drained, or a tick passed.
     AskAgain,
+    /// Memory is wanting for that: it asks again once a tick has passed.
+    AskShort,
     /// The lane has started this command.
     Started(u64),
     /// The command isn't started, and isn't asked for again.
@@ -46,6 +50,8 @@ pub enum StartStage {
 #[derive(Drop)]
 pub struct StartProgress {
     stage: StartStage,
+    /// For how long memory was wanting for it.
+    tries: StartTries,
 }
 
 /// Why a step isn't started whose order came to this, and isn't tried again.
@@ -59,6 +65,7 @@ fn start_refusal(outcome: OrderOutcome) -> StartRefusal
         OrderOutcome::Started(_)
         | OrderOutcome::Interrupted
         | OrderOutcome::Later
+        | OrderOutcome::Short
         | OrderOutcome::Refused => StartRefusal::Lost,
     }
 }
@@ -70,6 +77,7 @@ pub fn start_step(answer: Option<OrderOutcome>) -> StartStep
     match answer {
         Some(OrderOutcome::Started(command)) => StartStep::Started(command),
         Some(OrderOutcome::Later) => StartStep::AskAgain,
+        Some(OrderOutcome::Short) => StartStep::AskShort,
         Some(outcome) => StartStep::Refused(start_refusal(outcome)),
         None => StartStep::Refused(StartRefusal::Memory),
     }
@@ -80,7 +88,7 @@ pub fn after_step(before: StartStage, step: StartStep) -> StartStage
     ensures { result ≡ after_step before step }
 {
     match (before, step) {
-        (StartStage::Asking, StartStep::AskAgain) => StartStage::Asking,
+        (StartStage::Asking, StartStep::AskAgain | StartStep::AskShort) => StartStage::Asking,
         (StartStage::Asking, StartStep::Started(command)) => StartStage::Started(command),
         (StartStage::Asking, StartStep::Refused(why)) => StartStage::Refused(why),
         _ => StartStage::AskedTwice,
@@ -126,10 +134,11 @@ fn try_start<S: Drop, R: Wait + Clock>(
 impl StartProgress {
     /// Nothing was asked for.
     pub fn new() -> StartProgress
-        ensures { result.stage ≡ stage.Asking }
+        ensures { (result.stage ≡ stage.Asking) × (result.tries ≡ 0) }
     {
         StartProgress {
             stage: StartStage::Asking,
+            tries: StartTries::new(),
         }
     }
 
@@ -142,6 +151,32 @@ impl StartProgress {
         why
     }
 
+    /// The stage that the command has reached.
+    pub fn stage(&self) -> StartStage
+        ensures { result ≡ self.now.stage }
+    {
+        self.stage
+    }
+
+    /// The lane has answered an order so; none where memory was wanting for that. The result is what
+    /// the build does then. A start that wants memory at the lane is refused after a minute.
+    pub fn hear(&mut self, answer: Option<OrderOutcome>) -> StartStep
+        ensures step { result ≡ bounded self.old.tries (start_step answer) }
+        ensures stage { self.new.stage ≡ after_step self.old.stage result }
+        ensures tries { self.new.tries ≡ tries_in self.old.tries result }
+    {
+        let mut said = start_step(answer);
+        if said == StartStep::AskShort {
+            if self.tries.is_given_up(false) {
+                said = StartStep::Refused(StartRefusal::Memory);
+            } else {
+                self.tries.tick();
+            }
+        }
+        self.stage = after_step(self.stage, said);
+        said
+    }
+
     /// Gives the lane's actor the order once, and hears its answer.
     pub fn ask<S: Drop, R: Wait + Clock>(
         &mut self,
@@ -152,10 +187,10 @@ impl StartProgress {
         cancelled: &CancelFlag,
         bytes: &ByteCount,
     ) -> StartStep
-        ensures { self.new.stage ≡ after_step self.old.stage result }
+        ensures stage { self.new.stage ≡ after_step self.old.stage result }
+        ensures tries { self.new.tries ≡ tries_in self.old.tries result }
+        ensures bounded { result ≡ bounded self.old.tries result }
     {
-        let said = start_step(try_start(rt, alloc, handle, step, cancelled, bytes));
-        self.stage = after_step(self.stage, said);
-        said
+        self.hear(try_start(rt, alloc, handle, step, cancelled, bytes))
     }
 }

@@ -12,7 +12,7 @@ use Rattle.bm_latent.specs.declared.worker_input.WorkerInput.TheVariants.{Happen
 use Rattle.bm_latent.specs.declared.worker_input.WorkerEffect.{WorkerEffect}
 use Rattle.bm_latent.specs.Deadline.{act_at, after_tick, begun}
 use Rattle.bm_latent.specs.StartTries.{is_given_up, tries_after}
-use Rattle.bm_latent.specs.WorkerState.{WorkerView, action_of, is_needless, is_occupied, is_ready, is_timed, is_to_stop, known_after}
+use Rattle.bm_latent.specs.WorkerState.{WorkerView, action_of, is_needless, is_occupied, is_ready, is_there, is_timed, is_to_stop, known_after}
 
 -- What is known of the worker. Whether its program is to be started, and for how many ticks that
 -- was tried. Whether a program runs, since how many ticks it is to end, and whether it was asked
@@ -175,7 +175,8 @@ machine_after m (Refused may_pass) =
 machine_after m Ended =
     if not m.running then m else (if m.over then stopped m else heard (stopped m) event.Stopped)
 machine_after m (Tick wanted has_build) = after_ticking (ticked (unneeded m wanted)) wanted has_build
-machine_after m Over = record (ending m) { over = true; dismissed = m.dismissed || m.running }
+machine_after m Over =
+    record (ending m) { over = true; dismissed = m.dismissed || m.running && is_there m.known }
 
 -- what is then to be done
 abbrev pub effect_of : MachineView → WorkerInput → WorkerEffect
@@ -198,7 +199,7 @@ effect_of m (Tick wanted has_build) =
     }
 effect_of m Over =
     does
-    (if m.running && not m.over && not m.dismissed
+    (if m.running && not m.over && not m.dismissed && is_there m.known
     then record { ready = is_ready m.known; process = process_act.Shutdown; gives_up = false }
     else nothing m)
 

@@ -2,7 +2,7 @@
 use Rattle.std.specs.Prelude.{Bool, true, false, ◌&&◌, ◌||◌, not, if◌then◌else◌, List, [], ◌∷◌, Option}
 use Rattle.std.specs.Option.{option_map_or, option_map}
 use Rattle.bm_latent.specs.declared.event.LatentState.{LatentState}
-use Rattle.bm_latent.specs.declared.event.LatentState.TheVariants.{Substantiating, Substantiated, Insubstantiating, Waiting}
+use Rattle.bm_latent.specs.declared.event.LatentState.TheVariants.{Substantiating, Substantiated, Insubstantiating, Waiting, Held}
 use Rattle.bm_latent.specs.declared.event.LatentEvent.{LatentEvent}
 use Rattle.bm_latent.specs.declared.event.LatentEvent.TheVariants.{Want, Started as LatentStarted, Failed as LatentFailed, Attached as LatentAttached, Lost as LatentLost, IdleTick, Stopped as LatentStopped, Cut as LatentCut}
 use Rattle.bm_latent.specs.declared.event.Act.{Act}
@@ -113,6 +113,14 @@ is_timed p = p.running || option_map_or (λ w. is_substantiated w.state) p.laten
 -- the same of what is known of a worker
 abbrev pub is_to_stop : WorkerView → Bool
 is_to_stop p = option_map_or (λ w. is_stopping w.state) p.latent false
+
+-- a worker is there while it is attached, and while a cut session of it may be resumed
+abbrev pub is_held : LatentState → Bool
+is_held Held = true
+is_held state = false
+
+abbrev pub is_there : WorkerView → Bool
+is_there p = p.attached || option_map_or (λ w. is_held w.state) p.latent false
 
 -- a worker that is to stop is told so where it is attached: when it is to stop, or once it is back
 abbrev pub is_dismissed : WorkerView → WorkerEvent → Act → Bool

@@ -324,10 +324,11 @@ impl WorkerMachine {
     {
         self.must_end();
         let mut action = self.nothing();
-        if self.is_running && !self.is_over && !self.is_dismissed {
+        let is_there = self.state.is_there();
+        if self.is_running && !self.is_over && !self.is_dismissed && is_there {
             action.process = ProcessAction::Shutdown;
         }
-        self.is_dismissed = self.is_dismissed || self.is_running;
+        self.is_dismissed = self.is_dismissed || self.is_running && is_there;
         self.is_over = true;
         does(action)
     }

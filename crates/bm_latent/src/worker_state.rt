@@ -2,7 +2,7 @@
 
 ghost use Rattle.std.specs.Prelude.{◌≡◌, ◌≤◌, Some, None};
 ghost use Rattle.bm_latent.specs.declared.event.LatentState;
-ghost use Rattle.bm_latent.specs.WorkerState.{act_of, action_of, gives_up, is_needless, is_occupied, is_ready, is_timed, is_to_stop, known_after, latent_after, newcomer, process_action};
+ghost use Rattle.bm_latent.specs.WorkerState.{act_of, action_of, gives_up, is_needless, is_occupied, is_ready, is_there, is_timed, is_to_stop, known_after, latent_after, newcomer, process_action};
 
 use crate::event::{Act, LatentEvent, LatentState};
 use crate::machine::Latent;
@@ -166,6 +166,17 @@ impl WorkerState {
             },
             None => false,
         }
+    }
+
+    /// Whether the worker is there: attached, or cut with a session that may be resumed.
+    pub fn is_there(&self) -> bool
+        ensures { result ≡ is_there self.now }
+    {
+        self.attached
+            || match &self.latent {
+                Some(latent) => latent.state() == LatentState::Held,
+                None => false,
+            }
     }
 
     /// Whether the worker takes builds.

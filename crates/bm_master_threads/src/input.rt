@@ -83,11 +83,14 @@ struct InputLine {
 }
 
 impl InputLine {
-    fn new(alloc: Global) -> InputLine {
-        InputLine {
-            bytes: Vec::new(alloc),
+    // A line has room for all that one may have: else want of memory, later, would lose a cancel.
+    // None where memory is wanting.
+    fn new(alloc: Global) -> Option<InputLine> {
+        let bytes = Vec::with_capacity(alloc, MOST_LINE).ok()?;
+        Some(InputLine {
+            bytes,
             is_whole: true,
-        }
+        })
     }
 
     fn push(&mut self, byte: u8) {
@@ -163,16 +166,15 @@ where
 }
 
 // Tells what each line of the input asks for, until the input ends or can't be read.
-fn read_input<I, Y, R>(shared: &SharedState<Y, R>, input: I)
+fn read_input<I, Y, R>(shared: &SharedState<Y, R>, input: I, line: InputLine)
 where
     I: Read + Drop,
     Y: Yard,
     R: Wait + Clock + Drop,
 {
     let rt = &shared.rt;
-    let mut input = input;
+    let (mut input, mut line) = (input, line);
     let mut piece = [0u8; 512];
-    let mut line = InputLine::new(shared.alloc);
     let mut misread = MisreadLimit {
         limit: RateLimit::new(MOST_MISREAD),
         began: Instant::now(rt).ok(),
@@ -198,20 +200,25 @@ where
 }
 
 // Reads the input once there is a coordinator that hears of it.
-fn read_once_heard<I, Y, R>(shared: &SharedState<Y, R>, input: I, begins: &Receiver<bool, Global>)
+fn read_once_heard<I, Y, R>(
+    shared: &SharedState<Y, R>,
+    input: I,
+    line: InputLine,
+    begins: &Receiver<bool, Global>,
+)
 where
     I: Read + Drop,
     Y: Yard,
     R: Wait + Clock + Drop,
 {
     if let Ok(true) = begins.recv(&shared.rt) {
-        read_input(shared, input);
+        read_input(shared, input, line);
         shared.events.tell(&shared.rt, MasterEvent::InputEnded);
     }
 }
 
 /// Starts the thread that reads the input. It begins once it is told true, and ends at once where
-/// it is told anything else. None where it can't be started.
+/// it is told anything else. None where it can't be started, or memory is wanting for a line.
 pub fn start_input<'s, E, Y, R, I>(
     scope: &Scope<'s, E>,
     shared: &'s SharedState<Y, R>,
@@ -223,8 +230,9 @@ where
     I: Read + Drop + Send + 's,
 {
     let (begin, begins) = bounded(shared.alloc, 1).ok()?;
+    let line = InputLine::new(shared.alloc)?;
     scope
-        .spawn(move || read_once_heard(shared, input, &begins))
+        .spawn(move || read_once_heard(shared, input, line, &begins))
         .ok()?;
     Some(begin)
 }

@@ -26,6 +26,9 @@ use std::{io, thread};
 /// Others may begin processes all the time, so it is done five times a look at the most. Such a
 /// look counts by what it found: else no kill on a busy machine would be told as done.
 ///
+/// In a namespace of processes that has another one's `/proc` the numbers there are of other
+/// processes. So nothing is killed where this shell has another number in it.
+///
 /// A killed process whose parent hasn't asked for its end has no environment any more, and isn't
 /// found. On a busy machine one may wait for a processor that was killed a look before. It does
 /// nothing more, and from the fifth round on it isn't counted. One that is in the last round isn't
@@ -36,6 +39,7 @@ mark=$1
 case $mark in buildworker-?*.?*.) ;; *) exit 5 ;; esac
 PATH=$PATH:/usr/bin:/bin
 command -v grep >/dev/null && [ -r /proc/self/environ ] || exit 3
+read -r self _ </proc/self/stat && [ "$self" = $$ ] || exit 3
 kill_marked() {
   found=$(grep -laF -e "$mark" "$@" /dev/null 2>/dev/null)
   [ $? -lt 100 ] || exit 5
