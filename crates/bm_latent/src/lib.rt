@@ -14,6 +14,7 @@
 mod deadline;
 mod event;
 mod machine;
+mod machine_laws;
 mod start_tries;
 mod tick_counter;
 mod worker_event;
@@ -24,6 +25,7 @@ mod worker_state;
 pub use deadline::{Deadline, EndAct};
 pub use event::{Act, LatentEvent, LatentState};
 pub use machine::Latent;
+pub use machine_laws::{one_program_runs};
 pub use start_tries::StartTries;
 pub use tick_counter::{TICK_MS, TickCounter, millis};
 pub use worker_event::{ProcessAction, WorkerAction, WorkerEvent};

@@ -1,0 +1,71 @@
+-- What follows for a worker as its master drives it, whatever comes.
+use Rattle.std.specs.Prelude.{◌≡◌, ℕ, ◌+◌, ◌≤◌, Bool, true, false, if◌then◌else◌, List, [], ◌∷◌, count_by, Some, IfSome, is_some}
+use Rattle.std.specs.List.{list_any}
+use Rattle.bm_latent.specs.declared.deadline.EndAct.TheVariants as end_act
+use Rattle.bm_latent.specs.declared.worker_event.WorkerEvent.{WorkerEvent}
+use Rattle.bm_latent.specs.declared.worker_event.WorkerEvent.TheVariants as event
+use Rattle.bm_latent.specs.declared.worker_event.ProcessAction.TheVariants as process_act
+use Rattle.bm_latent.specs.declared.worker_input.WorkerInput.{WorkerInput}
+use Rattle.bm_latent.specs.declared.worker_input.WorkerInput.TheVariants.{Happened, Started, Ended, Tick, Over}
+use Rattle.bm_latent.specs.declared.worker_input.WorkerEffect.{WorkerEffect}
+use Rattle.bm_latent.specs.WorkerMachine.{MachineView, effect_of, machine_after}
+
+-- the machine after these inputs, and what it told to do, an effect an input
+abbrev pub after : MachineView → List WorkerInput → MachineView
+after m [] = m
+after m (i ∷ is) = after (machine_after m i) is
+
+abbrev pub effects : MachineView → List WorkerInput → List WorkerEffect
+effects m [] = []
+effects m (i ∷ is) = effect_of m i ∷ effects (machine_after m i) is
+
+-- what each machine keeps to, by the invariant of its type
+abbrev pub IsSound : MachineView → Type 0
+IsSound m =
+    IfSome m.deadline (λ ticks. 200 ≤ ticks → m.asked ≡ true)
+    × (m.starting ≡ true → m.running ≡ false)
+
+abbrev pub one_if : Bool → ℕ
+one_if b = if b then 1 else 0
+
+-- a program begins, since it was to be started, or ends that ran; else such an input does nothing
+abbrev pub begins : MachineView → WorkerInput → Bool
+begins m Started = m.starting
+begins m i = false
+
+abbrev pub stops : MachineView → WorkerInput → Bool
+stops m Ended = m.running
+stops m i = false
+
+-- over these inputs, how many programs begin, and how many end
+abbrev pub all_begun : MachineView → List WorkerInput → ℕ
+all_begun m [] = 0
+all_begun m (i ∷ is) = one_if (begins m i) + all_begun (machine_after m i) is
+
+abbrev pub all_stopped : MachineView → List WorkerInput → ℕ
+all_stopped m [] = 0
+all_stopped m (i ∷ is) = one_if (stops m i) + all_stopped (machine_after m i) is
+
+-- The programs that begin, and the one that ran, are those that end, and the one that runs. So
+-- between any two that begin one ends.
+abbrev pub OneProgramRuns : Type 0
+OneProgramRuns =
+    (m : MachineView) (is : List WorkerInput) → IsSound m
+    → all_begun m is + one_if m.running ≡ all_stopped m is + one_if (after m is).running
+
+-- a start is told only while no program runs
+abbrev pub StartsWhereNoneRuns : Type 0
+StartsWhereNoneRuns =
+    (m : MachineView) (is : List WorkerInput) (i : WorkerInput) → IsSound m
+    → (effect_of (after m is) i).action.process ≡ process_act.Start
+    → ((after m is).running ≡ false) × ((machine_after (after m is) i).running ≡ false)
+
+-- a build was just said to wait, or a tick has passed by which one does
+abbrev pub is_want : WorkerEvent → Bool
+is_want event.Wanted = true
+is_want e = false
+
+abbrev pub wants_start : WorkerInput → Bool
+wants_start (Happened e) = is_want e
+wants_start (Tick wanted has_build) = wanted
+wants_start i = false
