@@ -1,5 +1,5 @@
 -- The laws of a worker as its master drives it.
-use Rattle.std.proofs.Common.{◌≡◌, refl, sym, ap, ◌∙◌, ℕ, ◌+◌, ◌≤◌, ◌<◌, Bool, true, false, cond, List, [], ◌∷◌, Option, Some, None, count_by, arith}
+use Rattle.std.proofs.Common.{◌≡◌, refl, sym, ap, ◌∙◌, subst, ℕ, ◌+◌, ◌≤◌, ◌<◌, Bool, true, false, cond, List, [], ◌∷◌, Option, Some, None, count_by, arith}
 use Rattle.std.specs.Prelude.{◌-◌, ◌^◌, ◌&&◌, ◌||◌, ◌==◌, not, min, nat_le, is_some, IfSome}
 use Rattle.std.specs.List.{list_any}
 use Rattle.std.proofs.lemmas.Bool.{true≢false}
@@ -17,7 +17,7 @@ use Rattle.bm_latent.specs.declared.worker_input.WorkerInput.TheVariants.{Happen
 use Rattle.bm_latent.specs.Deadline.{act_at, after_tick, begun}
 use Rattle.bm_latent.specs.WorkerState.{WorkerView, action_of, is_needless, is_occupied, is_ready, is_to_stop, known_after}
 use Rattle.bm_latent.specs.WorkerMachine.{MachineView, after_ticking, allowed, answer, at_once, came, does, effect_of, ending, fault, follows, heard, is_due, is_of_lane, is_tried_again, machine_after, nothing, ordered, outlived, runs, spared, stopped, tick_action, ticked, unneeded, unstarted}
-use Rattle.bm_latent.specs.MachineLaws.{IsSound, OneProgramRuns, StartsWhereNoneRuns, after, all_begun, all_stopped, begins, is_want, stops, wants_start}
+use Rattle.bm_latent.specs.MachineLaws.{EndedMastersStartNone, IsSound, NewProgramsAreUnasked, NoneIsKilledUnasked, NoneIsStartedUnwanted, OneProgramRuns, StartsWhereNoneRuns, after, asks, begins, effects, is_ask, is_kill, is_start_of, is_want, kills, starts, stops, wants_start}
 
 -- of two values either has what both have
 both : {A : Type 0} (P : A → Type 0) (b : Bool) (x y : A) → P x → P y → P (cond b x y)
@@ -276,7 +276,7 @@ unneeded-over m wanted = both (λ n. n.over ≡ m.over) (is_needless m.known wan
 
 -- what a start asks of the machine and the input
 abbrev Asks : MachineView → WorkerInput → Type 0
-Asks m i = (effect_of m i).action.process ≡ process_act.Start → (wants_start i ≡ true) × (m.over ≡ false) × (m.running ≡ false)
+Asks m i = (effect_of m i).action.process ≡ process_act.Start → (wants_start i ≡ true) × (m.over ≡ false) × (IsSound m → m.running ≡ false)
 
 refuses : (a : ProcessAction) {P : Type 0} → StartsNone a → a ≡ process_act.Start → P
 refuses a none e = absurd (none e)
@@ -293,8 +293,8 @@ none-told f b x y h g = both (λ z. StartsNone (f z)) b x y h g
 abbrev process : WorkerAction → ProcessAction
 process a = a.process
 
-asks-step : (i : WorkerInput) (m : MachineView) → IsSound m → Asks m i
-asks-step (Happened e) m h = go (m.over || not (is_of_lane e)) refl
+asks-step : (i : WorkerInput) (m : MachineView) → Asks m i
+asks-step (Happened e) m = go (m.over || not (is_of_lane e)) refl
   where
     of-came : (answer (came m e) e).process ≡ process_act.Start → (is_want e ≡ true) × ((came m e).running ≡ false)
     of-came s = test (is_want e) refl
@@ -302,25 +302,25 @@ asks-step (Happened e) m h = go (m.over || not (is_of_lane e)) refl
         test : (b : Bool) → is_want e ≡ b → (is_want e ≡ true) × ((came m e).running ≡ false)
         test false w = absurd (wanted-answer (came m e) e w s)
         test true w = (w, allowed-start (came m e) (action_of (came m e).known e).process (wanted-same e w (follows (came m e) e) ∙ s))
-    go : (b : Bool) → (m.over || not (is_of_lane e)) ≡ b → (cond b (nothing m) (answer (came m e) e)).process ≡ process_act.Start → (is_want e ≡ true) × (m.over ≡ false) × (m.running ≡ false)
+    go : (b : Bool) → (m.over || not (is_of_lane e)) ≡ b → (cond b (nothing m) (answer (came m e) e)).process ≡ process_act.Start → (is_want e ≡ true) × (m.over ≡ false) × (IsSound m → m.running ≡ false)
     go true o s = absurd (none-starts s)
-    go false o s = let got = of-came s in (got.0, (neither m.over (not (is_of_lane e)) o).0, sym (came-keeps m e).0 ∙ got.1)
-asks-step Started m h = refuses _ (none-told process m.starting (answer (runs m) event.Started) (nothing m) (wanted-answer (runs m) event.Started refl) none-starts)
-asks-step (Refused may_pass) m h = go (not m.starting || is_tried_again m may_pass)
+    go false o s = let got = of-came s in (got.0, (neither m.over (not (is_of_lane e)) o).0, λ h. sym (came-keeps m e).0 ∙ got.1)
+asks-step Started m = refuses _ (none-told process m.starting (answer (runs m) event.Started) (nothing m) (wanted-answer (runs m) event.Started refl) none-starts)
+asks-step (Refused may_pass) m = go (not m.starting || is_tried_again m may_pass)
   where
-    go : (b : Bool) → (cond b (does (nothing m)) (record { action = answer (unstarted m) (fault m); ends = end_act.None; fails = true })).action.process ≡ process_act.Start → (false ≡ true) × (m.over ≡ false) × (m.running ≡ false)
+    go : (b : Bool) → (cond b (does (nothing m)) (record { action = answer (unstarted m) (fault m); ends = end_act.None; fails = true })).action.process ≡ process_act.Start → (false ≡ true) × (m.over ≡ false) × (IsSound m → m.running ≡ false)
     go true s = absurd (none-starts s)
     go false s = absurd (wanted-answer (unstarted m) (fault m) (fault-later m) s)
-asks-step Ended m h =
+asks-step Ended m =
     refuses _
     (none-told process (m.over || not m.running) (nothing m) (spared m.asked (answer (stopped m) event.Stopped)) none-starts (wanted-answer (stopped m) event.Stopped refl))
-asks-step (Tick wanted has_build) m h =
+asks-step (Tick wanted has_build) m =
     let n = unneeded m wanted in
-    λ s. let got = of-tick (ticked n) (ticked-sound n (unneeded-sound m wanted h)) s in
-    (got.0, sym (unneeded-over m wanted) ∙ got.1, sym (unneeded-running m wanted) ∙ got.2)
+    λ s. let got = of-tick (ticked n) s in
+    (got.0, sym (unneeded-over m wanted) ∙ got.1, λ h. sym (unneeded-running m wanted) ∙ got.2 (ticked-sound n (unneeded-sound m wanted h)))
   where
-    of-tick : (n : MachineView) → IsSound n → (tick_action n wanted has_build).process ≡ process_act.Start → (wanted ≡ true) × (n.over ≡ false) × (n.running ≡ false)
-    of-tick n g s = at-over n.over refl s
+    of-tick : (n : MachineView) → (tick_action n wanted has_build).process ≡ process_act.Start → (wanted ≡ true) × (n.over ≡ false) × (IsSound n → n.running ≡ false)
+    of-tick n s = at-over n.over refl s
       where
         idle : WorkerEvent
         idle = event.Tick (is_occupied n.known wanted has_build)
@@ -329,27 +329,141 @@ asks-step (Tick wanted has_build) m h =
         at-wanted : (b : Bool) → wanted ≡ b → (cond b again (answer (unstarted n) (fault n))).process ≡ process_act.Start → wanted ≡ true
         at-wanted true w s = w
         at-wanted false w s = absurd (wanted-answer (unstarted n) (fault n) (fault-later n) s)
-        at-starting : (b : Bool) → n.starting ≡ b → (cond b (cond wanted again (answer (unstarted n) (fault n))) (answer n idle)).process ≡ process_act.Start → (wanted ≡ true) × (n.running ≡ false)
-        at-starting true t s = (at-wanted wanted refl s, g.1 t)
+        at-starting : (b : Bool) → n.starting ≡ b → (cond b (cond wanted again (answer (unstarted n) (fault n))) (answer n idle)).process ≡ process_act.Start → (wanted ≡ true) × (IsSound n → n.running ≡ false)
+        at-starting true t s = (at-wanted wanted refl s, λ g. g.1 t)
         at-starting false t s = absurd (wanted-answer n idle refl s)
-        at-over : (b : Bool) → n.over ≡ b → (cond b (nothing n) (cond n.starting (cond wanted again (answer (unstarted n) (fault n))) (answer n idle))).process ≡ process_act.Start → (wanted ≡ true) × (n.over ≡ false) × (n.running ≡ false)
+        at-over : (b : Bool) → n.over ≡ b → (cond b (nothing n) (cond n.starting (cond wanted again (answer (unstarted n) (fault n))) (answer n idle))).process ≡ process_act.Start → (wanted ≡ true) × (n.over ≡ false) × (IsSound n → n.running ≡ false)
         at-over true o s = absurd (none-starts s)
         at-over false o s = let got = at-starting n.starting refl s in (got.0, o, got.1)
-asks-step Over m h =
+asks-step Over m =
     refuses _ (none-told process (m.running && not m.over && not m.dismissed) (record { ready = is_ready m.known; process = process_act.Shutdown; gives_up = false }) (nothing m) shutdown-starts none-starts)
 
-start-keeps : (i : WorkerInput) (m : MachineView) → IsSound m → (effect_of m i).action.process ≡ process_act.Start → (machine_after m i).running ≡ m.running
-start-keeps (Happened e) m h s =
+start-keeps : (i : WorkerInput) (m : MachineView) → (effect_of m i).action.process ≡ process_act.Start → (machine_after m i).running ≡ m.running
+start-keeps (Happened e) m s =
     let same = RunsAs m.running in
     both same (not (is_of_lane e)) m _ refl
     (both same m.over (came m e) (heard (came m e) e) (came-keeps m e).0 ((heard-keeps (came m e) e).0 ∙ (came-keeps m e).0))
-start-keeps (Tick wanted has_build) m h s =
+start-keeps (Tick wanted has_build) m s =
     let n = unneeded m wanted in
     after-ticking-running (ticked n) wanted has_build ∙ unneeded-running m wanted
-start-keeps i m h s = absurd (true≢false (sym (asks-step i m h s).0))
+start-keeps i m s = absurd (true≢false (sym (asks-step i m s).0))
 
 pub starts_where_none_runs : StartsWhereNoneRuns
 starts_where_none_runs m is i h s =
     let now = after m is in
-    let asks = asks-step i now (sound m is h) s in
-    (asks.2, start-keeps i now (sound m is h) s ∙ asks.2)
+    let asks = asks-step i now s in
+    let none = asks.2 (sound m is h) in
+    (none, start-keeps i now s ∙ none)
+
+start-told : (a : ProcessAction) → is_start_of a ≡ true → a ≡ process_act.Start
+start-told process_act.Start h = refl
+start-told process_act.None h = absurd (true≢false (sym h))
+start-told process_act.Shutdown h = absurd (true≢false (sym h))
+
+pub none_is_started_unwanted : NoneIsStartedUnwanted
+none_is_started_unwanted m i h = (asks-step i m (start-told (effect_of m i).action.process h)).0
+
+after-ticking-keeps : (m : MachineView) (wanted has_build : Bool) → Keeps m (after_ticking m wanted has_build)
+after-ticking-keeps m wanted has_build =
+    let tick = event.Tick (is_occupied m.known wanted has_build) in
+    let given-up = heard (unstarted m) (fault m) in
+    both (Keeps m) m.over m _ (refl, refl, refl)
+    (both (Keeps m) m.starting _ (heard m tick)
+    (both (Keeps m) wanted m given-up (refl, refl, refl) (heard-keeps (unstarted m) (fault m)))
+    (heard-keeps m tick))
+
+happened-keeps : (m : MachineView) (e : WorkerEvent) → Keeps m (machine_after m (Happened e))
+happened-keeps m e =
+    both (Keeps m) (not (is_of_lane e)) m _ (refl, refl, refl)
+    (both (Keeps m) m.over (came m e) (heard (came m e) e) (came-keeps m e) (keeps-on m (came m e) (heard (came m e) e) (came-keeps m e) (heard-keeps (came m e) e)))
+
+refused-keeps : (m : MachineView) (may_pass : Bool) → Keeps m (machine_after m (Refused may_pass))
+refused-keeps m may_pass =
+    both (Keeps m) (not m.starting || is_tried_again m may_pass) m (heard (unstarted m) (fault m)) (refl, refl, refl) (heard-keeps (unstarted m) (fault m))
+
+unneeded-keeps : (m : MachineView) (wanted : Bool) → Keeps m (unneeded m wanted)
+unneeded-keeps m wanted = both (Keeps m) (is_needless m.known wanted) (ending m) m (refl, refl, refl) (refl, refl, refl)
+
+-- the end of a program, and its begin, change nothing else
+same-over : (m : MachineView) (b : Bool) (x y : MachineView) → x.over ≡ m.over → y.over ≡ m.over → (cond b x y).over ≡ m.over
+same-over m b x y h g = both (λ n. n.over ≡ m.over) b x y h g
+
+over-step : (i : WorkerInput) (m : MachineView) → m.over ≡ true → (machine_after m i).over ≡ true
+over-step (Happened e) m h = (happened-keeps m e).2 ∙ h
+over-step Started m h = same-over m m.starting (heard (runs m) event.Started) m (heard-keeps (runs m) event.Started).2 refl ∙ h
+over-step (Refused may_pass) m h = (refused-keeps m may_pass).2 ∙ h
+over-step Ended m h =
+    same-over m (not m.running) m _ refl (same-over m m.over (stopped m) (heard (stopped m) event.Stopped) refl (heard-keeps (stopped m) event.Stopped).2) ∙ h
+over-step (Tick wanted has_build) m h =
+    let n = unneeded m wanted in
+    (after-ticking-keeps (ticked n) wanted has_build).2 ∙ (unneeded-keeps m wanted).2 ∙ h
+over-step Over m h = refl
+
+either-none : (a b : Bool) → a ≡ false → b ≡ false → (a || b) ≡ false
+either-none a b h g = ap (λ x. x || b) h ∙ g
+
+not-true : (b : Bool) → (b ≡ true → ⊥) → b ≡ false
+not-true true h = absurd (h refl)
+not-true false h = refl
+
+pub ended_masters_start_none : EndedMastersStartNone
+ended_masters_start_none m [] h = refl
+ended_masters_start_none m (i ∷ is) h =
+    let none = not-true (starts (effect_of m i)) (λ s. true≢false (sym h ∙ (asks-step i m (start-told (effect_of m i).action.process s)).1)) in
+    either-none (starts (effect_of m i)) (list_any starts (effects (machine_after m i) is)) none (ended_masters_start_none (machine_after m i) is (over-step i m h))
+
+-- Kills. The deadline has reached 200 before a kill is due, so it was asked.
+
+abbrev Spares : WorkerInput → MachineView → Type 0
+Spares i m = (is_kill (effect_of m i).ends ≡ false) × ((machine_after m i).asked ≡ false)
+
+kill-late : (n : ℕ) → is_kill (act_at (Some n)) ≡ true → 1000 ≤ n
+kill-late n h = go (nat_le 1000 n) refl h
+  where
+    rest : EndAct
+    rest = cond (n == 200) end_act.Ask end_act.None
+    no-kill : is_kill rest ≡ false
+    no-kill = both (λ a. is_kill a ≡ false) (n == 200) end_act.Ask end_act.None refl refl
+    go : (b : Bool) → nat_le 1000 n ≡ b → is_kill (cond b end_act.Kill rest) ≡ true → 1000 ≤ n
+    go true e k = at-least 1000 n e
+    go false e k = absurd (true≢false (sym k ∙ no-kill))
+
+no-kill-yet : (asked : Bool) (o : Option ℕ) → AskedBy asked o → asked ≡ false → is_kill (act_at (after_tick o)) ≡ false
+no-kill-yet asked None h e = refl
+no-kill-yet asked (Some t) h e =
+    not-true (is_kill (act_at (after_tick (Some t)))) (λ k. true≢false (sym (h (omega (arith, kill-late (min (t + 1) (2 ^ 32 - 1)) k))) ∙ e))
+
+not-due : (a : EndAct) → is_ask a ≡ false → is_kill a ≡ false → is_due a ≡ false
+not-due end_act.None h g = refl
+not-due end_act.Ask h g = absurd (true≢false h)
+not-due end_act.Kill h g = absurd (true≢false g)
+
+spares-step : (i : WorkerInput) (m : MachineView) → IsSound m → m.asked ≡ false → asks (effect_of m i) ≡ false → Spares i m
+spares-step (Happened e) m h a n = (refl, (happened-keeps m e).1 ∙ a)
+spares-step Started m h a n =
+    (refl, both (λ x. x.asked ≡ false) m.starting (heard (runs m) event.Started) m (heard-keeps (runs m) event.Started).1 a)
+spares-step (Refused may_pass) m h a n =
+    (both (λ x. is_kill x.ends ≡ false) (not m.starting || is_tried_again m may_pass) (does (nothing m)) _ refl refl, (refused-keeps m may_pass).1 ∙ a)
+spares-step Ended m h a n =
+    (refl, both (λ x. x.asked ≡ false) (not m.running) m _ a (both (λ x. x.asked ≡ false) m.over (stopped m) (heard (stopped m) event.Stopped) a ((heard-keeps (stopped m) event.Stopped).1 ∙ a)))
+spares-step (Tick wanted has_build) m h a n =
+    let k = unneeded m wanted in
+    let unasked : k.asked ≡ false = (unneeded-keeps m wanted).1 ∙ a in
+    let act = act_at (after_tick k.deadline) in
+    let none : is_kill act ≡ false = no-kill-yet k.asked k.deadline (unneeded-sound m wanted h).0 unasked in
+    (none, (after-ticking-keeps (ticked k) wanted has_build).1 ∙ either-none k.asked (is_due act) unasked (not-due act n none))
+spares-step Over m h a n = (refl, a)
+
+pub none_is_killed_unasked : NoneIsKilledUnasked
+none_is_killed_unasked m [] h a n = refl
+none_is_killed_unasked m (i ∷ is) h a n =
+    let parts = neither (asks (effect_of m i)) (list_any asks (effects (machine_after m i) is)) n in
+    let one = spares-step i m h a parts.0 in
+    either-none (kills (effect_of m i)) (list_any kills (effects (machine_after m i) is)) one.0
+    (none_is_killed_unasked (machine_after m i) is (sound-step i m h) one.1 parts.1)
+
+pub new_programs_are_unasked : NewProgramsAreUnasked
+new_programs_are_unasked m is b n =
+    let begun : machine_after m Started ≡ heard (runs m) event.Started = ap (λ x. cond x (heard (runs m) event.Started) m) b in
+    let unasked : (machine_after m Started).asked ≡ false = ap (λ x. x.asked) begun ∙ (heard-keeps (runs m) event.Started).1 in
+    none_is_killed_unasked (machine_after m Started) is (subst IsSound (sym begun) (heard-sound (runs m) event.Started (runs-sound m))) unasked n

@@ -1,9 +1,11 @@
 -- What follows for a worker as its master drives it, whatever comes.
 use Rattle.std.specs.Prelude.{◌≡◌, ℕ, ◌+◌, ◌≤◌, Bool, true, false, if◌then◌else◌, List, [], ◌∷◌, count_by, Some, IfSome, is_some}
 use Rattle.std.specs.List.{list_any}
+use Rattle.bm_latent.specs.declared.deadline.EndAct.{EndAct}
 use Rattle.bm_latent.specs.declared.deadline.EndAct.TheVariants as end_act
 use Rattle.bm_latent.specs.declared.worker_event.WorkerEvent.{WorkerEvent}
 use Rattle.bm_latent.specs.declared.worker_event.WorkerEvent.TheVariants as event
+use Rattle.bm_latent.specs.declared.worker_event.ProcessAction.{ProcessAction}
 use Rattle.bm_latent.specs.declared.worker_event.ProcessAction.TheVariants as process_act
 use Rattle.bm_latent.specs.declared.worker_input.WorkerInput.{WorkerInput}
 use Rattle.bm_latent.specs.declared.worker_input.WorkerInput.TheVariants.{Happened, Started, Ended, Tick, Over}
@@ -69,3 +71,48 @@ abbrev pub wants_start : WorkerInput → Bool
 wants_start (Happened e) = is_want e
 wants_start (Tick wanted has_build) = wanted
 wants_start i = false
+
+-- the effect tells to start a program, to ask one to end, or to kill one
+abbrev pub is_start_of : ProcessAction → Bool
+is_start_of process_act.Start = true
+is_start_of a = false
+
+abbrev pub is_ask : EndAct → Bool
+is_ask end_act.Ask = true
+is_ask a = false
+
+abbrev pub is_kill : EndAct → Bool
+is_kill end_act.Kill = true
+is_kill a = false
+
+abbrev pub starts : WorkerEffect → Bool
+starts e = is_start_of e.action.process
+
+abbrev pub asks : WorkerEffect → Bool
+asks e = is_ask e.ends
+
+abbrev pub kills : WorkerEffect → Bool
+kills e = is_kill e.ends
+
+-- a program that wasn't asked to end isn't killed, whatever comes, until it is asked
+abbrev pub NoneIsKilledUnasked : Type 0
+NoneIsKilledUnasked =
+    (m : MachineView) (is : List WorkerInput) → IsSound m → m.asked ≡ false
+    → list_any asks (effects m is) ≡ false → list_any kills (effects m is) ≡ false
+
+-- so it is of each program that begins, though one before it was asked
+abbrev pub NewProgramsAreUnasked : Type 0
+NewProgramsAreUnasked =
+    (m : MachineView) (is : List WorkerInput) → begins m Started ≡ true
+    → list_any asks (effects (machine_after m Started) is) ≡ false
+    → list_any kills (effects (machine_after m Started) is) ≡ false
+
+-- a start is told only where a build was just said to wait, or by a tick by which one does
+abbrev pub NoneIsStartedUnwanted : Type 0
+NoneIsStartedUnwanted =
+    (m : MachineView) (i : WorkerInput) → starts (effect_of m i) ≡ true → wants_start i ≡ true
+
+-- once the master ends, no program is started
+abbrev pub EndedMastersStartNone : Type 0
+EndedMastersStartNone =
+    (m : MachineView) (is : List WorkerInput) → m.over ≡ true → list_any starts (effects m is) ≡ false

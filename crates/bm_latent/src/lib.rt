@@ -25,7 +25,7 @@ mod worker_state;
 pub use deadline::{Deadline, EndAct};
 pub use event::{Act, LatentEvent, LatentState};
 pub use machine::Latent;
-pub use machine_laws::{one_program_runs};
+pub use machine_laws::{none_is_killed_unasked, none_is_started_unwanted, one_program_runs};
 pub use start_tries::StartTries;
 pub use tick_counter::{TICK_MS, TickCounter, millis};
 pub use worker_event::{ProcessAction, WorkerAction, WorkerEvent};
