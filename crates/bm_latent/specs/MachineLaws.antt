@@ -116,3 +116,75 @@ NoneIsStartedUnwanted =
 abbrev pub EndedMastersStartNone : Type 0
 EndedMastersStartNone =
     (m : MachineView) (is : List WorkerInput) → m.over ≡ true → list_any starts (effects m is) ≡ false
+
+-- a tick has passed, or a program's end is told
+abbrev pub is_tick : WorkerInput → Bool
+is_tick (Tick wanted has_build) = true
+is_tick i = false
+
+abbrev pub is_end : WorkerInput → Bool
+is_end Ended = true
+is_end i = false
+
+-- once the master ends, each program that runs is to end, whatever comes
+abbrev pub ProgramsAreToEnd : Type 0
+ProgramsAreToEnd =
+    (m : MachineView) (is : List WorkerInput) → m.over ≡ false → (after m is).over ≡ true
+    → (after m is).running ≡ true → is_some (after m is).deadline ≡ true
+
+-- a program is to end for so many ticks, and doesn't over these inputs
+abbrev pub RunsOn : MachineView → ℕ → List WorkerInput → Type 0
+RunsOn m ticks is = (m.running ≡ true) × (m.deadline ≡ Some ticks) × (list_any is_end is ≡ false)
+
+-- it is asked to end by the 200th tick, and killed by each from the thousandth on
+abbrev pub AskedInTime : Type 0
+AskedInTime =
+    (m : MachineView) (ticks : ℕ) (is : List WorkerInput) (wanted has_build : Bool) → IsSound m
+    → RunsOn m ticks is → ticks + count_by is_tick is ≡ 199
+    → asks (effect_of (after m is) (Tick wanted has_build)) ≡ true
+
+abbrev pub KilledInTime : Type 0
+KilledInTime =
+    (m : MachineView) (ticks : ℕ) (is : List WorkerInput) (wanted has_build : Bool) → IsSound m
+    → RunsOn m ticks is → 999 ≤ ticks + count_by is_tick is
+    → kills (effect_of (after m is) (Tick wanted has_build)) ≡ true
+
+-- So a program that runs when the master ends was asked once 200 ticks have passed, unless it has
+-- ended. From the thousandth on it is killed.
+abbrev pub NoneIsForgotten : Type 0
+NoneIsForgotten =
+    (m : MachineView) (is : List WorkerInput) (wanted has_build : Bool) → IsSound m
+    → m.running ≡ true → list_any is_end is ≡ false
+    → (200 ≤ count_by is_tick is → (after (machine_after m Over) is).asked ≡ true)
+    × (999 ≤ count_by is_tick is
+    → kills (effect_of (after (machine_after m Over) is) (Tick wanted has_build)) ≡ true)
+
+-- the worker has logged in, or has gone: it may be told anew
+abbrev pub is_anew : WorkerEvent → Bool
+is_anew event.Attached = true
+is_anew event.Lost = true
+is_anew e = false
+
+abbrev pub comes_anew : WorkerInput → Bool
+comes_anew (Happened e) = is_anew e
+comes_anew i = false
+
+-- the effect tells to send the worker a shutdown
+abbrev pub is_shutdown : ProcessAction → Bool
+is_shutdown process_act.Shutdown = true
+is_shutdown a = false
+
+abbrev pub shuts_down : WorkerEffect → Bool
+shuts_down e = is_shutdown e.action.process
+
+-- a worker is told to shut down at most once, and once more each time that it logs in or has gone
+abbrev pub ToldOnceToShutDown : Type 0
+ToldOnceToShutDown =
+    (m : MachineView) (is : List WorkerInput)
+    → count_by shuts_down (effects m is) ≤ 1 + count_by comes_anew is
+
+-- one that was told so isn't told again when the master ends
+abbrev pub DismissedAreNotTold : Type 0
+DismissedAreNotTold =
+    (m : MachineView) (is : List WorkerInput) → m.dismissed ≡ true → list_any comes_anew is ≡ false
+    → shuts_down (effect_of (after m is) Over) ≡ false

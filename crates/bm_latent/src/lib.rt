@@ -7,8 +7,9 @@
 //! [`Deadline`] says when a process that is to end is killed, and [`StartTries`] for how long a
 //! start is tried. [`TickCounter`] counts the ticks that have passed.
 //!
-//! Promised: each call is what `specs/` says. A body could still get away with nothing here; a
-//! driver could, which tells an event too late, twice or never.
+//! Promised: each call is what `specs/` says, and the laws of `MachineLaws.antt` over whatever
+//! comes. A body could still get away with nothing here; a driver could, which tells an event too
+//! late, twice or never.
 #![tactic(auto)]
 
 mod deadline;
@@ -25,7 +26,10 @@ mod worker_state;
 pub use deadline::{Deadline, EndAct};
 pub use event::{Act, LatentEvent, LatentState};
 pub use machine::Latent;
-pub use machine_laws::{none_is_killed_unasked, none_is_started_unwanted, one_program_runs};
+pub use machine_laws::{
+    none_is_forgotten, none_is_killed_unasked, none_is_started_unwanted, one_program_runs,
+    told_once_to_shut_down,
+};
 pub use start_tries::StartTries;
 pub use tick_counter::{TICK_MS, TickCounter, millis};
 pub use worker_event::{ProcessAction, WorkerAction, WorkerEvent};

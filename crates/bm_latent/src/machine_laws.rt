@@ -1,6 +1,6 @@
 //! Laws of a worker as its master drives it, over whatever comes, as contracts.
 
-ghost use Rattle.bm_latent.specs.MachineLaws.{EndedMastersStartNone, NewProgramsAreUnasked, NoneIsKilledUnasked, NoneIsStartedUnwanted, OneProgramRuns, StartsWhereNoneRuns};
+ghost use Rattle.bm_latent.specs.MachineLaws.{AskedInTime, DismissedAreNotTold, EndedMastersStartNone, KilledInTime, NewProgramsAreUnasked, NoneIsForgotten, NoneIsKilledUnasked, NoneIsStartedUnwanted, OneProgramRuns, ProgramsAreToEnd, StartsWhereNoneRuns, ToldOnceToShutDown};
 
 /// One program runs at most, and none is started while one does.
 pub fn one_program_runs()
@@ -18,4 +18,18 @@ pub fn none_is_killed_unasked()
 pub fn none_is_started_unwanted()
     ensures wanted { NoneIsStartedUnwanted }
     ensures over { EndedMastersStartNone }
+{}
+
+/// Once the master ends, a program that runs is asked to end in time, and killed if it doesn't.
+pub fn none_is_forgotten()
+    ensures due { ProgramsAreToEnd }
+    ensures asked { AskedInTime }
+    ensures killed { KilledInTime }
+    ensures soon { NoneIsForgotten }
+{}
+
+/// A worker is told once to shut down, until it logs in again or has gone.
+pub fn told_once_to_shut_down()
+    ensures counted { ToldOnceToShutDown }
+    ensures over { DismissedAreNotTold }
 {}
