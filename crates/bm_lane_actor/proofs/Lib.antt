@@ -4,3 +4,4 @@ pub mod Serving
 pub mod Waiting
 pub mod ConnectionStates
 pub mod StepLawful
+pub mod LaneLawful

@@ -7,7 +7,9 @@ pub mod ResumeTimer
 pub mod PeerTimer
 pub mod StepMeter
 -- LanePolicy: what is done about the worker's connection, and about a link that waits for the lane.
+-- LaneLaws: what follows of it, whatever comes.
 pub mod LanePolicy
+pub mod LaneLaws
 -- LaneEvents: what is told of a lane, and what follows. Login: what a connection is once it has
 -- logged in. LoginFates: what becomes of it at a lane that is up. LoginRefusals: why another one
 -- was not taken up.

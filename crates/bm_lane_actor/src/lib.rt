@@ -29,6 +29,7 @@ mod lane_actor;
 mod lane_actor_links;
 mod lane_actor_orders;
 mod lane_event;
+mod lane_laws;
 mod lane_policy;
 mod lane_request;
 mod lane_state;
@@ -66,6 +67,7 @@ pub use lane_event::{
     EventSink, LaneEvent, declines, event_after, event_of, failed_login, fills, greeting, loss_of,
     remark_of,
 };
+pub use lane_laws::{none_waits_behind_the_end, waiting_logins_are_answered_once};
 pub use lane_policy::{LaneActs, LaneInput, LanePolicy, LinkAct, SecondAct};
 pub use lane_request::{CancelFlag, LaneRequest, LaneSignal, StartOrder};
 pub use lane_state::LaneState;
