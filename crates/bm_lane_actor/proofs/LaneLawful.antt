@@ -1,17 +1,22 @@
 -- The laws of a lane's policy.
 use Rattle.std.proofs.Common.{◌≡◌, refl, sym, ap, ◌∙◌, ℕ, ◌+◌, ◌≤◌, ◌<◌, Bool, true, false, cond, List, [], ◌∷◌, count_by, arith}
-use Rattle.std.specs.Prelude.{◌&&◌, ◌||◌, not, is_some}
+use Rattle.std.specs.Prelude.{◌-◌, ◌==◌, ◌&&◌, ◌||◌, not, nat_le, nat_lt, Option, Some, None, is_some}
+use Rattle.std.specs.Option.{option_map_or}
 use Rattle.std.specs.List.{list_any}
 use Rattle.std.proofs.lemmas.Bool.{true≢false}
+use Rattle.std.proofs.lemmas.Bool.Decides.{nat_tests}
 use Rattle.std.proofs.lemmas.List.Sums.{sum_by-cons}
+use Rattle.bm_lane_actor.specs.declared.peer_timer.PeerAction.{PeerAction}
+use Rattle.bm_lane_actor.specs.declared.peer_timer.PeerAction.TheVariants as action
 use Rattle.bm_lane_actor.specs.declared.login_fates.WaitingFate.{WaitingFate}
 use Rattle.bm_lane_actor.specs.declared.login_fates.WaitingFate.TheVariants as waiting
 use Rattle.bm_lane_actor.specs.declared.lane_policy.LaneInput.{LaneInput}
 use Rattle.bm_lane_actor.specs.declared.lane_policy.LaneInput.TheVariants.{Look, Login, Attached, ShutDown, Ended, PutOff}
 use Rattle.bm_lane_actor.specs.declared.lane_policy.SecondAct.TheVariants as second
 use Rattle.bm_lane_actor.specs.LoginFates.{login_fate, waiting_fate}
-use Rattle.bm_lane_actor.specs.LanePolicy.{PolicyView, acts_of, fate_acts, fate_after, is_nothing, is_read, is_waiting, peer_act, peer_after, policy_after, second_of}
-use Rattle.bm_lane_actor.specs.LaneLaws.{Arrival, Moment, NoneWaits, WaitingAnsweredOnce, after, comes_to_wait, is_login, logs_in, moment, moments, takes_place, waits_no_more}
+use Rattle.bm_lane_actor.specs.PeerTimer.{PeerView, action_at, after_action, has_passed, heard_at, is_unanswered, started, wanted_at}
+use Rattle.bm_lane_actor.specs.LanePolicy.{PolicyView, acts_of, fate_acts, fate_after, is_nothing, is_read, is_waiting, link_act, peer_act, peer_after, policy_after, second_of}
+use Rattle.bm_lane_actor.specs.LaneLaws.{Arrival, AskedHaveTime, HeardNotFailed, IsUnasked, Moment, NoneWaits, OnlyReadFail, UnaskedNotFailed, WaitingAnsweredOnce, after, asks, asks_before, comes_to_wait, fails, is_fail, is_from, is_login, is_ping, is_read_out, is_sign, shows_life, logs_in, moment, moments, takes_place, waits_no_more}
 
 -- neither of two tests holds
 neither : (a b : Bool) → (a || b) ≡ false → (a ≡ false) × (b ≡ false)
@@ -107,3 +112,200 @@ none_waits p now is h =
     let paid = waiting_answered_once ended is in
     let come = none-counted comes_to_wait (moments ended is) (none-come ended is h) in
     (zero-test (after ended is).waits (omega (arith, paid, come)), none-is-counted waits_no_more (moments ended is) (omega (arith, paid, come)))
+
+-- Failing. A worker that wasn't asked is in time.
+
+heard-unasked : (b : Bool) (came now : ℕ) (s : PeerView) → IsUnasked s → IsUnasked (cond b s (started came now))
+heard-unasked true came now s u = u
+heard-unasked false came now s u = (refl, refl)
+
+calm : (now : ℕ) (s : PeerView) (read : Bool) → IsUnasked s → is_ping (link_act (action_at now s) read) ≡ false
+    → (is_fail (link_act (action_at now s) read) ≡ false) × IsUnasked (after_action now (action_at now s) s)
+calm now s read u h =
+    let quiet : is_unanswered now s ≡ false = ap (λ o. has_passed 1500 now o || has_passed 45000 now s.asked) u.1 ∙ ap (λ o. has_passed 45000 now o) u.0 in
+    go (is_unanswered now s) (not (is_some s.asked) && nat_le 15000 (now - s.since)) quiet h
+  where
+    go : (b c : Bool) → b ≡ false → is_ping (link_act (cond b action.GiveUp (cond c action.Ask action.Nothing)) read) ≡ false
+        → (is_fail (link_act (cond b action.GiveUp (cond c action.Ask action.Nothing)) read) ≡ false) × IsUnasked (after_action now (cond b action.GiveUp (cond c action.Ask action.Nothing)) s)
+    go true c e h = absurd (true≢false e)
+    go false true e h = absurd (true≢false h)
+    go false false e h = (refl, u)
+
+abbrev Calm : LaneInput → ℕ → PolicyView → Type 0
+Calm i now p = (is_fail (acts_of i now p).link ≡ false) × IsUnasked (policy_after i now p).peer
+
+calm-login : (up own first : Bool) (now : ℕ) (p : PolicyView) → IsUnasked p.peer → is_ping (acts_of (Login up own first) now p).link ≡ false → Calm (Login up own first) now p
+calm-login up own first now p u h = go up p.waits own h
+  where
+    go : (up w own : Bool) → is_ping (fate_acts up first (login_fate up w own)).link ≡ false
+        → (is_fail (fate_acts up first (login_fate up w own)).link ≡ false) × IsUnasked (fate_after up now (login_fate up w own) p).peer
+    go false w own h = (refl, u)
+    go true false own h = absurd (true≢false h)
+    go true true true h = (refl, u)
+    go true true false h = (refl, u)
+
+calm-step : (i : LaneInput) (now : ℕ) (p : PolicyView) → IsUnasked p.peer → is_ping (acts_of i now p).link ≡ false → Calm i now p
+calm-step (Look true came read left) now p u h =
+    calm now (heard_at came now p.peer) read (heard-unasked (p.peer.count == came) came now p.peer u) h
+calm-step (Look false came read left) now p u h = (refl, u)
+calm-step (Login up own first) now p u h = calm-login up own first now p u h
+calm-step (Attached came) now p u h = (refl, (refl, refl))
+calm-step (Ended true came) now p u h = absurd (true≢false h)
+calm-step (Ended false came) now p u h = (refl, heard-unasked (p.peer.count == came) came now p.peer u)
+calm-step i now p u h = (refl, u)
+
+pub unasked_not_failed : UnaskedNotFailed
+unasked_not_failed p [] u h = refl
+unasked_not_failed p (i ∷ is) u h =
+    let next = policy_after i.input i.now p in
+    let parts = neither (asks (moment p i)) (list_any asks (moments next is)) h in
+    let one = calm-step i.input i.now p u parts.0 in
+    either-none (fails (moment p i)) (list_any fails (moments next is)) one.0 (unasked_not_failed next is one.1 parts.1)
+
+-- a sign of life leaves the worker unasked
+heard-look : (b : Bool) (came now : ℕ) (read : Bool) (s : PeerView) → not b ≡ true
+    → is_ping (link_act (action_at now (cond b s (started came now))) read) ≡ false
+    → (is_fail (link_act (action_at now (cond b s (started came now))) read) ≡ false)
+    × IsUnasked (after_action now (action_at now (cond b s (started came now))) (cond b s (started came now)))
+heard-look true came now read s e h = absurd (true≢false (sym e))
+heard-look false came now read s e h = calm now (started came now) read (refl, refl) h
+
+heard-end : (b : Bool) (came now : ℕ) (s : PeerView) → not b ≡ true → IsUnasked (cond b s (started came now))
+heard-end true came now s e = absurd (true≢false (sym e))
+heard-end false came now s e = (refl, refl)
+
+heard-step : (i : LaneInput) (now : ℕ) (p : PolicyView) → is_sign i p ≡ true → is_ping (acts_of i now p).link ≡ false → Calm i now p
+heard-step (Look true came read left) now p e h = heard-look (p.peer.count == came) came now read p.peer e h
+heard-step (Look false came read left) now p e h = absurd (true≢false (sym e))
+heard-step (Attached came) now p e h = (refl, (refl, refl))
+heard-step (Ended true came) now p e h = absurd (true≢false h)
+heard-step (Ended false came) now p e h = (refl, heard-end (p.peer.count == came) came now p.peer e)
+heard-step i now p e h = absurd (true≢false (sym e))
+
+pub heard_not_failed : HeardNotFailed
+heard_not_failed p i is e h =
+    let next = policy_after i.input i.now p in
+    let parts = neither (asks (moment p i)) (list_any asks (moments next is)) h in
+    let one = heard-step i.input i.now p e parts.0 in
+    either-none (fails (moment p i)) (list_any fails (moments next is)) one.0 (unasked_not_failed next is one.1 parts.1)
+
+-- by which inputs a link fails
+
+login-keeps-link : (up own first : Bool) (now : ℕ) (p : PolicyView) → is_fail (acts_of (Login up own first) now p).link ≡ false
+login-keeps-link up own first now p = go up p.waits own
+  where
+    go : (up w own : Bool) → is_fail (fate_acts up first (login_fate up w own)).link ≡ false
+    go false w own = refl
+    go true false own = refl
+    go true true true = refl
+    go true true false = refl
+
+read-fails : (a : PeerAction) (read : Bool) → is_fail (link_act a read) ≡ true → read ≡ true
+read-fails action.Nothing read e = absurd (true≢false (sym e))
+read-fails action.Ask read e = absurd (true≢false (sym e))
+read-fails action.GiveUp true e = refl
+read-fails action.GiveUp false e = absurd (true≢false (sym e))
+
+only-read : (i : LaneInput) (now : ℕ) (p : PolicyView) → is_fail (acts_of i now p).link ≡ true → is_read_out i ≡ true
+only-read (Look true came read left) now p e = read-fails (action_at now (heard_at came now p.peer)) read e
+only-read (Look false came read left) now p e = absurd (true≢false (sym e))
+only-read (Login up own first) now p e = absurd (true≢false (sym e ∙ login-keeps-link up own first now p))
+only-read (Ended true came) now p e = absurd (true≢false (sym e))
+only-read (Ended false came) now p e = absurd (true≢false (sym e))
+only-read i now p e = absurd (true≢false (sym e))
+
+pub only_read_fail : OnlyReadFail
+only_read_fail m e = only-read m.input m.now m.before e
+
+-- a link fails only where its worker didn't answer in time
+
+not-failed : (now : ℕ) (s : PeerView) (read : Bool) → is_unanswered now s ≡ false → is_fail (link_act (action_at now s) read) ≡ false
+not-failed now s read e = go (is_unanswered now s) (not (is_some s.asked) && nat_le 15000 (now - s.since)) e
+  where
+    go : (b c : Bool) → b ≡ false → is_fail (link_act (cond b action.GiveUp (cond c action.Ask action.Nothing)) read) ≡ false
+    go true c e = absurd (true≢false e)
+    go false true e = refl
+    go false false e = refl
+
+heard-in-time : (b : Bool) (came now : ℕ) (s : PeerView) → is_unanswered now s ≡ false → is_unanswered now (cond b s (started came now)) ≡ false
+heard-in-time true came now s e = e
+heard-in-time false came now s e = refl
+
+in-time : (i : LaneInput) (now : ℕ) (p : PolicyView) → is_unanswered now p.peer ≡ false → is_fail (acts_of i now p).link ≡ false
+in-time (Look true came read left) now p e =
+    not-failed now (heard_at came now p.peer) read (heard-in-time (p.peer.count == came) came now p.peer e)
+in-time (Look false came read left) now p e = refl
+in-time (Login up own first) now p e = login-keeps-link up own first now p
+in-time (Ended true came) now p e = refl
+in-time (Ended false came) now p e = refl
+in-time i now p e = refl
+
+-- what was asked was asked from this time on
+abbrev late : ℕ → Option ℕ → Bool
+late t o = option_map_or (λ at. nat_le t at) o true
+
+abbrev IsLate : ℕ → PeerView → Type 0
+IsLate t s = (late t s.asked ≡ true) × (late t s.wanted ≡ true)
+
+not-passed : (most t now : ℕ) (o : Option ℕ) → 1500 ≤ most → late t o ≡ true → nat_le (t + 1500) now ≡ false → has_passed most now o ≡ false
+not-passed most t now None m e n = refl
+not-passed most t now (Some at) m e n = grind (arith, nat_tests, m, e, n)
+
+late-acts : (a : PeerAction) (t now : ℕ) (read : Bool) (s : PeerView) → (is_ping (link_act a read) && nat_lt now t) ≡ false → IsLate t s → IsLate t (after_action now a s)
+late-acts action.Nothing t now read s h l = l
+late-acts action.Ask t now read s h l = (grind (arith, nat_tests, h), l.1)
+late-acts action.GiveUp t now read s h l = l
+
+late-heard : (b : Bool) (t came now : ℕ) (s : PeerView) → IsLate t s → IsLate t (cond b s (started came now))
+late-heard true t came now s l = l
+late-heard false t came now s l = (refl, refl)
+
+late-wanted : (t now : ℕ) (s : PeerView) → nat_lt now t ≡ false → IsLate t s → IsLate t (wanted_at now s)
+late-wanted t now s h l = (go s.asked l.0, grind (arith, nat_tests, h))
+  where
+    go : (o : Option ℕ) → late t o ≡ true → nat_le t (option_map_or (λ at. at) o now) ≡ true
+    go None e = grind (arith, nat_tests, h)
+    go (Some at) e = e
+
+abbrev LateStep : LaneInput → ℕ → ℕ → PolicyView → Type 0
+LateStep i t now p = IsLate t p.peer → (is_ping (acts_of i now p).link && nat_lt now t) ≡ false → IsLate t (policy_after i now p).peer
+
+late-login : (up own first : Bool) (t now : ℕ) (p : PolicyView) → LateStep (Login up own first) t now p
+late-login up own first t now p l h = go up p.waits own h
+  where
+    go : (up w own : Bool) → (is_ping (fate_acts up first (login_fate up w own)).link && nat_lt now t) ≡ false → IsLate t (fate_after up now (login_fate up w own) p).peer
+    go false w own h = l
+    go true false own h = late-wanted t now p.peer h l
+    go true true true h = l
+    go true true false h = l
+
+late-step : (i : LaneInput) (t now : ℕ) (p : PolicyView) → LateStep i t now p
+late-step (Look true came read left) t now p l h =
+    let s = heard_at came now p.peer in
+    late-acts (action_at now s) t now read s h (late-heard (p.peer.count == came) t came now p.peer l)
+late-step (Look false came read left) t now p l h = l
+late-step (Login up own first) t now p l h = late-login up own first t now p l h
+late-step (Attached came) t now p l h = (refl, refl)
+late-step (Ended true came) t now p l h = late-wanted t now (heard_at came now p.peer) h (late-heard (p.peer.count == came) t came now p.peer l)
+late-step (Ended false came) t now p l h = late-heard (p.peer.count == came) t came now p.peer l
+late-step i t now p l h = l
+
+late-in-time : (t now : ℕ) (s : PeerView) → IsLate t s → nat_le (t + 1500) now ≡ false → is_unanswered now s ≡ false
+late-in-time t now s l n =
+    either-none (has_passed 1500 now s.wanted) (has_passed 45000 now s.asked)
+    (not-passed 1500 t now s.wanted (omega arith) l.1 n) (not-passed 45000 t now s.asked (omega arith) l.0 n)
+
+late-not-failed : (p : PolicyView) (t : ℕ) (is : List Arrival) → IsLate t p.peer → list_any (asks_before t) (moments p is) ≡ false
+    → list_any (is_from (t + 1500)) (moments p is) ≡ false → list_any fails (moments p is) ≡ false
+late-not-failed p t [] l h n = refl
+late-not-failed p t (i ∷ is) l h n =
+    let next = policy_after i.input i.now p in
+    let parts = neither (asks_before t (moment p i)) (list_any (asks_before t) (moments next is)) h in
+    let times = neither (is_from (t + 1500) (moment p i)) (list_any (is_from (t + 1500)) (moments next is)) n in
+    either-none (fails (moment p i)) (list_any fails (moments next is))
+    (in-time i.input i.now p (late-in-time t i.now p.peer l times.0))
+    (late-not-failed next t is (late-step i.input t i.now p l parts.0) parts.1 times.1)
+
+pub asked_have_time : AskedHaveTime
+asked_have_time p t is u h n =
+    late-not-failed p t is (ap (λ o. late t o) u.0, ap (λ o. late t o) u.1) h n

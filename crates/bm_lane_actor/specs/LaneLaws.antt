@@ -1,11 +1,14 @@
 -- What follows for a silent worker and for a link that waits, whatever comes, at whatever times.
-use Rattle.std.specs.Prelude.{◌≡◌, ℕ, ◌+◌, ◌≤◌, ◌==◌, Bool, true, false, ◌&&◌, ◌||◌, not, if◌then◌else◌, List, [], ◌∷◌, count_by}
+use Rattle.std.specs.Prelude.{◌≡◌, ℕ, ◌+◌, ◌≤◌, ◌<◌, ◌==◌, nat_le, nat_lt, Bool, true, false, ◌&&◌, ◌||◌, not, if◌then◌else◌, List, [], ◌∷◌, count_by, Option, Some, None, is_some}
 use Rattle.std.specs.List.{list_any}
 use Rattle.bm_lane_actor.specs.declared.lane_policy.LaneInput.{LaneInput}
 use Rattle.bm_lane_actor.specs.declared.lane_policy.LaneInput.TheVariants.{Look, Login, Attached, ShutDown, Ended, PutOff}
+use Rattle.bm_lane_actor.specs.declared.lane_policy.LinkAct.{LinkAct}
+use Rattle.bm_lane_actor.specs.declared.lane_policy.LinkAct.TheVariants as link
 use Rattle.bm_lane_actor.specs.declared.lane_policy.SecondAct.{SecondAct}
 use Rattle.bm_lane_actor.specs.declared.lane_policy.SecondAct.TheVariants as second
 use Rattle.bm_lane_actor.specs.declared.lane_policy.LaneActs.{LaneActs}
+use Rattle.bm_lane_actor.specs.PeerTimer.{PeerView}
 use Rattle.bm_lane_actor.specs.LanePolicy.{PolicyView, acts_of, is_waiting, policy_after}
 
 -- an input, and when it comes
@@ -73,3 +76,67 @@ NoneWaits =
     (p : PolicyView) (now : ℕ) (is : List Arrival) → list_any logs_in is ≡ false
     → ((after (policy_after PutOff now p) is).waits ≡ false)
     × (list_any waits_no_more (moments (policy_after PutOff now p) is) ≡ false)
+
+abbrev pub is_ping : LinkAct → Bool
+is_ping link.Ping = true
+is_ping l = false
+
+abbrev pub is_fail : LinkAct → Bool
+is_fail link.Fail = true
+is_fail l = false
+
+-- the worker is asked for a sign of life
+abbrev pub asks : Moment → Bool
+asks m = is_ping (acts m).link
+
+-- the link fails of a worker that is taken for dead
+abbrev pub fails : Moment → Bool
+fails m = is_fail (acts m).link
+
+-- another count came, or another link
+abbrev pub is_sign : LaneInput → PolicyView → Bool
+is_sign (Look up came read left) p = up && not (p.peer.count == came)
+is_sign (Attached came) p = true
+is_sign (Ended up came) p = not (p.peer.count == came)
+is_sign i p = false
+
+abbrev pub shows_life : Moment → Bool
+shows_life m = is_sign m.input m.before
+
+-- a look at a link that is up and was read until nothing came
+abbrev pub is_read_out : LaneInput → Bool
+is_read_out (Look up came read left) = up && read
+is_read_out i = false
+
+abbrev pub IsUnasked : PeerView → Type 0
+IsUnasked s = (s.asked ≡ None) × (s.wanted ≡ None)
+
+abbrev pub asks_before : ℕ → Moment → Bool
+asks_before t m = asks m && nat_lt m.now t
+
+abbrev pub is_from : ℕ → Moment → Bool
+is_from t m = nat_le t m.now
+
+-- a worker that isn't asked for a sign of life isn't taken for dead
+abbrev pub UnaskedNotFailed : Type 0
+UnaskedNotFailed =
+    (p : PolicyView) (is : List Arrival) → IsUnasked p.peer → list_any asks (moments p is) ≡ false
+    → list_any fails (moments p is) ≡ false
+
+-- nor is one that isn't asked since it gave one
+abbrev pub HeardNotFailed : Type 0
+HeardNotFailed =
+    (p : PolicyView) (i : Arrival) (is : List Arrival) → shows_life (moment p i) ≡ true
+    → list_any asks (moments p (i ∷ is)) ≡ false → list_any fails (moments p (i ∷ is)) ≡ false
+
+-- one that isn't asked before this time isn't taken for dead within 1,500 ms from it
+abbrev pub AskedHaveTime : Type 0
+AskedHaveTime =
+    (p : PolicyView) (t : ℕ) (is : List Arrival) → IsUnasked p.peer
+    → list_any (asks_before t) (moments p is) ≡ false
+    → list_any (is_from (t + 1500)) (moments p is) ≡ false
+    → list_any fails (moments p is) ≡ false
+
+-- only a look fails a link, and only one that was read until nothing came
+abbrev pub OnlyReadFail : Type 0
+OnlyReadFail = (m : Moment) → fails m ≡ true → is_read_out m.input ≡ true

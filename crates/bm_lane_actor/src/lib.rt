@@ -67,7 +67,9 @@ pub use lane_event::{
     EventSink, LaneEvent, declines, event_after, event_of, failed_login, fills, greeting, loss_of,
     remark_of,
 };
-pub use lane_laws::{none_waits_behind_the_end, waiting_logins_are_answered_once};
+pub use lane_laws::{
+    none_waits_behind_the_end, silent_workers_are_asked_first, waiting_logins_are_answered_once,
+};
 pub use lane_policy::{LaneActs, LaneInput, LanePolicy, LinkAct, SecondAct};
 pub use lane_request::{CancelFlag, LaneRequest, LaneSignal, StartOrder};
 pub use lane_state::LaneState;
