@@ -11,12 +11,12 @@ use Rattle.bm_lane_actor.specs.declared.peer_timer.PeerAction.TheVariants as act
 use Rattle.bm_lane_actor.specs.declared.login_fates.WaitingFate.{WaitingFate}
 use Rattle.bm_lane_actor.specs.declared.login_fates.WaitingFate.TheVariants as waiting
 use Rattle.bm_lane_actor.specs.declared.lane_policy.LaneInput.{LaneInput}
-use Rattle.bm_lane_actor.specs.declared.lane_policy.LaneInput.TheVariants.{Look, Login, Attached, ShutDown, Ended, PutOff}
+use Rattle.bm_lane_actor.specs.declared.lane_policy.LaneInput.TheVariants.{Look, Login, Attached, Ended, PutOff}
 use Rattle.bm_lane_actor.specs.declared.lane_policy.SecondAct.TheVariants as second
 use Rattle.bm_lane_actor.specs.LoginFates.{login_fate, waiting_fate}
 use Rattle.bm_lane_actor.specs.PeerTimer.{PeerView, action_at, after_action, has_passed, heard_at, is_unanswered, started, wanted_at}
 use Rattle.bm_lane_actor.specs.LanePolicy.{PolicyView, acts_of, fate_acts, fate_after, is_nothing, is_read, is_waiting, link_act, peer_act, peer_after, policy_after, second_of}
-use Rattle.bm_lane_actor.specs.LaneLaws.{Arrival, AskedHaveTime, HeardNotFailed, IsUnasked, Moment, NoneWaits, OnlyReadFail, UnaskedNotFailed, WaitingAnsweredOnce, after, asks, asks_before, comes_to_wait, fails, is_fail, is_from, is_login, is_ping, is_read_out, is_sign, shows_life, logs_in, moment, moments, takes_place, waits_no_more}
+use Rattle.bm_lane_actor.specs.LaneLaws.{Arrival, AskedGivenUp, AskedHaveTime, AskedNotSooner, AskedOnce, AskedOnceEach, HeardNotFailed, IsUnasked, Moment, NoneWaits, NotAskedSooner, OnlyReadFail, SilentAsked, UnaskedNotFailed, WaitingAnsweredOnce, WantedGivenUp, WantedNotSooner, after, asks, asks_before, comes_to_wait, fails, is_fail, is_from, is_ping, is_read_out, is_sign, logs_in, may_ask, may_ask_again, moment, moments, quiet_look, shows_life, takes_place, waits_no_more}
 
 -- neither of two tests holds
 neither : (a b : Bool) → (a || b) ≡ false → (a ≡ false) × (b ≡ false)
@@ -309,3 +309,239 @@ late-not-failed p t (i ∷ is) l h n =
 pub asked_have_time : AskedHaveTime
 asked_have_time p t is u h n =
     late-not-failed p t is (ap (λ o. late t o) u.0, ap (λ o. late t o) u.1) h n
+
+-- Giving up. What was asked stays asked, until a sign of life.
+
+kept-asked : (now t : ℕ) (s : PeerView) → s.asked ≡ Some t → (after_action now (action_at now s) s).asked ≡ Some t
+kept-asked now t s e =
+    go (is_unanswered now s) (not (is_some s.asked) && nat_le 15000 (now - s.since)) (ap (λ o. not (is_some o) && nat_le 15000 (now - s.since)) e)
+  where
+    go : (b c : Bool) → c ≡ false → (after_action now (cond b action.GiveUp (cond c action.Ask action.Nothing)) s).asked ≡ Some t
+    go true c h = e
+    go false true h = absurd (true≢false h)
+    go false false h = e
+
+unheard : (b : Bool) → not b ≡ false → b ≡ true
+unheard true h = refl
+unheard false h = absurd (true≢false h)
+
+silent-heard : (came now : ℕ) (s : PeerView) → not (s.count == came) ≡ false → heard_at came now s ≡ s
+silent-heard came now s h = ap (λ b. cond b s (started came now)) (unheard (s.count == came) h)
+
+still-wanted : (now t : ℕ) (s : PeerView) → s.asked ≡ Some t → (wanted_at now s).asked ≡ Some t
+still-wanted now t s e = ap (λ o. Some (option_map_or (λ at. at) o now)) e
+
+login-asked : (up own first : Bool) (now t : ℕ) (p : PolicyView) → p.peer.asked ≡ Some t → (policy_after (Login up own first) now p).peer.asked ≡ Some t
+login-asked up own first now t p e = go up p.waits own
+  where
+    go : (up w own : Bool) → (fate_after up now (login_fate up w own) p).peer.asked ≡ Some t
+    go false w own = e
+    go true false own = still-wanted now t p.peer e
+    go true true true = e
+    go true true false = e
+
+asked-stays : (i : LaneInput) (now t : ℕ) (p : PolicyView) → p.peer.asked ≡ Some t → is_sign i p ≡ false → (policy_after i now p).peer.asked ≡ Some t
+asked-stays (Look true came read left) now t p e h =
+    ap (λ (s : PeerView). (after_action now (action_at now s) s).asked) (silent-heard came now p.peer h) ∙ kept-asked now t p.peer e
+asked-stays (Look false came read left) now t p e h = e
+asked-stays (Login up own first) now t p e h = login-asked up own first now t p e
+asked-stays (Attached came) now t p e h = absurd (true≢false h)
+asked-stays (Ended true came) now t p e h =
+    ap (λ (s : PeerView). (wanted_at now s).asked) (silent-heard came now p.peer h) ∙ still-wanted now t p.peer e
+asked-stays (Ended false came) now t p e h =
+    ap (λ (s : PeerView). s.asked) (silent-heard came now p.peer h) ∙ e
+asked-stays i now t p e h = e
+
+kept-wanted : (now : ℕ) (a : PeerAction) (s : PeerView) → (after_action now a s).wanted ≡ s.wanted
+kept-wanted now action.Ask s = refl
+kept-wanted now a s = refl
+
+wanted-stays : (i : LaneInput) (now t : ℕ) (p : PolicyView) → p.peer.wanted ≡ Some t → (may_ask i || is_sign i p) ≡ false → (policy_after i now p).peer.wanted ≡ Some t
+wanted-stays (Look true came read left) now t p e h =
+    ap (λ (s : PeerView). (after_action now (action_at now s) s).wanted) (silent-heard came now p.peer h) ∙ kept-wanted now (action_at now p.peer) p.peer ∙ e
+wanted-stays (Look false came read left) now t p e h = e
+wanted-stays (Login up own first) now t p e h = absurd (true≢false h)
+wanted-stays (Attached came) now t p e h = absurd (true≢false h)
+wanted-stays (Ended up came) now t p e h = absurd (true≢false h)
+wanted-stays i now t p e h = e
+
+same-number : (n : ℕ) → (n == n) ≡ true
+same-number n = grind (arith, nat_tests)
+
+read-once-more : (now : ℕ) (s : PeerView) → is_unanswered now s ≡ true → is_fail (link_act (action_at now (heard_at s.count now s)) true) ≡ true
+read-once-more now s e =
+    ap (λ b. is_fail (link_act (action_at now (cond b s (started s.count now))) true)) (same-number s.count)
+    ∙ ap (λ b. is_fail (link_act (cond b action.GiveUp (cond (not (is_some s.asked) && nat_le 15000 (now - s.since)) action.Ask action.Nothing)) true)) e
+
+has-passed : (most now t : ℕ) (o : Option ℕ) → o ≡ Some t → t + most ≤ now → has_passed most now o ≡ true
+has-passed most now t o e l =
+    let late : nat_le most (now - t) ≡ true = grind (arith, nat_tests, l) in
+    ap (λ o. has_passed most now o) e ∙ late
+
+either-true : (a b : Bool) → b ≡ true → (a || b) ≡ true
+either-true true b h = refl
+either-true false b h = h
+
+pub asked_given_up : AskedGivenUp
+asked_given_up p [] t now left e h l =
+    read-once-more now p.peer (either-true (has_passed 1500 now p.peer.wanted) (has_passed 45000 now p.peer.asked) (has-passed 45000 now t p.peer.asked e l))
+asked_given_up p (i ∷ is) t now left e h l =
+    let next = policy_after i.input i.now p in
+    let parts = neither (shows_life (moment p i)) (list_any shows_life (moments next is)) h in
+    asked_given_up next is t now left (asked-stays i.input i.now t p e parts.0) parts.1 l
+
+pub wanted_given_up : WantedGivenUp
+wanted_given_up p [] t now left e h l =
+    read-once-more now p.peer (ap (λ b. b || has_passed 45000 now p.peer.asked) (has-passed 1500 now t p.peer.wanted e l))
+wanted_given_up p (i ∷ is) t now left e h l =
+    let next = policy_after i.input i.now p in
+    let parts = neither (may_ask_again (moment p i)) (list_any may_ask_again (moments next is)) h in
+    wanted_given_up next is t now left (wanted-stays i.input i.now t p e parts.0) parts.1 l
+
+not-yet : (most now t : ℕ) (o : Option ℕ) → 1 ≤ most → o ≡ Some t → now < t + most → has_passed most now o ≡ false
+not-yet most now t o m e l =
+    let early : nat_le most (now - t) ≡ false = grind (arith, nat_tests, m, l) in
+    ap (λ o. has_passed most now o) e ∙ early
+
+pub asked_not_sooner : AskedNotSooner
+asked_not_sooner m t e w l =
+    let s = m.before.peer in
+    in-time m.input m.now m.before
+    (either-none (has_passed 1500 m.now s.wanted) (has_passed 45000 m.now s.asked)
+    (ap (λ o. has_passed 1500 m.now o) w) (not-yet 45000 m.now t s.asked (omega arith) e l))
+
+pub wanted_not_sooner : WantedNotSooner
+wanted_not_sooner m t u e w l k =
+    let s = m.before.peer in
+    in-time m.input m.now m.before
+    (either-none (has_passed 1500 m.now s.wanted) (has_passed 45000 m.now s.asked)
+    (not-yet 1500 m.now u s.wanted (omega arith) w k) (not-yet 45000 m.now t s.asked (omega arith) e l))
+
+-- Asking. Who was asked isn't asked again.
+
+one-or-none : (b : Bool) → cond b 1 0 ≤ 1
+one-or-none true = omega arith
+one-or-none false = omega arith
+
+ask-pays : (now : ℕ) (s : PeerView) (read : Bool)
+    → cond (is_ping (link_act (action_at now s) read)) 1 0 + cond (is_some s.asked) 1 0 ≤ cond (is_some (after_action now (action_at now s) s).asked) 1 0
+ask-pays now s read = go (is_unanswered now s) (is_some s.asked) (nat_le 15000 (now - s.since)) read refl
+  where
+    go : (u k le read : Bool) → is_some s.asked ≡ k
+        → cond (is_ping (link_act (cond u action.GiveUp (cond (not k && le) action.Ask action.Nothing)) read)) 1 0 + cond (is_some s.asked) 1 0
+        ≤ cond (is_some (after_action now (cond u action.GiveUp (cond (not k && le) action.Ask action.Nothing)) s).asked) 1 0
+    go true k le true e = omega arith
+    go true k le false e = omega arith
+    go false true le read e = omega arith
+    go false false true read e = let none = same-count (is_some s.asked) false e in omega (arith, none)
+    go false false false read e = omega arith
+
+heard-asked : (b : Bool) (came now : ℕ) (s : PeerView) → cond (is_some s.asked) 1 0 ≤ cond (not b) 1 0 + cond (is_some (cond b s (started came now)).asked) 1 0
+heard-asked true came now s = omega arith
+heard-asked false came now s = omega (arith, one-or-none (is_some s.asked))
+
+abbrev AskPaid : LaneInput → ℕ → PolicyView → Type 0
+AskPaid i now p =
+    cond (is_ping (acts_of i now p).link) 1 0 + cond (is_some p.peer.asked) 1 0 ≤ cond (may_ask i || is_sign i p) 1 0 + cond (is_some (policy_after i now p).peer.asked) 1 0
+
+login-asks : (up own first : Bool) (now : ℕ) (p : PolicyView) → AskPaid (Login up own first) now p
+login-asks up own first now p = go up p.waits own
+  where
+    go : (up w own : Bool)
+        → cond (is_ping (fate_acts up first (login_fate up w own)).link) 1 0 + cond (is_some p.peer.asked) 1 0 ≤ 1 + cond (is_some (fate_after up now (login_fate up w own) p).peer.asked) 1 0
+    go false w own = omega arith
+    go true false own = omega (arith, one-or-none (is_some p.peer.asked))
+    go true true true = omega arith
+    go true true false = omega arith
+
+ask-paid : (i : LaneInput) (now : ℕ) (p : PolicyView) → AskPaid i now p
+ask-paid (Look true came read left) now p =
+    omega (arith, ask-pays now (heard_at came now p.peer) read, heard-asked (p.peer.count == came) came now p.peer)
+ask-paid (Look false came read left) now p = omega arith
+ask-paid (Login up own first) now p = login-asks up own first now p
+ask-paid (Ended true came) now p = omega (arith, one-or-none (is_some p.peer.asked))
+ask-paid (Ended false came) now p = omega (arith, one-or-none (is_some p.peer.asked))
+ask-paid (Attached came) now p = omega (arith, one-or-none (is_some p.peer.asked))
+ask-paid i now p = omega arith
+
+pub asked_once_each : AskedOnceEach
+asked_once_each p [] = omega arith
+asked_once_each p (i ∷ is) =
+    let next = policy_after i.input i.now p in
+    omega (arith, ask-paid i.input i.now p, asked_once_each next is, counted asks (moment p i) (moments next is), counted may_ask_again (moment p i) (moments next is))
+
+pub asked_once : AskedOnce
+asked_once p is h =
+    omega (arith, asked_once_each p is, none-counted may_ask_again (moments p is) h, one-or-none (is_some (after p is).peer.asked))
+
+kept-since : (now : ℕ) (a : PeerAction) (s : PeerView) → (after_action now a s).since ≡ s.since
+kept-since now action.Ask s = refl
+kept-since now a s = refl
+
+login-since : (up own first : Bool) (now : ℕ) (p : PolicyView) → (policy_after (Login up own first) now p).peer.since ≡ p.peer.since
+login-since up own first now p = go up p.waits own
+  where
+    go : (up w own : Bool) → (fate_after up now (login_fate up w own) p).peer.since ≡ p.peer.since
+    go false w own = refl
+    go true false own = refl
+    go true true true = refl
+    go true true false = refl
+
+since-stays : (i : LaneInput) (now : ℕ) (p : PolicyView) → is_sign i p ≡ false → (policy_after i now p).peer.since ≡ p.peer.since
+since-stays (Look true came read left) now p h =
+    ap (λ (s : PeerView). (after_action now (action_at now s) s).since) (silent-heard came now p.peer h) ∙ kept-since now (action_at now p.peer) p.peer
+since-stays (Look false came read left) now p h = refl
+since-stays (Login up own first) now p h = login-since up own first now p
+since-stays (Attached came) now p h = absurd (true≢false h)
+since-stays (Ended true came) now p h = ap (λ (s : PeerView). s.since) (silent-heard came now p.peer h)
+since-stays (Ended false came) now p h = ap (λ (s : PeerView). s.since) (silent-heard came now p.peer h)
+since-stays i now p h = refl
+
+due-asked : (p : PolicyView) (now : ℕ) (read left : Bool) → IsUnasked p.peer → p.peer.since + 15000 ≤ now → asks (quiet_look read left now p) ≡ true
+due-asked p now read left u l =
+    let s = p.peer in
+    let quiet : is_unanswered now s ≡ false = ap (λ o. has_passed 1500 now o || has_passed 45000 now s.asked) u.1 ∙ ap (λ o. has_passed 45000 now o) u.0 in
+    let long : nat_le 15000 (now - s.since) ≡ true = grind (arith, nat_tests, l) in
+    let due : (not (is_some s.asked) && nat_le 15000 (now - s.since)) ≡ true = ap (λ o. not (is_some o) && nat_le 15000 (now - s.since)) u.0 ∙ long in
+    ap (λ b. is_ping (link_act (action_at now (cond b s (started s.count now))) read)) (same-number s.count)
+    ∙ go (is_unanswered now s) (not (is_some s.asked) && nat_le 15000 (now - s.since)) quiet due
+  where
+    go : (b c : Bool) → b ≡ false → c ≡ true → is_ping (link_act (cond b action.GiveUp (cond c action.Ask action.Nothing)) read) ≡ true
+    go true c e h = absurd (true≢false e)
+    go false true e h = refl
+    go false false e h = absurd (true≢false (sym h))
+
+pub silent_asked : SilentAsked
+silent_asked p [] now read left u h g l = due-asked p now read left u l
+silent_asked p (i ∷ is) now read left u h g l =
+    let next = policy_after i.input i.now p in
+    let parts = neither (shows_life (moment p i)) (list_any shows_life (moments next is)) h in
+    let quiet = neither (asks (moment p i)) (list_any asks (moments next is)) g in
+    let calm = calm-step i.input i.now p u quiet.0 in
+    silent_asked next is now read left calm.1 parts.1 quiet.1 (omega (arith, since-stays i.input i.now p parts.0, l))
+
+not-due : (now : ℕ) (s : PeerView) (read : Bool) → now < s.since + 15000 → is_ping (link_act (action_at now s) read) ≡ false
+not-due now s read l =
+    let early : nat_le 15000 (now - s.since) ≡ false = grind (arith, nat_tests, l) in
+    go (is_unanswered now s) (not (is_some s.asked)) (nat_le 15000 (now - s.since)) read early
+  where
+    go : (b k c read : Bool) → c ≡ false → is_ping (link_act (cond b action.GiveUp (cond (k && c) action.Ask action.Nothing)) read) ≡ false
+    go true k c true e = refl
+    go true k c false e = refl
+    go false true true read e = absurd (true≢false e)
+    go false true false read e = refl
+    go false false c read e = refl
+
+since-heard : (b : Bool) (came now : ℕ) (s : PeerView) → now < s.since + 15000 → now < (cond b s (started came now)).since + 15000
+since-heard true came now s l = l
+since-heard false came now s l = omega arith
+
+no-ask : (i : LaneInput) (now : ℕ) (p : PolicyView) → may_ask i ≡ false → now < p.peer.since + 15000 → is_ping (acts_of i now p).link ≡ false
+no-ask (Look true came read left) now p h l = not-due now (heard_at came now p.peer) read (since-heard (p.peer.count == came) came now p.peer l)
+no-ask (Look false came read left) now p h l = refl
+no-ask (Login up own first) now p h l = absurd (true≢false h)
+no-ask (Ended up came) now p h l = absurd (true≢false h)
+no-ask i now p h l = refl
+
+pub not_asked_sooner : NotAskedSooner
+not_asked_sooner m h l = no-ask m.input m.now m.before h l

@@ -1,8 +1,8 @@
 -- What follows for a silent worker and for a link that waits, whatever comes, at whatever times.
-use Rattle.std.specs.Prelude.{◌≡◌, ℕ, ◌+◌, ◌≤◌, ◌<◌, ◌==◌, nat_le, nat_lt, Bool, true, false, ◌&&◌, ◌||◌, not, if◌then◌else◌, List, [], ◌∷◌, count_by, Option, Some, None, is_some}
+use Rattle.std.specs.Prelude.{◌≡◌, ℕ, ◌+◌, ◌≤◌, ◌<◌, ◌==◌, nat_le, nat_lt, Bool, true, false, ◌&&◌, ◌||◌, not, if◌then◌else◌, List, [], ◌∷◌, count_by, Some, None, is_some}
 use Rattle.std.specs.List.{list_any}
 use Rattle.bm_lane_actor.specs.declared.lane_policy.LaneInput.{LaneInput}
-use Rattle.bm_lane_actor.specs.declared.lane_policy.LaneInput.TheVariants.{Look, Login, Attached, ShutDown, Ended, PutOff}
+use Rattle.bm_lane_actor.specs.declared.lane_policy.LaneInput.TheVariants.{Look, Login, Attached, Ended, PutOff}
 use Rattle.bm_lane_actor.specs.declared.lane_policy.LinkAct.{LinkAct}
 use Rattle.bm_lane_actor.specs.declared.lane_policy.LinkAct.TheVariants as link
 use Rattle.bm_lane_actor.specs.declared.lane_policy.SecondAct.{SecondAct}
@@ -140,3 +140,67 @@ AskedHaveTime =
 -- only a look fails a link, and only one that was read until nothing came
 abbrev pub OnlyReadFail : Type 0
 OnlyReadFail = (m : Moment) → fails m ≡ true → is_read_out m.input ≡ true
+
+-- a look at a link that is up, by which nothing came
+abbrev pub quiet_look : Bool → Bool → ℕ → PolicyView → Moment
+quiet_look read left now p =
+    record { before = p; input = Look true p.peer.count read left; now = now }
+
+-- the worker may be asked though it was asked already
+abbrev pub may_ask : LaneInput → Bool
+may_ask (Login up own first_own) = true
+may_ask (Ended up came) = true
+may_ask i = false
+
+abbrev pub may_ask_again : Moment → Bool
+may_ask_again m = may_ask m.input || shows_life m
+
+-- a worker that was asked, and gives no sign of life, is taken for dead 45,000 ms behind that
+abbrev pub AskedGivenUp : Type 0
+AskedGivenUp =
+    (p : PolicyView) (is : List Arrival) (t now : ℕ) (left : Bool) → p.peer.asked ≡ Some t
+    → list_any shows_life (moments p is) ≡ false → t + 45000 ≤ now
+    → fails (quiet_look true left now (after p is)) ≡ true
+
+-- So is one that a login or its end has asked, 1,500 ms behind that. Another would begin them anew.
+abbrev pub WantedGivenUp : Type 0
+WantedGivenUp =
+    (p : PolicyView) (is : List Arrival) (t now : ℕ) (left : Bool) → p.peer.wanted ≡ Some t
+    → list_any may_ask_again (moments p is) ≡ false → t + 1500 ≤ now
+    → fails (quiet_look true left now (after p is)) ≡ true
+
+-- but none is sooner
+abbrev pub AskedNotSooner : Type 0
+AskedNotSooner =
+    (m : Moment) (t : ℕ) → m.before.peer.asked ≡ Some t → m.before.peer.wanted ≡ None
+    → m.now < t + 45000 → fails m ≡ false
+
+abbrev pub WantedNotSooner : Type 0
+WantedNotSooner =
+    (m : Moment) (s t : ℕ) → m.before.peer.asked ≡ Some s → m.before.peer.wanted ≡ Some t
+    → m.now < s + 45000 → m.now < t + 1500 → fails m ≡ false
+
+-- a worker is asked once until it gives a sign of life, or a login or its end asks
+abbrev pub AskedOnce : Type 0
+AskedOnce =
+    (p : PolicyView) (is : List Arrival) → list_any may_ask_again (moments p is) ≡ false
+    → count_by asks (moments p is) + one_if (is_some p.peer.asked) ≤ 1
+
+-- and once more at most for each of those
+abbrev pub AskedOnceEach : Type 0
+AskedOnceEach =
+    (p : PolicyView) (is : List Arrival)
+    → count_by asks (moments p is) + one_if (is_some p.peer.asked)
+    ≤ count_by may_ask_again (moments p is) + one_if (is_some (after p is).peer.asked)
+
+-- once a worker was silent for 15,000 ms and not asked, a look asks it
+abbrev pub SilentAsked : Type 0
+SilentAsked =
+    (p : PolicyView) (is : List Arrival) (now : ℕ) (read left : Bool) → IsUnasked p.peer
+    → list_any shows_life (moments p is) ≡ false → list_any asks (moments p is) ≡ false
+    → p.peer.since + 15000 ≤ now → asks (quiet_look read left now (after p is)) ≡ true
+
+-- and none before that
+abbrev pub NotAskedSooner : Type 0
+NotAskedSooner =
+    (m : Moment) → may_ask m.input ≡ false → m.now < m.before.peer.since + 15000 → asks m ≡ false

@@ -68,7 +68,8 @@ pub use lane_event::{
     remark_of,
 };
 pub use lane_laws::{
-    none_waits_behind_the_end, silent_workers_are_asked_first, waiting_logins_are_answered_once,
+    asked_once_a_silence, none_waits_behind_the_end, silent_workers_are_asked_first,
+    silent_workers_are_given_up, waiting_logins_are_answered_once,
 };
 pub use lane_policy::{LaneActs, LaneInput, LanePolicy, LinkAct, SecondAct};
 pub use lane_request::{CancelFlag, LaneRequest, LaneSignal, StartOrder};
