@@ -108,6 +108,7 @@ abbrev pub is_read_out : LaneInput → Bool
 is_read_out (Look up came read left) = up && read
 is_read_out i = false
 
+-- neither its silence nor a login or its end has asked it
 abbrev pub IsUnasked : PeerView → Type 0
 IsUnasked s = (s.asked ≡ None) × (s.wanted ≡ None)
 
