@@ -1,8 +1,7 @@
 -- A build that waits looks again and again.
-use Rattle.std.proofs.Common.{◌≡◌, refl, ◌∙◌, ap, sym, ℕ}
+use Rattle.std.proofs.Common.{refl, ◌∙◌, ap, sym, ℕ}
 use Rattle.bm_lane.proofs.Prefixes.{prefix_self, prefix_trans}
 use Rattle.bm_runner.specs.declared.port.Polled.{Polled}
-use Rattle.bm_lane_actor.specs.declared.step_machine.StepInput.{StepInput}
 use Rattle.bm_lane_actor.specs.declared.step_machine.StepInput.TheVariants.{Seen}
 use Rattle.bm_lane_actor.specs.declared.step_machine.StepActs.{StepActs}
 use Rattle.bm_lane_actor.specs.Ports.{PortView, Looks, Orders, Waits}

@@ -1,5 +1,5 @@
 -- How far a build has come with the command that it wants to have started.
-use Rattle.std.specs.Prelude.{ℕ, Bool, false, if◌then◌else◌, Option, Some, None, Result, Ok, Err}
+use Rattle.std.specs.Prelude.{ℕ, false, if◌then◌else◌, Option, Some, None, Result, Ok, Err}
 use Rattle.bm_latent.specs.StartTries.{is_given_up, tries_after}
 use Rattle.bm_operator.specs.declared.reasons.StartRefusal.{StartRefusal}
 use Rattle.bm_operator.specs.declared.reasons.StartRefusal.TheVariants as why

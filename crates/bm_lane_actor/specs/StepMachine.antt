@@ -1,5 +1,5 @@
 -- What a build does with its steps, one after the other.
-use Rattle.std.specs.Prelude.{ℕ, Bool, true, false, ◌&&◌, not, if◌then◌else◌, Option, Some, None, is_some}
+use Rattle.std.specs.Prelude.{ℕ, Bool, true, false, ◌&&◌, not, if◌then◌else◌, Option, None, is_some}
 use Rattle.bm_session.specs.declared.results.Results.{Results}
 use Rattle.bm_session.specs.declared.results.Results.TheVariants.{Retry, Exception, Cancelled}
 use Rattle.bm_operator.specs.declared.reasons.StartRefusal.{StartRefusal}
@@ -7,7 +7,6 @@ use Rattle.bm_operator.specs.declared.reasons.StartRefusal.TheVariants as why
 use Rattle.bm_operator.specs.declared.reasons.StepLimit.{StepLimit}
 use Rattle.bm_runner.specs.declared.port.Polled.{Polled}
 use Rattle.bm_runner.specs.declared.port.Polled.TheVariants.{Running, Cancel, Ended}
-use Rattle.bm_lane_actor.specs.declared.cancel_policy.CancelInput.{CancelInput}
 use Rattle.bm_lane_actor.specs.declared.cancel_policy.CancelInput.TheVariants as input
 use Rattle.bm_lane_actor.specs.declared.cancel_policy.CancelActs.{CancelActs}
 use Rattle.bm_lane_actor.specs.declared.step_machine.StepInput.{StepInput}

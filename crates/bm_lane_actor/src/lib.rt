@@ -11,8 +11,9 @@
 //! takes it apart in each such place.
 //!
 //! Promised: what each call of it does to lane, link and timers, and that the orders without an
-//! answer are those sent again. The loops round it have no clauses: a body could still wait too
-//! long, take a request twice or tell no event.
+//! answer are those sent again. The laws of `StepLaws.antt` and `LaneLaws.antt` say what follows of
+//! its two machines over whatever comes. The loops round it have no clauses: a body could still
+//! wait too long, take a request twice or tell no event.
 //!
 //! Tests show what a channel carries and a flag holds, but for `StartProgress::ask`, `reply` and
 //! `SeenFlag::read`. They show that each update's bytes are counted once. Inside the crate these

@@ -1,4 +1,4 @@
-use Rattle.std.proofs.Common.{rules, ◌≡◌}
+use Rattle.std.proofs.Common.{rules}
 use Rattle.bm_lane_actor.proofs.Waiting.{waits_nothing, waits_more, waits_on}
 use Rattle.bm_lane_actor.proofs.port.LanePort.wait.Goals as goal
 

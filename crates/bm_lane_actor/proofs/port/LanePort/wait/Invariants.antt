@@ -1,4 +1,3 @@
-use Rattle.std.proofs.Common.{◌≡◌}
 use Rattle.bm_lane_actor.specs.Ports.{Waits}
 use Rattle.bm_lane_actor.proofs.port.LanePort.wait.Given as goal
 
