@@ -62,9 +62,9 @@ abbrev pub renewed : ℕ → Heard → TimerView → TimerView
 renewed n lane t = if is_up lane.trace || not (n == length lane.trace) then begun t else t
 
 -- What a build is told of a start: the command's number, or to try it later, or that it is
--- refused. It is tried later where the lane is busy or has no room for one more open command, or
--- the link failed and the lane took no order. So it is where memory is wanting, which is told. A
--- full lane refuses it with that reason.
+-- refused. It is tried later where the lane is busy or has no room for one more open command. So
+-- it is where the link failed and the lane took no order. Want of memory is told as that. A full
+-- lane refuses it with that reason.
 abbrev pub start_outcome : Bool → Result ℕ LinkFault → OrderOutcome
 start_outcome taken (Ok k) = outcome.Started k
 start_outcome taken (Err (Lane Busy)) = outcome.Later

@@ -55,9 +55,9 @@ pub(crate) fn wait_until_told<S: Drop, R: Wait + Clock>(
 }
 
 /// Starts a step's command once the lane is up. An order that is to come later is tried again once
-/// an item was drained, and each tick; one for which the lane wants memory, each tick. Whether the build is cancelled is looked at by the lane's
-/// actor alone, as the last thing before it takes the order. The first answer that isn't to try it
-/// later settles it, and no order follows that one.
+/// an item was drained, and each tick. One for which the lane wants memory is tried each tick.
+/// Whether the build is cancelled is looked at by the lane's actor alone, right before it takes the
+/// order. The first answer that isn't to try it later settles it, and no order follows that one.
 ///
 /// # Errors
 ///

@@ -158,8 +158,8 @@ impl StartProgress {
         self.stage
     }
 
-    /// The lane has answered an order so; none where memory was wanting for that. The result is what
-    /// the build does then. A start that wants memory at the lane is refused after a minute.
+    /// The lane has answered an order so; none where memory was wanting for that. The result is
+    /// what the build does then. A start that wants memory at the lane is refused after a minute.
     pub fn hear(&mut self, answer: Option<OrderOutcome>) -> StartStep
         ensures step { result ≡ bounded self.old.tries (start_step answer) }
         ensures stage { self.new.stage ≡ after_step self.old.stage result }

@@ -172,11 +172,11 @@ impl WorkerState {
     pub fn is_there(&self) -> bool
         ensures { result ≡ is_there self.now }
     {
-        self.attached
-            || match &self.latent {
-                Some(latent) => latent.state() == LatentState::Held,
-                None => false,
-            }
+        let is_held = match &self.latent {
+            Some(latent) => latent.state() == LatentState::Held,
+            None => false,
+        };
+        self.attached || is_held
     }
 
     /// Whether the worker takes builds.
