@@ -112,7 +112,7 @@ abbrev pub NoneIsStartedUnwanted : Type 0
 NoneIsStartedUnwanted =
     (m : MachineView) (i : WorkerInput) → starts (effect_of m i) ≡ true → wants_start i ≡ true
 
--- once the master ends, no program is started
+-- once the master ends, no start is told
 abbrev pub EndedMastersStartNone : Type 0
 EndedMastersStartNone =
     (m : MachineView) (is : List WorkerInput) → m.over ≡ true → list_any starts (effects m is) ≡ false

@@ -14,7 +14,7 @@ pub fn none_is_killed_unasked()
     ensures begun { NewProgramsAreUnasked }
 {}
 
-/// None is started unless a build waits for it, and none once the master ends.
+/// No start is told unless a build waits for the worker, and none once the master ends.
 pub fn none_is_started_unwanted()
     ensures wanted { NoneIsStartedUnwanted }
     ensures over { EndedMastersStartNone }
