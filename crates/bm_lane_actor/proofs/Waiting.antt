@@ -23,10 +23,10 @@ waits_more old mid new k said w l = (
 -- what is done about cancels changes neither the limits nor the log
 pub waits_on : (old mid new : PortView) (said : Polled) (acts : StepActs) → Orders mid (Seen said) acts new → Waits old mid → Waits old new
 waits_on old mid new said acts o w = (
-  ap (λ (p : PortView). p.viewer.lane) o.1 ∙ w.0,
-  (w.1.0, w.1.1 ∙ sym (ap (λ (p : PortView). p.viewer.seen) o.1)),
-  ap (λ (p : PortView). p.step.meter) o.1 ∙ w.2,
-  ap (λ (p : PortView). p.step.none) o.1 ∙ w.3,
-  ap (λ (p : PortView). p.told) o.1 ∙ w.4,
-  ap (λ (p : PortView). p.refused) o.1 ∙ w.5,
+  ap (λ (p : PortView). p.viewer.lane) o.2 ∙ w.0,
+  (w.1.0, w.1.1 ∙ sym (ap (λ (p : PortView). p.viewer.seen) o.2)),
+  ap (λ (p : PortView). p.step.meter) o.2 ∙ w.2,
+  ap (λ (p : PortView). p.step.none) o.2 ∙ w.3,
+  ap (λ (p : PortView). p.told) o.2 ∙ w.4,
+  ap (λ (p : PortView). p.refused) o.2 ∙ w.5,
 )

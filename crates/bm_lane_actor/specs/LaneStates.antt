@@ -15,7 +15,6 @@ use Rattle.bm_link.specs.declared.asks.Ask.TheVariants.{Shutdown}
 use Rattle.bm_link.specs.declared.attaching.Attached.{Attached}
 use Rattle.bm_link.specs.declared.fault.LinkFault.{LinkFault}
 use Rattle.bm_link.specs.declared.fault.LinkFault.TheVariants.{Lane}
-use Rattle.bm_link.specs.declared.fault.LinkFault.TheVariants as fault
 use Rattle.bm_link.specs.declared.parts.Turn.{Turn}
 use Rattle.bm_link.specs.declared.parts.Turn.TheVariants.{Quiet}
 use Rattle.bm_link.specs.Asking.{AsksFor}
@@ -72,7 +71,6 @@ start_outcome taken (Err (Lane (Session TooManyOpen))) = outcome.Later
 start_outcome taken (Err (Lane (Session Mem))) = outcome.Short
 start_outcome taken (Err (Lane (Session Full))) = outcome.Full
 start_outcome taken (Err (Lane why)) = outcome.Refused
-start_outcome taken (Err fault.Mem) = if taken then outcome.Refused else outcome.Short
 start_outcome taken (Err f) = if taken then outcome.Refused else outcome.Later
 
 -- of an interruption: an order that the lane took is sent again where its session is resumed

@@ -18,6 +18,8 @@ use Rattle.bm_runner.specs.Port.{first_entry}
 use Rattle.bm_lines.specs.Names.{stdio}
 use Rattle.bm_lane.specs.Ends.{Watched}
 use Rattle.bm_lane.specs.Looks.{GivesState}
+use Rattle.bm_lane_actor.specs.declared.cancel_policy.CancelInput.TheVariants as input
+use Rattle.bm_lane_actor.specs.CancelPolicy.{CancelView, cancel_after}
 use Rattle.bm_lane_actor.specs.StartProgress.{refused_in, settled}
 use Rattle.bm_lane_actor.specs.StepMachine.{StepView, at_limits, is_cancelled, step_acts, step_after, ticked}
 use Rattle.bm_lane_actor.specs.StepMeter.{MeterView}
@@ -103,12 +105,19 @@ with_step p s =
       refused = p.refused;
     }
 
+-- the machine hears whether an order to interrupt the command was kept, where it was given
+abbrev pub told_of_order : Bool → Bool → CancelView → CancelView
+told_of_order given kept c = if given then cancel_after (input.Ordered kept) c else c
+
 -- An input comes to the machine of its steps, and what it answers is carried out. Whether the
 -- lane's actor keeps an order to interrupt a command no contract sees.
 abbrev pub Orders : PortView → StepInput → StepActs → PortView → Type 0
-Orders old input acts new =
-    (acts ≡ step_acts input old.step)
-    × (new ≡ with_step old (record (step_after input old.step) { cancels = new.step.cancels }))
+Orders old i acts new =
+    (kept : Bool)
+    × (acts ≡ step_acts i old.step)
+    × (new ≡ with_step old (record (step_after i old.step) {
+      cancels = told_of_order acts.cancel.interrupts kept (step_after i old.step).cancels;
+    }))
 
 -- how a command does, by the state of its own log and by its step's limits
 abbrev pub Sees : PortView → ℕ → Polled → PortView → Type 0

@@ -69,7 +69,7 @@ impl Model for CancelPolicy {
     } };
 }
 
-// A cancel is nothing to be done about.
+// Nothing is to be done about a cancel.
 pub(crate) fn does_nothing() -> CancelActs
     ensures { result ≡ does_nothing }
 {

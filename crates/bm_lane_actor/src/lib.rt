@@ -17,8 +17,8 @@
 //!
 //! Tests show what a channel carries and a flag holds, but for `StartProgress::ask`, `reply` and
 //! `SeenFlag::read`. They show that each update's bytes are counted once. Inside the crate these
-//! have clauses: `accept`, `hand_over`, `CancelPolicy`, `LoginLimit`, `ReadWatch`, `StopOrders`,
-//! `orders::start`, `answer_start`.
+//! have clauses: `accept`, `hand_over`, `CancelPolicy`, `StepMeter`, `LoginLimit`, `ReadWatch`,
+//! `StopOrders`, `orders::start`, `answer_start`.
 #![tactic(auto)]
 
 mod arrivals;

@@ -42,7 +42,6 @@ pub(crate) fn start_outcome(answer: Result<u64, LinkFault>, is_taken: bool) -> O
         Err(LinkFault::Lane(HearRefusal::Session(Refusal::Full))) => OrderOutcome::Full,
         Err(LinkFault::Lane(HearRefusal::Session(_))) => OrderOutcome::Refused,
         Err(_) if is_taken => OrderOutcome::Refused,
-        Err(LinkFault::Mem) => OrderOutcome::Short,
         Err(_) => OrderOutcome::Later,
     }
 }

@@ -64,7 +64,7 @@ pub(crate) fn wait_until_told<S: Drop, R: Wait + Clock>(
 /// `Lost` where the lane is given up, or refuses. `Full` where it has had as many events as it
 /// may. `TooLong` where the words are more than an order can have. `Cancelled` where the step
 /// doesn't always run and its build is cancelled before the lane takes the order. `Memory` where
-/// that is wanting here, or at the lane for a minute. Nothing is started then.
+/// that is wanting here, or at the lane for a minute in all. Nothing is started then.
 pub(crate) fn start<S: Drop, R: Wait + Clock + Drop>(
     rt: &R,
     alloc: Global,

@@ -156,6 +156,7 @@ impl<'a, Y: Yard, S: Drop, R: Wait + Clock + Drop, W: Watch + Drop> Port
             → self.new.told ≡ before ++ asked entry result ∷ [] }
         ensures refused { self.new.refused ≡ self.old.refused }
         ensures answer { Polls self.old k result self.new }
+        ensures none { self.new.step.none ≡ self.old.step.none }
     {
         if self.machine.has_no_command() {
             let said = Polled::Ended(Results::Cancelled);
@@ -171,7 +172,9 @@ impl<'a, Y: Yard, S: Drop, R: Wait + Clock + Drop, W: Watch + Drop> Port
         acts.said
     }
 
-    fn interrupt(&mut self, k: u64) {
+    fn interrupt(&mut self, k: u64)
+        ensures none { self.new.step.none ≡ self.old.step.none }
+    {
         self.orders(k, StepInput::Interrupt);
     }
 }
@@ -275,7 +278,8 @@ impl<'a, Y: Yard, S: Drop, R: Wait + Clock + Drop, W: Watch + Drop> LanePort<'a,
         acts
     }
 
-    /// As `follows`, where the command may have reached a limit, or has to be interrupted.
+    /// As `follows`. A limit is told before a cancel, and then the command is interrupted, where it
+    /// is to be.
     fn orders(&mut self, k: u64, input: StepInput) -> StepActs
         ensures { Orders self.old input result self.new }
     {
@@ -297,6 +301,7 @@ impl<'a, Y: Yard, S: Drop, R: Wait + Clock + Drop, W: Watch + Drop> LanePort<'a,
         ensures told { self.new.told ≡ self.old.told }
         ensures refused { self.new.refused ≡ self.old.refused }
         ensures cancelled { self.new.cancelled ≡ self.old.cancelled }
+        ensures step { self.new.step ≡ self.old.step }
     {
         self.handle.tell(self.rt, LaneRequest::Seen(k));
         if acts.is_loss {
@@ -366,6 +371,7 @@ impl<'a, Y: Yard, S: Drop, R: Wait + Clock + Drop, W: Watch + Drop> LanePort<'a,
         ensures told { self.new.told ≡ self.old.told }
         ensures refused { self.new.refused ≡ self.old.refused }
         ensures cancelled { self.new.cancelled ≡ self.old.cancelled }
+        ensures step { self.new.step ≡ self.old.step }
     {
         let lines = match self.viewer.state(k, STDIO) {
             Ok(state) if state.lines > 1 => state.lines,

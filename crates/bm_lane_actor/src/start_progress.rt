@@ -50,7 +50,7 @@ pub enum StartStage {
 #[derive(Drop)]
 pub struct StartProgress {
     stage: StartStage,
-    /// For how long memory was wanting for it.
+    /// For how long memory was wanting for it at the lane, in all.
     tries: StartTries,
 }
 
@@ -159,7 +159,8 @@ impl StartProgress {
     }
 
     /// The lane has answered an order so; none where memory was wanting for that. The result is
-    /// what the build does then. A start that wants memory at the lane is refused after a minute.
+    /// what the build does then. A start that wants memory at the lane for a minute in all is
+    /// refused.
     pub fn hear(&mut self, answer: Option<OrderOutcome>) -> StartStep
         ensures step { result ≡ bounded self.old.tries (start_step answer) }
         ensures stage { self.new.stage ≡ after_step self.old.stage result }

@@ -78,8 +78,8 @@ impl Model for StepMachine {
     ghost view = { λ m. record { cancels = m.cancels; meter = m.meter; none = m.is_none } };
 }
 
-/// Whether a command that ended so did by the loss of its lane.
-pub fn is_lost(outcome: Results) -> bool
+// Whether a command that ended so did by the loss of its lane.
+fn is_lost(outcome: Results) -> bool
     ensures { result ≡ is_lost outcome }
 {
     outcome == Results::Retry

@@ -9,8 +9,8 @@ use std::marker::Model;
 /// of threads, processes or memory for a moment so costs no build.
 const MOST_TICKS: u32 = 6_000;
 
-/// Counts the ticks for which a start is tried: of a build's thread, or of a worker's program.
-/// Contracts see them.
+/// Counts the ticks for which a start is tried. It is that of a build's thread, of a worker's
+/// program, or of a step for which its lane wants memory. Contracts see them.
 #[derive(Drop)]
 pub struct StartTries {
     ticks: u32,

@@ -316,6 +316,8 @@ impl WorkerMachine {
         }
     }
 
+    // The master ends. A worker whose login isn't heard yet counts as not there: it ends with its
+    // program.
     fn ends(&mut self) -> WorkerEffect
         ensures machine { self.new ≡ machine_after self.old input.Over }
         ensures effect { result ≡ effect_of self.old input.Over }

@@ -8,5 +8,6 @@ pub returns-in_default : goal.returns-in_default
 returns-in_default g c = record {
   told = search rules;
   refused = search rules;
+  none = search rules;
   answer = inr (search rules, (c.wait.new.self, c.see-acts.new.self, c.wait.ensures, c.see-acts.ensures, search rules));
 }
