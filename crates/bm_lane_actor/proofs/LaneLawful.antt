@@ -261,7 +261,7 @@ late-heard true t came now s l = l
 late-heard false t came now s l = (refl, refl)
 
 late-wanted : (t now : ℕ) (s : PeerView) → nat_lt now t ≡ false → IsLate t s → IsLate t (wanted_at now s)
-late-wanted t now s h l = (go s.asked l.0, grind (arith, nat_tests, h))
+late-wanted t now s h l = (go s.asked l.0, go s.wanted l.1)
   where
     go : (o : Option ℕ) → late t o ≡ true → nat_le t (option_map_or (λ at. at) o now) ≡ true
     go None e = grind (arith, nat_tests, h)
@@ -356,13 +356,28 @@ kept-wanted : (now : ℕ) (a : PeerAction) (s : PeerView) → (after_action now 
 kept-wanted now action.Ask s = refl
 kept-wanted now a s = refl
 
-wanted-stays : (i : LaneInput) (now t : ℕ) (p : PolicyView) → p.peer.wanted ≡ Some t → (may_ask i || is_sign i p) ≡ false → (policy_after i now p).peer.wanted ≡ Some t
+first-wanted : (now t : ℕ) (s : PeerView) → s.wanted ≡ Some t → (wanted_at now s).wanted ≡ Some t
+first-wanted now t s e = ap (λ o. Some (option_map_or (λ at. at) o now)) e
+
+login-wanted : (up own first : Bool) (now t : ℕ) (p : PolicyView) → p.peer.wanted ≡ Some t → (policy_after (Login up own first) now p).peer.wanted ≡ Some t
+login-wanted up own first now t p e = go up p.waits own
+  where
+    go : (up w own : Bool) → (fate_after up now (login_fate up w own) p).peer.wanted ≡ Some t
+    go false w own = e
+    go true false own = first-wanted now t p.peer e
+    go true true true = e
+    go true true false = e
+
+wanted-stays : (i : LaneInput) (now t : ℕ) (p : PolicyView) → p.peer.wanted ≡ Some t → is_sign i p ≡ false → (policy_after i now p).peer.wanted ≡ Some t
 wanted-stays (Look true came read left) now t p e h =
     ap (λ (s : PeerView). (after_action now (action_at now s) s).wanted) (silent-heard came now p.peer h) ∙ kept-wanted now (action_at now p.peer) p.peer ∙ e
 wanted-stays (Look false came read left) now t p e h = e
-wanted-stays (Login up own first) now t p e h = absurd (true≢false h)
+wanted-stays (Login up own first) now t p e h = login-wanted up own first now t p e
 wanted-stays (Attached came) now t p e h = absurd (true≢false h)
-wanted-stays (Ended up came) now t p e h = absurd (true≢false h)
+wanted-stays (Ended true came) now t p e h =
+    ap (λ (s : PeerView). (wanted_at now s).wanted) (silent-heard came now p.peer h) ∙ first-wanted now t p.peer e
+wanted-stays (Ended false came) now t p e h =
+    ap (λ (s : PeerView). s.wanted) (silent-heard came now p.peer h) ∙ e
 wanted-stays i now t p e h = e
 
 same-number : (n : ℕ) → (n == n) ≡ true
@@ -395,7 +410,7 @@ wanted_given_up p [] t now left e h l =
     read-once-more now p.peer (ap (λ b. b || has_passed 45000 now p.peer.asked) (has-passed 1500 now t p.peer.wanted e l))
 wanted_given_up p (i ∷ is) t now left e h l =
     let next = policy_after i.input i.now p in
-    let parts = neither (may_ask_again (moment p i)) (list_any may_ask_again (moments next is)) h in
+    let parts = neither (shows_life (moment p i)) (list_any shows_life (moments next is)) h in
     wanted_given_up next is t now left (wanted-stays i.input i.now t p e parts.0) parts.1 l
 
 not-yet : (most now t : ℕ) (o : Option ℕ) → 1 ≤ most → o ≡ Some t → now < t + most → has_passed most now o ≡ false

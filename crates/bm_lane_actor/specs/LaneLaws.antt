@@ -163,11 +163,11 @@ AskedGivenUp =
     → list_any shows_life (moments p is) ≡ false → t + 45000 ≤ now
     → fails (quiet_look true left now (after p is)) ≡ true
 
--- So is one that a login or its end has asked, 1,500 ms behind that. Another would begin them anew.
+-- so is one that a login or its end has asked, 1,500 ms behind that, whoever asks after it
 abbrev pub WantedGivenUp : Type 0
 WantedGivenUp =
     (p : PolicyView) (is : List Arrival) (t now : ℕ) (left : Bool) → p.peer.wanted ≡ Some t
-    → list_any may_ask_again (moments p is) ≡ false → t + 1500 ≤ now
+    → list_any shows_life (moments p is) ≡ false → t + 1500 ≤ now
     → fails (quiet_look true left now (after p is)) ≡ true
 
 -- but none is sooner

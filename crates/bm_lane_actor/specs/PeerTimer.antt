@@ -48,8 +48,13 @@ abbrev pub after_action : ℕ → PeerAction → PeerView → PeerView
 after_action now action.Ask s = record s { asked = Some now }
 after_action now _ s = s
 
+-- since then, where this is the first
+abbrev pub first_at : ℕ → Option ℕ → Option ℕ
+first_at now since = Some (option_map_or (λ at. at) since now)
+
+-- another connection asks for the lane: what was asked first counts
 abbrev pub wanted_at : ℕ → PeerView → PeerView
-wanted_at now s = record s { asked = Some (option_map_or (λ at. at) s.asked now); wanted = Some now }
+wanted_at now s = record s { asked = first_at now s.asked; wanted = first_at now s.wanted }
 
 -- how much of so many milliseconds is left that have begun then
 abbrev pub remaining : ℕ → ℕ → ℕ → ℕ

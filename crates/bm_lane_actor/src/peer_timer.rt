@@ -135,12 +135,13 @@ impl PeerTimer {
         }
     }
 
-    /// Another connection asks for the worker's lane, for which the worker is asked now.
+    /// Another connection asks for the worker's lane, for which the worker is asked now. Its time
+    /// for an answer began with the first question that it left without one.
     pub fn want(&mut self, now: u64)
         ensures { self.new ≡ wanted_at now self.old }
     {
         self.asked = Some(self.asked.unwrap_or(now));
-        self.wanted = Some(now);
+        self.wanted = Some(self.wanted.unwrap_or(now));
     }
 
     /// Whether another connection asks for the worker's lane, and the worker said nothing since.
