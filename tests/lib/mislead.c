@@ -5,6 +5,7 @@
 //     SPIN=1          one of its threads never sleeps
 //     KEEP_INPUT=1    what it starts has its own input, KEEP_OUTPUT=1 its own output
 //     DROP_ERRORS=1   what it starts has no standard error
+//     THROUGH=WORDS   what a line of the shell prints goes through these words
 //     SPARE=1         it kills nothing, ASK_NOT=1 it asks nothing to end
 //     UNHEARD=1       a failed write to its output is none
 //     DELAY=1         its connections send with delay
@@ -32,7 +33,7 @@
 #define REAL(name) static __typeof__(name) *real; if (!real) real = dlsym(RTLD_NEXT, #name)
 static double pace = 1;
 static int keeps_input, keeps_output, drops_errors, spares, asks_not, is_unheard, delays, status;
-static const char *says, *tells;
+static const char *says, *tells, *through;
 static struct timespec begun;
 static long long nanos(struct timespec t) { return t.tv_sec * 1000000000LL + t.tv_nsec; }
 static struct timespec of_nanos(double n) {
@@ -52,6 +53,7 @@ __attribute__((constructor)) static void begin(void) {
     status = getenv("STATUS") ? atoi(getenv("STATUS")) : 1;
     says = getenv("SAYS");
     tells = getenv("TELLS");
+    through = getenv("THROUGH");
     syscall(SYS_clock_gettime, CLOCK_MONOTONIC, &begun);
     pthread_t thread;
     if (getenv("SPIN")) pthread_create(&thread, 0, spin, 0);
@@ -106,6 +108,10 @@ int posix_spawn(pid_t *process, const char *path, const posix_spawn_file_actions
     REAL(posix_spawn);
     static char *const nothing[] = {"sh", "-c", "true", 0};
     int is_asked = asks_not && words[0] && words[1] && words[2] && !strncmp(words[2], "kill ", 5);
+    if (through && words[0] && words[1] && words[2]) {
+        char *const filtered[] = {"sh", "-c", "sh -c \"$0\" | sh -c \"$1\"", words[2], (char *)through, 0};
+        return real(process, path, files, how, filtered, variables);
+    }
     return real(process, path, files, how, is_asked ? nothing : words, variables);
 }
 static ssize_t tell(const char *text, size_t size) {
