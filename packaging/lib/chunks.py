@@ -26,10 +26,16 @@ class Server:
     """A chunk server, over one connection that is opened anew where it was closed."""
 
     def __init__(self, web):
+        """Raises a ValueError where that is no address."""
         parts = urllib.parse.urlsplit(web if "://" in web else f"http://{web}")
         if parts.scheme != "http" or not parts.hostname or not parts.port:
             raise ValueError(web)
-        self.connection = http.client.HTTPConnection(parts.hostname, parts.port, timeout=PATIENCE)
+        # As it is looked up: a name that can't be written so raises a ValueError too.
+        parts.hostname.encode("idna")
+        try:
+            self.connection = http.client.HTTPConnection(parts.hostname, parts.port, timeout=PATIENCE)
+        except http.client.InvalidURL as fault:
+            raise ValueError(web) from fault
         self.has_answered = False
 
     def ask(self, path, **query):
@@ -85,7 +91,7 @@ def spoken(body):
     """What an answer says; nothing where it isn't a chunk server's."""
     try:
         said = json.loads(body)
-    except ValueError:
+    except (ValueError, RecursionError):
         return {}
     return said if isinstance(said, dict) else {}
 

@@ -20,6 +20,10 @@ LINES = [
 ]
 LINES = [(re.compile(pattern), kind) for pattern, kind in LINES]
 NUMBERS = ("build", "log", "workers", "builds", "steps", "count")
+# No number of a master has more digits. What has belongs to no remark.
+MOST_DIGITS = 20
+# The members of an object that are read.
+FIELDS = {kind: tuple(pattern.groupindex) for pattern, kind in LINES}
 # Objects of a healthy run that have no part in a build.
 WORKERS = ("worker_logged_in", "worker_resumed", "worker_told_to_shut_down", "worker_shut_down", "worker_cut", "program_started", "program_ended")
 
@@ -35,7 +39,11 @@ def read_remark(line):
 def read_text(line):
     for pattern, kind in LINES:
         if found := pattern.fullmatch(line):
-            return {"remark": kind, **{name: int(value) if name in NUMBERS else value for name, value in found.groupdict().items()}}
+            fields = found.groupdict()
+            numbers = {name: value for name, value in fields.items() if name in NUMBERS}
+            if any(len(value) > MOST_DIGITS for value in numbers.values()):
+                return None
+            return {"remark": kind, **fields, **{name: int(value) for name, value in numbers.items()}}
     return None
 
 
@@ -43,7 +51,17 @@ def read_object(line):
     """The object of a configuration with `remarks = "json"`."""
     try:
         remark = json.loads(line)
-    except ValueError:
+    except (ValueError, RecursionError):
         return None
-    kinds = {kind for _, kind in LINES} | set(WORKERS)
-    return remark if isinstance(remark, dict) and remark.get("remark") in kinds else None
+    kind = remark.get("remark") if isinstance(remark, dict) else None
+    if not isinstance(kind, str) or kind not in FIELDS and kind not in WORKERS:
+        return None
+    has_all = all(is_read(name, remark.get(name)) for name in FIELDS.get(kind, ()))
+    return remark if has_all and is_read("place", remark.get("place", 0)) else None
+
+
+def is_read(name, value):
+    """Whether a member of an object has the kind that its name says."""
+    if name in NUMBERS or name == "place":
+        return type(value) is int and 0 <= value < 10**MOST_DIGITS
+    return isinstance(value, str)

@@ -84,6 +84,8 @@ WORDS = {
     "serve of two files": (["./serve", "a", "b"], 2, "usage: ./serve"),
     "serve with an option": (["./serve", "--port=1"], 2, "usage: ./serve"),
     "serve of no file": (["./serve", "no-such.toml"], 2, "bad configuration: file\n"),
+    "serve by programs of no folder": (["env", "PROGRAMS=/no-such", "./serve", FIRST], 127, "no folder: /no-such\n"),
+    "run by programs of no folder": (["env", "PROGRAMS=/no-such", "./run", FIRST], 127, "no folder: /no-such\n"),
     "run alone": (["./run"], 2, "usage: ./run"),
     "run with an option": (["./run", "a", "--loud"], 2, "usage: ./run"),
     "run that keeps nowhere": (["./run", "a", "--keep"], 2, "usage: ./run"),
@@ -109,6 +111,13 @@ WORDS = {
     "follow of a build without its number": (["./follow", "127.0.0.1:1", "--build"], 2, "usage: ./follow"),
     "follow of a log without a name": (["./follow", "127.0.0.1:1", "0", ""], 2, "usage: ./follow"),
     "follow of an id above all": (["./follow", "127.0.0.1:1", "18446744073709551616"], 2, "no id of a log: 18446744073709551616"),
+    "follow of an id of many digits": (["./follow", "127.0.0.1:1", "9" * 5000], 2, "no id of a log: 999"),
+    "follow of a build of many digits": (["./follow", "127.0.0.1:1", "--build", "9" * 5000], 2, "usage: ./follow"),
+    "follow of an address with a space": (["./follow", "a b:1", "0"], 2, "no address: a b:1\n"),
+    "follow of an address with a long name": (["./follow", "a" * 70 + ":1", "0"], 2, "no address: aaa"),
+    "follow of an address with two dots": (["./follow", "a..b:1", "0"], 2, "no address: a..b:1\n"),
+    "follow of an address that isn't UTF-8": (["./follow", b"\xff:1", "0"], 2, "no address: "),
+    "follow of a name that isn't UTF-8": (["./follow", "127.0.0.1:1", "0", b"\xff"], 2, "no name of a log: "),
     "follow over TLS": (["./follow", "https://127.0.0.1:1", "0"], 2, "no address: https://127.0.0.1:1"),
     "follow of a port too many": (["./follow", "127.0.0.1:99999", "0"], 2, "no address: 127.0.0.1:99999"),
     "check with an option": (["./check", "--lists"], 2, "usage: ./check"),
@@ -123,6 +132,23 @@ WORDS = {
     "bolgrudi-alone with an option": ([f"{BIN}/bolgrudi-alone", "--user"], 2, "usage: bolgrudi-alone"),
     "master-service alone": (["packaging/lib/master-service"], 2, "usage: master-service"),
 }
+# Lines of a worker's program that look like a master's remarks, and are none.
+NOISE = [
+    b'{"remark":"step_started","build":0}',
+    b'{"remark":"step_started","build":0,"place":0,"step":"s","log":"0"}',
+    b'{"remark":"step_started","build":0,"place":"../..","step":"s","log":0}',
+    b'{"remark":"step_started","build":[],"place":0,"step":"s","log":0}',
+    b'{"remark":"build_started","build":0}',
+    b'{"remark":"build_ended","build":0,"result":1}',
+    b'{"remark":"step_not_started","build":0,"step":"s"}',
+    b'{"remark":"configuration_read","builds":true,"workers":1,"steps":1}',
+    b'{"remark":[]}',
+    b"[" * 100_000,
+    b'{"a":' * 100_000,
+    b"build " + b"9" * 5000 + b" ended FAILURE",
+    b"noise \xff\xfe",
+    b"",
+]
 HELPED = ["./serve", "./run", "./follow", "./check", "./package"]
 
 # Steps that go wrong, each the only one of its build: its keys, and what is told of the build. All
