@@ -3,6 +3,7 @@ that the worker says."""
 
 import asyncio
 import random
+import time
 
 import wire
 
@@ -23,8 +24,8 @@ class Master:
         self.exceptions = set()
         # What it answers a session that it has forgotten; None where it knows it.
         self.forgets = None
-        # Whether it refuses each login.
-        self.refuses = False
+        # Whether it refuses each login, and when it did.
+        self.refuses, self.refused = False, []
         self.logins = []
         self.said, self.codes, self.ends = {}, {}, {}
         self.done = asyncio.Event()
@@ -49,6 +50,7 @@ class Master:
     async def serve(self, socket):
         login = wire.unpacked(await socket.recv())
         if self.refuses:
+            self.refused.append(time.monotonic())
             return await socket.send(wire.packed({"seq_number": 0, "op": "response", "result": "bad login", "is_exception": True}))
         self.socket = socket
         assert (login["seq_number"], login["op"]) == (0, "auth"), login

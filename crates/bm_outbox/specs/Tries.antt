@@ -33,16 +33,21 @@ may_go_on fault.Refused = false
 abbrev pub goes_on : ConnectFault → ℕ → TriesState → Bool
 goes_on why now t = t.is_known && may_go_on why && nat_lt 0 t.made && nat_lt (now - t.begun_ms) 6000
 
+-- The pause before a try that begins now. It doubles where a login is refused, once one was
+-- answered.
+abbrev pub first_pause : ConnectFault → TriesState → ℕ
+first_pause why t = if t.is_known && not (may_go_on why) && nat_lt 0 t.made then t.next_pause_ms else 10
+
 -- the pause before the next connect; none where the tenth try has ended
 abbrev pub pause_before : ConnectFault → ℕ → TriesState → Option ℕ
 pause_before why now t =
     if goes_on why now t then Some t.next_pause_ms else
-    if nat_lt t.made 10 then Some 10 else
+    if nat_lt t.made 10 then Some (first_pause why t) else
     None
 
--- the pauses of a try double, up to a second; the next try begins where one has ended
+-- the pauses double, up to a second; the next try begins where one has ended
 abbrev pub after_fault : ConnectFault → ℕ → TriesState → TriesState
 after_fault why now t =
     if goes_on why now t then record t { next_pause_ms = min 1000 (2 * t.next_pause_ms) } else
-    if nat_lt t.made 10 then record t { made = t.made + 1; begun_ms = now; next_pause_ms = 20 } else
+    if nat_lt t.made 10 then record t { made = t.made + 1; begun_ms = now; next_pause_ms = min 1000 (2 * first_pause why t) } else
     t

@@ -1,7 +1,7 @@
 //! How often and for how long a worker connects again.
 
 ghost use Rattle.std.specs.Prelude.{◌≡◌};
-ghost use Rattle.bm_outbox.specs.Tries.{after_connection, after_fault, goes_on, has_lasted, pause_before};
+ghost use Rattle.bm_outbox.specs.Tries.{after_connection, after_fault, first_pause, goes_on, has_lasted, pause_before};
 
 use std::marker::Model;
 
@@ -100,6 +100,7 @@ impl Tries {
     ///
     /// A try ends with its share of the time, or by a login that is refused. Before a login was
     /// answered each connect is a try. The pauses of a try grow from 10 milliseconds to a second.
+    /// Behind a refused login they grow on, once one was answered.
     /// Where a connection is lost that lasted for a try's share behind the answer to its login, the
     /// count starts afresh. So no number of cuts ends a worker that hears no message since it has
     /// no builds. One that was answered and dropped at once is part of its try. So a master that
@@ -117,10 +118,23 @@ impl Tries {
         if self.made >= MOST {
             return None;
         }
+        let pause = self.first_pause(why);
         self.made += 1;
         self.begun_ms = now_ms;
-        self.next_pause_ms = 2 * FIRST_PAUSE_MS;
-        Some(FIRST_PAUSE_MS)
+        self.next_pause_ms = LAST_PAUSE_MS.min(2 * pause);
+        Some(pause)
+    }
+
+    /// The pause before a try that begins now. A master that knows the worker may refuse it for as
+    /// long as the connection before delivers what was on its way. So the pauses grow on.
+    fn first_pause(&self, why: ConnectFault) -> u64
+        ensures { result ≡ first_pause why self.now }
+    {
+        if self.is_known && why == ConnectFault::Refused && self.made > 0 {
+            self.next_pause_ms
+        } else {
+            FIRST_PAUSE_MS
+        }
     }
 
     /// Forgets the connection that stood. Where it lasted for a try's share, the count starts
