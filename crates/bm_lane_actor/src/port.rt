@@ -173,6 +173,8 @@ impl<'a, Y: Yard, S: Drop, R: Wait + Clock + Drop, W: Watch + Drop> Port
     }
 
     fn interrupt(&mut self, k: u64)
+        ensures told { self.new.told ≡ self.old.told }
+        ensures refused { self.new.refused ≡ self.old.refused }
         ensures none { self.new.step.none ≡ self.old.step.none }
     {
         self.orders(k, StepInput::Interrupt);
