@@ -12,7 +12,8 @@ MOST_LINES = 10_000
 PATIENCE = 60
 # Seconds between two looks at a log that doesn't grow: they double from the first to the second.
 FIRST_PAUSE, LAST_PAUSE = 0.05, 1.0
-
+# What an answer has of one log, by the name of the list whose first object it is.
+MEMBERS = {"logs": {"complete": bool, "num_lines": int}, "logchunks": {"content": str}}
 
 # What is told of another server, mostly the door for workers.
 NO_SERVER = "no chunk server answers there, as the second address of `listening` does"
@@ -38,9 +39,9 @@ class Server:
             raise ValueError(web) from fault
         self.has_answered = False
 
-    def ask(self, path, **query):
-        """The answer's JSON; None where there is no such log yet,
-        or the server has no memory just now."""
+    def ask(self, path, kind, **query):
+        """What the answer has of the log, as MEMBERS says of that kind; None where there is no such
+        log yet, or the server has no memory just now."""
         target = f"/api/v2/logs/{path}?{urllib.parse.urlencode(query)}"
         try:
             status, body = self.answer(target)
@@ -54,8 +55,9 @@ class Server:
         said = spoken(body)
         if status == 404 and said.get("error") == "no such log":
             return None
-        if status == 200 and ("logs" in said or "logchunks" in said):
-            return said
+        found = first_of(said, kind)
+        if status == 200 and found:
+            return found
         raise Gone(f"{NO_SERVER} (status {status} for {plain(target)})")
 
     def answer(self, target):
@@ -78,13 +80,13 @@ class Server:
     def state(self, log, name="stdio"):
         """Whether the log's command has ended, and how many lines the log has; None where there
         is no such log yet."""
-        said = self.ask(log, name=name)
-        return None if said is None else (said["logs"][0]["complete"], said["logs"][0]["num_lines"])
+        found = self.ask(log, "logs", name=name)
+        return None if found is None else (found["complete"], found["num_lines"])
 
     def lines(self, log, offset, name="stdio"):
         """The log's next lines with their letters, at most MOST_LINES of them."""
-        said = self.ask(f"{log}/contents", name=name, offset=offset, limit=MOST_LINES)
-        return said["logchunks"][0]["content"].split("\n")[:-1] if said else []
+        found = self.ask(f"{log}/contents", "logchunks", name=name, offset=offset, limit=MOST_LINES)
+        return found["content"].split("\n")[:-1] if found else []
 
 
 def spoken(body):
@@ -94,6 +96,14 @@ def spoken(body):
     except (ValueError, RecursionError):
         return {}
     return said if isinstance(said, dict) else {}
+
+
+def first_of(said, kind):
+    """The first object of a list that an answer has; None where it isn't a chunk server's."""
+    objects = said.get(kind)
+    first = objects[0] if isinstance(objects, list) and objects else None
+    is_whole = isinstance(first, dict) and all(type(first.get(name)) is its for name, its in MEMBERS[kind].items())
+    return first if is_whole else None
 
 
 def pieces(server, log, name, absent):
