@@ -52,7 +52,12 @@ def state_of(pid):
 
 
 def is_running(pid):
-    return state_of(pid) not in ("", "Z", "X")
+    """Whether one of its threads is there. Where the first has ended others may still hold its sockets."""
+    try:
+        threads = os.listdir(f"/proc/{pid}/task")
+    except OSError:
+        return False
+    return any(state_of(f"{pid}/task/{thread}") not in ("", "Z", "X") for thread in threads)
 
 
 def name_of(pid):
