@@ -17,8 +17,8 @@ use Rattle.bm_link.proofs.Carried.{events_keep, orders_added, sessions_begin}
 use Rattle.bm_link.specs.declared.asks.Ask.{Ask}
 use Rattle.bm_link.specs.declared.attaching.Attached.{Attached}
 use Rattle.bm_link.specs.declared.fault.LinkFault.{LinkFault}
-use Rattle.bm_link.specs.declared.parts.Turn.{Turn}
-use Rattle.bm_link.specs.declared.parts.Turn.TheVariants as turn
+use Rattle.bm_link.specs.declared.turn.Turn.{Turn}
+use Rattle.bm_link.specs.declared.turn.Turn.TheVariants as turn
 use Rattle.bm_link.specs.Asking.{AsksFor}
 use Rattle.bm_link.specs.Attaching.{TakesUpFor, AttachesAs, Declined, beginning, cleared, taken_up, resumes}
 use Rattle.bm_link.specs.Carries.{Carried, begun, carried_after, carried_with, has_asked, is_same, new_carried}

@@ -12,7 +12,7 @@ use Rattle.bm_lane.specs.declared.refusals.HearRefusal.{HearRefusal}
 use Rattle.bm_link.specs.declared.asks.Ask.TheVariants.{Shutdown}
 use Rattle.bm_link.specs.declared.attaching.Attached.{Attached}
 use Rattle.bm_link.specs.declared.fault.LinkFault.{LinkFault}
-use Rattle.bm_link.specs.declared.parts.Turn.{Turn}
+use Rattle.bm_link.specs.declared.turn.Turn.{Turn}
 use Rattle.bm_link.specs.Asking.{AsksFor}
 use Rattle.bm_link.specs.Carries.{Carried}
 use Rattle.bm_link.specs.Control.{ClosesFor, PingsFor}

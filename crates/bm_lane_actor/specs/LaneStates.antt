@@ -15,8 +15,8 @@ use Rattle.bm_link.specs.declared.asks.Ask.TheVariants.{Shutdown}
 use Rattle.bm_link.specs.declared.attaching.Attached.{Attached}
 use Rattle.bm_link.specs.declared.fault.LinkFault.{LinkFault}
 use Rattle.bm_link.specs.declared.fault.LinkFault.TheVariants.{Lane}
-use Rattle.bm_link.specs.declared.parts.Turn.{Turn}
-use Rattle.bm_link.specs.declared.parts.Turn.TheVariants.{Quiet}
+use Rattle.bm_link.specs.declared.turn.Turn.{Turn}
+use Rattle.bm_link.specs.declared.turn.Turn.TheVariants.{Quiet}
 use Rattle.bm_link.specs.Asking.{AsksFor}
 use Rattle.bm_link.specs.Attaching.{TakesUpFor}
 use Rattle.bm_link.specs.Carries.{Carried}

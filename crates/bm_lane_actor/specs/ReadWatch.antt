@@ -1,8 +1,8 @@
 -- Whether a read of a lane's link may give something, of which nobody is told any more.
 use Rattle.std.specs.Prelude.{Bool, true, false, not, Result, Ok, Err}
 use Rattle.bm_link.specs.declared.fault.LinkFault.{LinkFault}
-use Rattle.bm_link.specs.declared.parts.Turn.{Turn}
-use Rattle.bm_link.specs.declared.parts.Turn.TheVariants.{Quiet}
+use Rattle.bm_link.specs.declared.turn.Turn.{Turn}
+use Rattle.bm_link.specs.declared.turn.Turn.TheVariants.{Quiet}
 use Rattle.bm_lane_actor.specs.declared.read_watch.LastRead.{LastRead}
 use Rattle.bm_lane_actor.specs.declared.read_watch.LastRead.TheVariants.{MetNothing}
 

@@ -4,7 +4,7 @@ use Rattle.bm_lane.specs.declared.refusals.HearRefusal.TheVariants.{Busy}
 use Rattle.bm_link.specs.declared.credentials.Named.{Named}
 use Rattle.bm_link.specs.declared.fault.LinkFault.{LinkFault}
 use Rattle.bm_link.specs.declared.fault.LinkFault.TheVariants.{Lane}
-use Rattle.bm_link.specs.declared.parts.Stage.TheVariants as stage
+use Rattle.bm_link.specs.declared.ending.Stage.TheVariants as stage
 use Rattle.bm_link.specs.Control.{PutsOff}
 use Rattle.bm_link.specs.Link.{LinkState}
 use Rattle.bm_link.specs.Telling.{text_of_refusal, TellsAny}

@@ -9,7 +9,7 @@ use Rattle.bm_link.specs.declared.attaching.Attached.{Attached}
 use Rattle.bm_link.specs.declared.attaching.Attached.TheVariants.{New}
 use Rattle.bm_link.specs.declared.credentials.Named.{Named}
 use Rattle.bm_link.specs.declared.fault.LinkFault.{LinkFault}
-use Rattle.bm_link.specs.declared.parts.Stage.{Stage}
+use Rattle.bm_link.specs.declared.ending.Stage.{Stage}
 use Rattle.bm_link.specs.Attaching.{Attaches, AttachesAs, attached_as, beginning, resumes}
 use Rattle.bm_link.specs.Carries.{Carried, begun, carried_with, is_same, kept_text}
 use Rattle.bm_link.specs.LawsOfSessions.{AnswersNew, IsNot, NamesBoth, NewIsAnother, StaysAnother, UnsentIsAnother}

@@ -9,10 +9,10 @@ use Rattle.bm_lane.specs.Hearing.{with_event}
 use Rattle.bm_link.specs.declared.attaching.Attached.{Attached}
 use Rattle.bm_link.specs.declared.credentials.Named.{Named}
 use Rattle.bm_link.specs.declared.fault.LinkFault.{LinkFault}
-use Rattle.bm_link.specs.declared.parts.Ended.{Ended}
-use Rattle.bm_link.specs.declared.parts.Ended.TheVariants as ended
-use Rattle.bm_link.specs.declared.parts.Stage.{Stage}
-use Rattle.bm_link.specs.declared.parts.Stage.TheVariants as stage
+use Rattle.bm_link.specs.declared.ending.Ended.{Ended}
+use Rattle.bm_link.specs.declared.ending.Ended.TheVariants as ended
+use Rattle.bm_link.specs.declared.ending.Stage.{Stage}
+use Rattle.bm_link.specs.declared.ending.Stage.TheVariants as stage
 use Rattle.bm_link.specs.declared.user.User.{User}
 use Rattle.bm_link.specs.Attaching.{Attaches, TakesUpFor}
 use Rattle.bm_link.specs.Carries.{Carried, may_cut, with_order}

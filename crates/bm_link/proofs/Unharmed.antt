@@ -14,8 +14,8 @@ use Rattle.bm_link.specs.declared.attaching.Attached.{Attached}
 use Rattle.bm_link.specs.declared.credentials.Named.{Named}
 use Rattle.bm_link.specs.declared.fault.LinkFault.{LinkFault}
 use Rattle.bm_link.specs.declared.fault.LinkFault.TheVariants.{Closed}
-use Rattle.bm_link.specs.declared.parts.Ended.{Ended}
-use Rattle.bm_link.specs.declared.parts.Ended.TheVariants as ended
+use Rattle.bm_link.specs.declared.ending.Ended.{Ended}
+use Rattle.bm_link.specs.declared.ending.Ended.TheVariants as ended
 use Rattle.bm_link.specs.Attaching.{TakesUpFor, AttachesAs, Declined, cleared, taken_up, resumes}
 use Rattle.bm_link.specs.Carries.{Carried}
 use Rattle.bm_link.specs.Endings.{Ends}

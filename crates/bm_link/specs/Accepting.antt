@@ -4,7 +4,7 @@ use Rattle.tungstenite.specs.declared.protocol.WebSocketConfig.{WebSocketConfig}
 use Rattle.websocket.specs.declared.protocol.config.WebSocketConfig.{WebSocketConfig as Limits}
 use Rattle.tungstenite.specs.Heads.{Connected, Serves}
 use Rattle.tungstenite.specs.Socket.{Socket}
-use Rattle.bm_link.specs.declared.parts.Stage.TheVariants as stage
+use Rattle.bm_link.specs.declared.ending.Stage.TheVariants as stage
 use Rattle.bm_link.specs.Link.{LinkState}
 
 -- no message and no frame is longer than this, and no frame of a worker comes unmasked

@@ -3,8 +3,8 @@ use Rattle.std.specs.Prelude.{◌≡◌, ℕ, List, Option, None, Result, Ok, Er
 use Rattle.bm_link.specs.declared.asks.Ask.{Ask}
 use Rattle.bm_link.specs.declared.fault.LinkFault.{LinkFault}
 use Rattle.bm_link.specs.declared.fault.LinkFault.TheVariants.{Closed}
-use Rattle.bm_link.specs.declared.parts.Stage.{Stage}
-use Rattle.bm_link.specs.declared.parts.Stage.TheVariants as stage
+use Rattle.bm_link.specs.declared.ending.Stage.{Stage}
+use Rattle.bm_link.specs.declared.ending.Stage.TheVariants as stage
 use Rattle.bm_link.specs.Asks.{SendsAsk}
 use Rattle.bm_link.specs.Carries.{Carried, may_cut}
 use Rattle.bm_link.specs.Link.{LinkState}

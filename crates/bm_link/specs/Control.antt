@@ -4,8 +4,8 @@ use Rattle.bm_lane.specs.declared.refusals.HearRefusal.TheVariants.{Busy}
 use Rattle.bm_link.specs.declared.credentials.Named.{Named}
 use Rattle.bm_link.specs.declared.fault.LinkFault.{LinkFault}
 use Rattle.bm_link.specs.declared.fault.LinkFault.TheVariants.{Closed, Lane}
-use Rattle.bm_link.specs.declared.parts.Stage.{Stage}
-use Rattle.bm_link.specs.declared.parts.Stage.TheVariants as stage
+use Rattle.bm_link.specs.declared.ending.Stage.{Stage}
+use Rattle.bm_link.specs.declared.ending.Stage.TheVariants as stage
 use Rattle.bm_link.specs.Carries.{Carried, is_same, may_cut}
 use Rattle.bm_link.specs.Frames.{SendsClose, SendsPing}
 use Rattle.bm_link.specs.Link.{LinkState}

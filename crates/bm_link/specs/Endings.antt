@@ -7,10 +7,10 @@ use Rattle.bm_lane.specs.Ends.{Heard}
 use Rattle.bm_lane.specs.Hearing.{with_event, TraceRefuses, Refuses}
 use Rattle.bm_lane.specs.declared.refusals.HearRefusal.{HearRefusal}
 use Rattle.bm_lane.specs.declared.refusals.HearRefusal.TheVariants.{Busy}
-use Rattle.bm_link.specs.declared.parts.Ended.{Ended}
-use Rattle.bm_link.specs.declared.parts.Ended.TheVariants as ended
-use Rattle.bm_link.specs.declared.parts.Stage.{Stage}
-use Rattle.bm_link.specs.declared.parts.Stage.TheVariants as stage
+use Rattle.bm_link.specs.declared.ending.Ended.{Ended}
+use Rattle.bm_link.specs.declared.ending.Ended.TheVariants as ended
+use Rattle.bm_link.specs.declared.ending.Stage.{Stage}
+use Rattle.bm_link.specs.declared.ending.Stage.TheVariants as stage
 
 -- how far the link has come then: while the Down waits it is still to be taken
 abbrev pub stage_after : Ended → Stage

@@ -18,8 +18,8 @@ use Rattle.bm_lane.specs.declared.refusals.HearRefusal.{HearRefusal}
 use Rattle.bm_lane.specs.declared.refusals.HearRefusal.TheVariants.{Session}
 use Rattle.bm_link.specs.declared.fault.LinkFault.{LinkFault}
 use Rattle.bm_link.specs.declared.fault.LinkFault.TheVariants.{Lane}
-use Rattle.bm_link.specs.declared.parts.Ended.{Ended}
-use Rattle.bm_link.specs.declared.parts.Ended.TheVariants as ended
+use Rattle.bm_link.specs.declared.ending.Ended.{Ended}
+use Rattle.bm_link.specs.declared.ending.Ended.TheVariants as ended
 use Rattle.bm_link.specs.Carries.{Carried}
 use Rattle.bm_link.specs.Endings.{Ends}
 use Rattle.bm_link.specs.Parts.{Declines, Takes}

@@ -6,7 +6,7 @@ use Rattle.bm_link.specs.declared.attaching.Attached.{Attached}
 use Rattle.bm_link.specs.declared.attaching.Attached.TheVariants.{New}
 use Rattle.bm_link.specs.declared.credentials.Named.{Named}
 use Rattle.bm_link.specs.declared.fault.LinkFault.{LinkFault}
-use Rattle.bm_link.specs.declared.parts.Stage.{Stage}
+use Rattle.bm_link.specs.declared.ending.Stage.{Stage}
 use Rattle.bm_link.specs.Attaching.{Attaches}
 use Rattle.bm_link.specs.Carries.{Carried}
 

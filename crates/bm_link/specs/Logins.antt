@@ -13,8 +13,8 @@ use Rattle.bm_link.specs.declared.fault.LinkFault.{LinkFault}
 use Rattle.bm_link.specs.declared.fault.LinkFault.TheVariants.{BadLogin, Closed}
 use Rattle.bm_link.specs.declared.login.Unadmitted.{Unadmitted}
 use Rattle.bm_link.specs.declared.login.Unadmitted.TheVariants as unadmitted
-use Rattle.bm_link.specs.declared.parts.Stage.{Stage}
-use Rattle.bm_link.specs.declared.parts.Stage.TheVariants as stage
+use Rattle.bm_link.specs.declared.ending.Stage.{Stage}
+use Rattle.bm_link.specs.declared.ending.Stage.TheVariants as stage
 use Rattle.bm_link.specs.declared.user.User.{User}
 use Rattle.bm_link.specs.Causes.{FailsAtFirst, GivesNone}
 use Rattle.bm_link.specs.Link.{LinkState}

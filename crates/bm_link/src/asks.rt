@@ -6,9 +6,9 @@ ghost use Rattle.bm_link.specs.Asks.{asks_for, ask_bytes, texts_of, SendsAsk};
 ghost use Rattle.bm_link.specs.Texts.{AreShort};
 
 use crate::fault::LinkFault;
-use crate::parts::send;
 use crate::requests::request_bytes;
 use crate::resume_state::ResumeState;
+use crate::writing::send;
 use bm_lines::Text;
 use bm_msg::Request;
 use std::alloc::{AllocError, Global};

@@ -4,10 +4,10 @@
 ghost use Rattle.std.specs.Prelude.{◌≡◌};
 ghost use Rattle.bm_link.specs.Control.{ClosesFor, PingsFor, PutsOff, names_kept};
 
+use crate::ending::Stage;
 use crate::fault::LinkFault;
 use crate::frames::{send_close, send_ping};
 use crate::master::MasterLink;
-use crate::parts::Stage;
 use crate::resume_state::ResumeState;
 use crate::telling::refuse;
 use bm_lane::HearRefusal;

@@ -11,9 +11,9 @@ ghost use Rattle.bm_link.specs.Attaching.{IsAttached};
 
 use crate::attaching::Attached;
 use crate::fault::LinkFault;
-use crate::parts::send;
 use crate::reading::{message_in, tree_in};
 use crate::socket::read_first;
+use crate::writing::send;
 use bm_lines::Text;
 use bm_msg::{Message, Response, write_login};
 use bm_value::Value;

@@ -4,7 +4,7 @@ ghost use Rattle.std.specs.Prelude.{◌≡◌, ◌<◌, ◌^◌, length};
 ghost use Rattle.bm_link.specs.Telling.{fault_of_refusal, text_of_refusal, Tells, TellsAny};
 
 use crate::fault::LinkFault;
-use crate::parts::send;
+use crate::writing::send;
 use bm_lane::HearRefusal;
 use bm_msg::write_answer;
 use bm_session::Refusal;

@@ -6,7 +6,7 @@ use Rattle.bm_work.specs.declared.sent.Sent.{Sent}
 use Rattle.bm_outbox.specs.declared.outbox_entry.OutboxEntry.{OutboxEntry}
 use Rattle.bm_link.specs.Working.{PingsAt, WorkState, Worked}
 use Rattle.bm_link.specs.declared.fault.LinkFault.{LinkFault}
-use Rattle.bm_link.specs.declared.parts.Turn.{Turn}
+use Rattle.bm_link.specs.declared.turn.Turn.{Turn}
 use Rattle.bm_worker_session.specs.Sessions.{HandsOver, HearsBy, PingsBy, SendsNext, SessionState, TellsOn, answer_of_sending}
 use Rattle.bm_worker_session.specs.declared.session_fault.SessionFault.{SessionFault}
 

@@ -19,8 +19,8 @@ use Rattle.bm_outbox.specs.declared.progress.Progress.TheVariants as progress
 use Rattle.bm_link.specs.Received.{HearsOne, hearing_of}
 use Rattle.bm_link.specs.Working.{WorkState, Worked, Works, WorksOn}
 use Rattle.bm_link.specs.declared.fault.LinkFault.{LinkFault}
-use Rattle.bm_link.specs.declared.parts.Turn.{Turn}
-use Rattle.bm_link.specs.declared.parts.Turn.TheVariants as turn
+use Rattle.bm_link.specs.declared.turn.Turn.{Turn}
+use Rattle.bm_link.specs.declared.turn.Turn.TheVariants as turn
 use Rattle.bm_worker_session.specs.Sessions.{requests_of}
 
 pub length-stream : (n : ℕ) (rs : List Report) → length (stream_from n rs) ≡ length rs

@@ -2,7 +2,7 @@
 use Rattle.std.specs.Prelude.{◌≡◌, ◌≤◌, ℕ, Bool, true, false, List, [], ◌++◌, drop, Option, Some, Result, Ok}
 use Rattle.bm_link.specs.Working.{WorkState}
 use Rattle.bm_link.specs.declared.fault.LinkFault.{LinkFault}
-use Rattle.bm_link.specs.declared.parts.Turn.{Turn}
+use Rattle.bm_link.specs.declared.turn.Turn.{Turn}
 use Rattle.bm_work.specs.Core.{Core, IsCore, next_number, unanswered_requests}
 use Rattle.bm_work.specs.Stream.{stream}
 use Rattle.bm_work.specs.declared.act.WorkAct.{WorkAct}

@@ -13,7 +13,7 @@ use Rattle.bm_link.specs.declared.attaching.Attached.{Attached}
 use Rattle.bm_link.specs.declared.attaching.Attached.TheVariants as attached
 use Rattle.bm_link.specs.declared.fault.LinkFault.{LinkFault}
 use Rattle.bm_link.specs.declared.fault.LinkFault.TheVariants.{Closed, Mem}
-use Rattle.bm_link.specs.declared.parts.Turn.{Turn}
+use Rattle.bm_link.specs.declared.turn.Turn.{Turn}
 use Rattle.bm_worker_session.specs.declared.session_fault.SessionFault.{SessionFault}
 use Rattle.bm_worker_session.specs.declared.session_fault.SessionFault.TheVariants as fault
 

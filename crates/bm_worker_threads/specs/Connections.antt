@@ -6,8 +6,8 @@ use Rattle.bm_link.specs.declared.attaching.Attached.{Attached}
 use Rattle.bm_link.specs.declared.attaching.Attached.TheVariants as attached
 use Rattle.bm_link.specs.declared.fault.LinkFault.{LinkFault}
 use Rattle.bm_link.specs.declared.fault.LinkFault.TheVariants as fault
-use Rattle.bm_link.specs.declared.parts.Turn.{Turn}
-use Rattle.bm_link.specs.declared.parts.Turn.TheVariants as turn
+use Rattle.bm_link.specs.declared.turn.Turn.{Turn}
+use Rattle.bm_link.specs.declared.turn.Turn.TheVariants as turn
 use Rattle.bm_outbox.specs.declared.tries.ConnectFault.{ConnectFault}
 use Rattle.bm_outbox.specs.declared.tries.ConnectFault.TheVariants as why
 use Rattle.bm_worker_threads.specs.declared.connection.ConnectionEnd.{ConnectionEnd}

@@ -9,8 +9,8 @@ use Rattle.bm_link.specs.declared.attaching.Attached.{Attached}
 use Rattle.bm_link.specs.declared.attaching.Attached.TheVariants.{Resumed}
 use Rattle.bm_link.specs.declared.credentials.Named.{Named}
 use Rattle.bm_link.specs.declared.fault.LinkFault.{LinkFault}
-use Rattle.bm_link.specs.declared.parts.Stage.{Stage}
-use Rattle.bm_link.specs.declared.parts.Stage.TheVariants as stage
+use Rattle.bm_link.specs.declared.ending.Stage.{Stage}
+use Rattle.bm_link.specs.declared.ending.Stage.TheVariants as stage
 use Rattle.bm_link.specs.Attaching.{AttachesAs, SendsAll, SendsAttached, TakesUpFor, attached_as, login_bytes, resumes}
 use Rattle.bm_link.specs.Carries.{Carried}
 use Rattle.bm_link.specs.Link.{LinkState}

@@ -13,9 +13,9 @@ use Rattle.bm_session.proofs.Pushed.{is_up-push}
 use Rattle.bm_lane.specs.Ends.{Heard}
 use Rattle.bm_link.specs.declared.fault.LinkFault.{LinkFault}
 use Rattle.bm_link.specs.declared.fault.LinkFault.TheVariants.{BadMessage}
-use Rattle.bm_link.specs.declared.parts.Stage.{Stage}
-use Rattle.bm_link.specs.declared.parts.Stage.TheVariants as stage
-use Rattle.bm_link.specs.declared.parts.Turn.{Turn}
+use Rattle.bm_link.specs.declared.ending.Stage.{Stage}
+use Rattle.bm_link.specs.declared.ending.Stage.TheVariants as stage
+use Rattle.bm_link.specs.declared.turn.Turn.{Turn}
 use Rattle.bm_link.specs.Carries.{Carried, answered_by, carried_after, is_bad, may_cut, noted}
 use Rattle.bm_link.specs.Endings.{EndsAt}
 use Rattle.bm_link.specs.Link.{LinkState, Turned}

@@ -4,8 +4,8 @@ ghost use Rattle.std.specs.Prelude.{◌≡◌, ◌≢◌, ◌<◌, ◌∷◌, �
 ghost use Rattle.bm_link.specs.declared.credentials.Named.{Named};
 ghost use Rattle.bm_link.specs.declared.attaching.Attached.TheVariants as attached;
 ghost use Rattle.bm_link.specs.declared.fault.LinkFault.TheVariants as fault;
-ghost use Rattle.bm_link.specs.declared.parts.Stage.TheVariants as stage;
-ghost use Rattle.bm_link.specs.declared.parts.Turn.TheVariants as turned;
+ghost use Rattle.bm_link.specs.declared.ending.Stage.TheVariants as stage;
+ghost use Rattle.bm_link.specs.declared.turn.Turn.TheVariants as turned;
 ghost use Rattle.bm_lane.specs.declared.refusals.HearRefusal.TheVariants as hearing;
 ghost use Rattle.bm_session.specs.declared.event.Event.{Event as LaneEvent};
 ghost use Rattle.bm_session.specs.declared.event.Event.TheVariants.{Cut};

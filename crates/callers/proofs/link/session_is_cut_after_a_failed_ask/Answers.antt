@@ -1,5 +1,5 @@
 use Rattle.std.proofs.Common.{subst}
-use Rattle.bm_link.specs.declared.parts.Stage.{Stage}
+use Rattle.bm_link.specs.declared.ending.Stage.{Stage}
 use Rattle.bm_link.specs.Link.{Turned}
 use Rattle.callers.proofs.LinkCalls.{falls_with_a_cut}
 use Rattle.callers.proofs.LinkTurns.{falls_by_a_cut}

@@ -1,5 +1,5 @@
 use Rattle.std.proofs.Common.{◌∙◌, refl, sym}
-use Rattle.bm_link.specs.declared.parts.Stage.TheVariants as stage
+use Rattle.bm_link.specs.declared.ending.Stage.TheVariants as stage
 use Rattle.bm_link.proofs.Stages.{declines_up, takes_up}
 use Rattle.bm_link.proofs.master.MasterLink.attach.Goals as goal
 

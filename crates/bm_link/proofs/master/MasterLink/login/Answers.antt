@@ -1,7 +1,7 @@
 use Rattle.std.proofs.Common.{refl, subst, inl, inr, Some, Err}
 use Rattle.bm_link.specs.declared.fault.LinkFault.TheVariants.{BadLogin}
 use Rattle.bm_link.specs.declared.login.Unadmitted.{Unadmitted}
-use Rattle.bm_link.specs.declared.parts.Stage.TheVariants as stage
+use Rattle.bm_link.specs.declared.ending.Stage.TheVariants as stage
 use Rattle.bm_link.specs.Logins.{AdmitsOrFails}
 use Rattle.bm_link.proofs.Stages.{fails_to_log_in, logs_in}
 use Rattle.bm_link.proofs.master.MasterLink.login.Goals as goal
