@@ -8,6 +8,7 @@ use Rattle.bm_operator.specs.declared.reasons.StartRefusal.TheVariants as why
 use Rattle.bm_lane_actor.specs.declared.start_progress.StartStage.{StartStage}
 use Rattle.bm_lane_actor.specs.declared.start_progress.StartStage.TheVariants as stage
 use Rattle.bm_lane_actor.specs.declared.step_machine.StepInput.{StepInput}
+use Rattle.bm_lane_actor.specs.declared.step_machine.StepInput.TheVariants as step
 use Rattle.bm_lane_actor.specs.declared.step_machine.StepActs.{StepActs}
 use Rattle.bm_store.specs.declared.chunk.LogState.{LogState}
 use Rattle.bm_store.specs.declared.chunk.ViewRefusal.{ViewRefusal}
@@ -21,7 +22,7 @@ use Rattle.bm_lane.specs.Looks.{GivesState}
 use Rattle.bm_lane_actor.specs.declared.cancel_policy.CancelInput.TheVariants as input
 use Rattle.bm_lane_actor.specs.CancelPolicy.{CancelView, cancel_after}
 use Rattle.bm_lane_actor.specs.StartProgress.{refused_in, settled}
-use Rattle.bm_lane_actor.specs.StepMachine.{StepView, at_limits, is_cancelled, step_acts, step_after, ticked}
+use Rattle.bm_lane_actor.specs.StepMachine.{StepView, is_cancelled, step_acts, step_after}
 use Rattle.bm_lane_actor.specs.StepMeter.{MeterView}
 
 -- What its viewer has seen of the lane, and whether its build's flag was set when it was read last.
@@ -119,14 +120,12 @@ Orders old i acts new =
       cancels = told_of_order acts.cancel.interrupts kept (step_after i old.step).cancels;
     }))
 
--- how a command does, by the state of its own log and by its step's limits
-abbrev pub Sees : PortView → ℕ → Polled → PortView → Type 0
-Sees old k said new =
+-- How a command does. The viewer looks for the state of its log. The machine hears that, and how
+-- many bytes the command's updates have carried; what it answers is carried out.
+abbrev pub Sees : PortView → ℕ → StepActs → PortView → Type 0
+Sees old k acts new =
     (seen : Polled) × (bytes : ℕ) × (between : PortView)
-    × Looks old k seen between × (said ≡ at_limits old.step.meter bytes seen)
-    × (new.step.meter ≡ ticked old.step.meter bytes seen) × (new.step.none ≡ old.step.none)
-    × (new.viewer ≡ between.viewer) × (new.cancelled ≡ between.cancelled)
-    × (new.told ≡ between.told) × (new.refused ≡ between.refused)
+    × Looks old k seen between × Orders between (step.Ticked seen bytes) acts new
 
 -- the viewer has looked, and may have seen more; what is done about cancels may have changed
 abbrev pub Waits : PortView → PortView → Type 0
@@ -135,11 +134,13 @@ Waits old new =
     × (new.step.meter ≡ old.step.meter) × (new.step.none ≡ old.step.none)
     × (new.told ≡ old.told) × (new.refused ≡ old.refused)
 
--- What a build is told of its command by the flag as it was read last. It has waited for a tick or
--- for that command's end. A step that has no command was cancelled.
+-- What a build is told of its command: what the machine of its steps answers, by the flag and the
+-- log as they were read last. It has waited for a tick or for that command's end. A step that has no
+-- command was cancelled.
 abbrev pub Polls : PortView → ℕ → Polled → PortView → Type 0
 Polls old k said new =
-    ((old.step.none ≡ true) × (said ≡ Ended Cancelled))
+    ((old.step.none ≡ true) × (said ≡ Ended Cancelled) × (new.step ≡ old.step))
     ⊎ ((old.step.none ≡ false)
-    × ((waited : PortView) × (seen : PortView) × Waits old waited × Sees waited k said seen
-    × (new.cancelled ≡ seen.cancelled)))
+    × ((waited : PortView) × (seen : PortView) × (acts : StepActs)
+    × Waits old waited × Sees waited k acts seen
+    × (said ≡ acts.said) × (new.step ≡ seen.step) × (new.cancelled ≡ seen.cancelled)))

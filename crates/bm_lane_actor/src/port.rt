@@ -345,7 +345,7 @@ impl<'a, Y: Yard, S: Drop, R: Wait + Clock + Drop, W: Watch + Drop> LanePort<'a,
 
     // How the command does, by what the viewer sees and by the limits of its step.
     fn see(&mut self, k: u64) -> StepActs
-        ensures { Sees self.old k result.said self.new }
+        ensures { Sees self.old k result self.new }
     {
         let seen = self.look(k);
         let bytes = self.carried();

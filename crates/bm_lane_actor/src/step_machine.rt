@@ -233,8 +233,7 @@ impl StepMachine {
             return false;
         };
         let by_cancel = outcome == Results::Cancelled;
-        self.cancels.step(CancelInput::Ended { by_cancel });
-        by_cancel
+        self.cancels.step(CancelInput::Ended { by_cancel }).uses_up
     }
 
     // Whether the step has failed without a limit.
