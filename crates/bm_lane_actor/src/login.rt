@@ -115,6 +115,7 @@ fn hand_over<S: Read + Write + Drop, R: Wait + Clock>(
     requires own { handle.now ≡ worker.place }
     requires login { IsLoggedIn S.remaining S.contents users.now worker.place worker.link }
     ensures lane { IfOk result (λ lane. lane ≡ worker.place) }
+    ensures login { IfOk result (HasLoggedIn S.remaining S.contents users.now) }
     ensures kept { OnOk result (refused.new ≡ refused.old) }
     ensures name { OnErr result (IfSome refused.new (λ name. IfSome (slice_get users.now worker.place)
         (λ u. name ≡ u.name))) }

@@ -120,6 +120,21 @@ fn longest_silence(logins: &[Arc<PendingLogin, Global>]) -> Option<usize>
     longest.place
 }
 
+/// Whether it is the connection of this number.
+fn has_number(number: u64, login: &Arc<PendingLogin, Global>) -> bool
+    ensures { result ≡ has_number number login.now }
+{
+    login.number() == number
+}
+
+/// The place of the connection of this number.
+fn place_of(logins: &[Arc<PendingLogin, Global>], number: u64) -> Option<usize>
+    ensures found { result ≡ position (has_number number) logins.now }
+    ensures bound { IfSome result (λ place. place < length logins.now) }
+{
+    logins.iter().position(|login| has_number(number, login))
+}
+
 /// The connections that have not logged in.
 #[derive(Drop)]
 struct PendingLogins {
@@ -179,11 +194,7 @@ impl PendingLogins {
         ensures { LeavesAt (position (has_number number) self.old.logins.items)
             self.old.logins.items self.old.count self.new.logins.items self.new.count }
     {
-        let Some(place) = self
-            .logins
-            .iter()
-            .position(|login| login.number() == number)
-        else {
+        let Some(place) = place_of(self.logins.as_slice(), number) else {
             return;
         };
         let login = self.logins.swap_remove(place);
