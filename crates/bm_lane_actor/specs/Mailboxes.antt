@@ -1,8 +1,10 @@
 -- What comes back of what is sent to a mailbox.
-use Rattle.std.specs.Prelude.{◌≡◌}
+use Rattle.std.specs.Prelude.{◌≡◌, ℕ}
 use Rattle.bm_link.specs.Link.{LinkState}
 use Rattle.bm_lane_actor.specs.declared.lane_request.LaneRequest.{LaneRequest}
 use Rattle.bm_lane_actor.specs.declared.lane_request.LaneRequest.TheVariants.{Attach}
+use Rattle.bm_lane_actor.specs.declared.lane_request.LaneSignal.{LaneSignal}
+use Rattle.bm_lane_actor.specs.declared.lane_request.LaneSignal.TheVariants as signal
 use Rattle.bm_lane_actor.specs.declared.mailbox.HandOver.{HandOver}
 use Rattle.bm_lane_actor.specs.declared.mailbox.HandOver.TheVariants.{Back, Left}
 
@@ -15,3 +17,9 @@ IsBack message _ = Unit {0}
 abbrev pub handed_back : {S : Type 0} → LaneRequest S → HandOver (LinkState S)
 handed_back (Attach link) = Back link
 handed_back _ = Left
+
+-- the place of a signal's flag: no two have one place
+abbrev pub place_of : LaneSignal → ℕ
+place_of signal.ShutDown = 0
+place_of signal.Ended = 1
+place_of signal.Leave = 2

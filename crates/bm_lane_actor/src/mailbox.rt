@@ -1,8 +1,8 @@
 //! The mailbox of a lane's actor: the requests that wait in it, and the signals beside them.
 
-ghost use Rattle.std.specs.Prelude.{◌≡◌, ◌==◌, false, All, IfOk, IfSome, IfNone};
+ghost use Rattle.std.specs.Prelude.{◌≡◌, ◌<◌, ◌==◌, false, All, IfOk, IfSome, IfNone};
 ghost use Rattle.bm_session.specs.Trace.{below};
-ghost use Rattle.bm_lane_actor.specs.Mailboxes.{IsBack, handed_back};
+ghost use Rattle.bm_lane_actor.specs.Mailboxes.{IsBack, handed_back, place_of};
 
 use crate::arrivals::{Arrivals, open_arrivals};
 use crate::lane_request::{LaneRequest, LaneSignal};
@@ -30,9 +30,7 @@ const ATTACH_MS: u64 = 1_000;
 /// not taken.
 #[derive(Drop)]
 struct SharedFlags {
-    shut_down: AtomicBool,
-    ended: AtomicBool,
-    leave: AtomicBool,
+    signals: [AtomicBool; 3],
     /// Set once the actor has left.
     is_shut: AtomicBool,
     /// What wakes the actor.
@@ -44,20 +42,30 @@ impl SharedFlags {
         ensures { result.waker ≡ waker }
     {
         SharedFlags {
-            shut_down: AtomicBool::new(false),
-            ended: AtomicBool::new(false),
-            leave: AtomicBool::new(false),
+            signals: [
+                AtomicBool::new(false),
+                AtomicBool::new(false),
+                AtomicBool::new(false),
+            ],
             is_shut: AtomicBool::new(false),
             waker,
         }
     }
 
     fn flag(&self, signal: LaneSignal) -> &AtomicBool {
-        match signal {
-            LaneSignal::ShutDown => &self.shut_down,
-            LaneSignal::Ended => &self.ended,
-            LaneSignal::Leave => &self.leave,
-        }
+        &self.signals[place_of(signal)]
+    }
+}
+
+/// The place of a signal's flag. Each has its own.
+fn place_of(signal: LaneSignal) -> usize
+    ensures place { result ≡ place_of signal }
+    ensures bound { result < 3 }
+{
+    match signal {
+        LaneSignal::ShutDown => 0,
+        LaneSignal::Ended => 1,
+        LaneSignal::Leave => 2,
     }
 }
 
