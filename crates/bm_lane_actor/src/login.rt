@@ -63,7 +63,8 @@ fn accept<S: Read + Write + Drop>(
     users: &[User],
     refused: &mut Option<Text>,
 ) -> Result<LoggedIn<S>, LinkFault>
-    ensures login { IfOk result (λ w. IsLoggedIn S.remaining S.contents users.now w.place w.link) }
+    ensures login { IfOk result
+        (λ w. IsLoggedIn S.remaining S.contents users.now w.place w.link) }
     ensures kept { OnOk result (refused.new ≡ refused.old) }
 {
     let mut link = match MasterLink::accept(alloc, stream) {
@@ -117,8 +118,8 @@ fn hand_over<S: Read + Write + Drop, R: Wait + Clock>(
     ensures lane { IfOk result (λ lane. lane ≡ worker.place) }
     ensures login { IfOk result (HasLoggedIn S.remaining S.contents users.now) }
     ensures kept { OnOk result (refused.new ≡ refused.old) }
-    ensures name { OnErr result (IfSome refused.new (λ name. IfSome (slice_get users.now worker.place)
-        (λ u. name ≡ u.name))) }
+    ensures name { OnErr result (IfSome refused.new (λ name.
+        IfSome (slice_get users.now worker.place) (λ u. name ≡ u.name))) }
 {
     let LoggedIn { place, link } = worker;
     let fault = match handle.attach(rt, link) {
