@@ -36,3 +36,10 @@ pub mod ReadWatch
 -- makes room for another.
 pub mod Gates
 pub mod LoginLimits
+pub mod PendingTable
+-- CallTimes: how long the calls of a worker's connection may take. StreamCalls: what they come to.
+pub mod CallTimes
+pub mod StreamCalls
+-- Arrivals: what a wait of an actor came to. Mailboxes: what comes back of what is sent there.
+pub mod Arrivals
+pub mod Mailboxes

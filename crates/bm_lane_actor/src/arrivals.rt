@@ -1,6 +1,11 @@
 //! Where a lane's actor waits: for its mailbox, and for its worker's connections. One thread that
 //! waited for all sockets and called the actors would add its own wake to the way of each line.
 
+ghost use Rattle.std.specs.Prelude.{◌≡◌, false, Bool, IfSome};
+ghost use Rattle.std.specs.List.{list_any};
+ghost use Rattle.mio.specs.Events.{items};
+ghost use Rattle.bm_lane_actor.specs.Arrivals.{comes_by, is_of_connection};
+
 use bm_latent::TICK_MS;
 use mio::unix::SourceFd;
 use mio::{Events, Interest, Poll, Token, Waker};
@@ -30,7 +35,9 @@ pub(crate) struct Arrivals {
 }
 
 /// Where an actor waits, and by what it is woken. None where descriptors or memory are wanting.
-pub(crate) fn open_arrivals<N: Net>(rt: &N, alloc: Global) -> Option<(Arrivals, Waker)> {
+pub(crate) fn open_arrivals<N: Net>(rt: &N, alloc: Global) -> Option<(Arrivals, Waker)>
+    ensures { IfSome result (λ ends. ends.0.has_come ≡ false) }
+{
     let poll = Poll::new(rt).ok()?;
     let events = Events::with_capacity(alloc, MOST_EVENTS).ok()?;
     let waker = Waker::new(poll.registry(), Token(MAILBOX)).ok()?;
@@ -42,21 +49,43 @@ pub(crate) fn open_arrivals<N: Net>(rt: &N, alloc: Global) -> Option<(Arrivals, 
     Some((arrivals, waker))
 }
 
+/// Whether one of these events is that of a connection.
+fn tells_arrival(events: &Events<Global>) -> bool
+    ensures { result ≡ list_any is_of_connection (items events.now) }
+{
+    events.iter().any(|event| event.token().0 == CONNECTION)
+}
+
+/// Whether something came on a connection, or may have: it had, or the system refused the wait, or
+/// one of its events says so.
+fn comes_by(has_come: bool, is_refused: bool, events: &Events<Global>) -> bool
+    ensures { result ≡ comes_by has_come is_refused (items events.now) }
+{
+    match (has_come, is_refused) {
+        (false, false) => tells_arrival(events),
+        _ => true,
+    }
+}
+
 impl Arrivals {
     /// Waits until it is woken, or something comes on a connection; so long at most. Where the
     /// system refuses that it pauses for a tick, and takes it that something came.
-    pub(crate) fn wait<R: Wait + Clock>(&mut self, rt: &R, most: Duration) {
-        if self.poll.poll(&mut self.events, Some(most)).is_err() {
+    pub(crate) fn wait<R: Wait + Clock>(&mut self, rt: &R, most: Duration)
+        ensures { (refused : Bool) × (self.new.has_come
+            ≡ comes_by self.old.has_come refused (items self.new.events)) }
+    {
+        let is_refused = self.poll.poll(&mut self.events, Some(most)).is_err();
+        if is_refused {
             thread::sleep(rt, Duration::from_millis(TICK_MS));
-            self.has_come = true;
         }
-        for event in self.events.iter() {
-            self.has_come = self.has_come || event.token().0 == CONNECTION;
-        }
+        self.has_come = comes_by(self.has_come, is_refused, &self.events);
     }
 
     /// Whether something came on a connection, or may have. It is told once.
-    pub(crate) fn take(&mut self) -> bool {
+    pub(crate) fn take(&mut self) -> bool
+        ensures told { result ≡ self.old.has_come }
+        ensures once { self.new.has_come ≡ false }
+    {
         let has_come = self.has_come;
         self.has_come = false;
         has_come

@@ -2,7 +2,7 @@
 
 ghost use Rattle.std.specs.Prelude.{◌≡◌, ◌+◌, ◌-◌, ◌^◌, ◌++◌, ◌∷◌, [], ◌==◌, filter, fold, min, length, nat_lt, not, ◌<◌, vec_len, vec_capacity, OnOk};
 ghost use Rattle.bm_lines.specs.Lines.{content_of};
-ghost use Rattle.bm_lane_actor.specs.ByteCount.{bytes_of, carried, name_bytes};
+ghost use Rattle.bm_lane_actor.specs.ByteCount.{bytes_of, carried, is_update, name_bytes};
 ghost use Rattle.bm_lane_actor.specs.declared.byte_count.CountedCommand.{CountedCommand};
 
 use bm_lines::{LogLines, LogName, STDIO};
@@ -109,7 +109,9 @@ impl ByteCounts {
     /// The worker said this. The answer is whether it said lines alone, by which no command ends.
     /// It adds to an atomic, of which no clause can speak; what one update carries is exact
     /// (`carried`).
-    pub fn note(&self, event: &Event) -> bool {
+    pub fn note(&self, event: &Event) -> bool
+        ensures { result ≡ is_update event.now }
+    {
         let Event::In(_, Body::Update { command, batch, .. }) = event else {
             return false;
         };

@@ -7,8 +7,8 @@
 //! Builds wait here too. Each waits until the actor has heard what may end its command, and then
 //! until the pool has drained an item. So a build that is woken sees what woke it.
 
-ghost use Rattle.std.specs.Prelude.{◌≡◌};
-ghost use Rattle.bm_lane_actor.specs.Gates.{is_whole_round, pass_of};
+ghost use Rattle.std.specs.Prelude.{◌≡◌, ◌≤◌, ◌%◌, ◌^◌, IfOk, vec_len};
+ghost use Rattle.bm_lane_actor.specs.Gates.{is_whole_round, may_have_more, pass_of};
 
 use bm_lane::{Drained, Gate, Pass};
 use bm_latent::TICK_MS;
@@ -34,13 +34,6 @@ struct LaneFlags {
     waits: AtomicU64,
 }
 
-impl LaneFlags {
-    /// Whether the queue may have an item. The worker that is told so goes for it.
-    fn claim(&self) -> bool {
-        self.full.load(Ordering::SeqCst) == 1 && self.full.swap(0, Ordering::SeqCst) == 1
-    }
-}
-
 /// What a worker knows of its round.
 #[derive(Drop)]
 struct WorkerRound {
@@ -64,7 +57,9 @@ pub struct DrainGate<R: Wait + Clock + Drop> {
 }
 
 /// What a sleep compares of a count.
-fn low(count: u64) -> u32 {
+fn low(count: u64) -> u32
+    ensures { result ≡ count % 2 ^ 32 }
+{
     (count & 0xffff_ffff) as u32
 }
 
@@ -86,6 +81,47 @@ fn is_whole_round(idle: u64, lanes: u64) -> bool
     lanes <= idle
 }
 
+/// Whether a lane may have an item after a drain that came to this. One that met want of memory
+/// took nothing.
+fn may_have_more(answer: &Result<Drained, AllocError>) -> bool
+    ensures { result ≡ may_have_more answer.now }
+{
+    match answer {
+        Ok(Drained::Empty) => false,
+        Ok(Drained::Took) | Err(_) => true,
+    }
+}
+
+/// The flags of so many lanes, of which none has anything.
+fn lane_flags(alloc: Global, count: usize) -> Result<Vec<LaneFlags>, AllocError>
+    ensures { IfOk result (λ lanes. vec_len lanes ≡ count) }
+{
+    let mut lanes = Vec::new(alloc);
+    while lanes.len() < count {
+        lanes.push(LaneFlags {
+            full: AtomicU64::new(0),
+            took: AtomicU64::new(0),
+            calls: AtomicU64::new(0),
+            waits: AtomicU64::new(0),
+        })?;
+    }
+    Ok(lanes)
+}
+
+/// The rounds of so many workers, which have yet to begin.
+fn worker_rounds(alloc: Global, count: usize) -> Result<Vec<WorkerRound>, AllocError>
+    ensures { IfOk result (λ rounds. vec_len rounds ≡ count) }
+{
+    let mut rounds = Vec::new(alloc);
+    while rounds.len() < count {
+        rounds.push(WorkerRound {
+            wakes: AtomicU64::new(0),
+            idle: AtomicU64::new(0),
+        })?;
+    }
+    Ok(rounds)
+}
+
 impl<R: Wait + Clock + Drop> DrainGate<R> {
     /// A gate for so many lanes and so many workers of the pool.
     pub fn new(
@@ -93,23 +129,12 @@ impl<R: Wait + Clock + Drop> DrainGate<R> {
         alloc: Global,
         lane_count: usize,
         workers: usize,
-    ) -> Result<DrainGate<R>, AllocError> {
-        let mut lanes = Vec::new(alloc);
-        for _ in 0..lane_count {
-            lanes.push(LaneFlags {
-                full: AtomicU64::new(0),
-                took: AtomicU64::new(0),
-                calls: AtomicU64::new(0),
-                waits: AtomicU64::new(0),
-            })?;
-        }
-        let mut rounds = Vec::new(alloc);
-        for _ in 0..workers {
-            rounds.push(WorkerRound {
-                wakes: AtomicU64::new(0),
-                idle: AtomicU64::new(0),
-            })?;
-        }
+    ) -> Result<DrainGate<R>, AllocError>
+        ensures lanes { IfOk result (λ gate. vec_len gate.lanes ≡ lane_count) }
+        ensures workers { IfOk result (λ gate. vec_len gate.rounds ≡ workers) }
+    {
+        let lanes = lane_flags(alloc, lane_count)?;
+        let rounds = worker_rounds(alloc, workers)?;
         Ok(DrainGate {
             rt,
             lanes,
@@ -152,7 +177,9 @@ impl<R: Wait + Clock + Drop> DrainGate<R> {
     }
 
     /// How often the lane's builds were called.
-    pub(crate) fn calls(&self, lane: usize) -> u64 {
+    pub(crate) fn calls(&self, lane: usize) -> u64
+        ensures { vec_len self.now.lanes ≤ lane → result ≡ 0 }
+    {
         match self.lanes.get(lane) {
             Some(flags) => flags.calls.load(Ordering::SeqCst),
             None => 0,
@@ -174,7 +201,9 @@ impl<R: Wait + Clock + Drop> DrainGate<R> {
     }
 
     /// A count that grows with each item that is taken from the lane's queue, once it is shown.
-    pub(crate) fn took(&self, lane: usize) -> u64 {
+    pub(crate) fn took(&self, lane: usize) -> u64
+        ensures { vec_len self.now.lanes ≤ lane → result ≡ 0 }
+    {
         match self.lanes.get(lane) {
             Some(flags) => flags.took.load(Ordering::SeqCst),
             None => 0,
@@ -216,11 +245,18 @@ impl<R: Wait + Clock + Drop> DrainGate<R> {
 }
 
 impl<R: Wait + Clock + Drop> Gate for DrainGate<R> {
-    fn pass(&self, worker: usize, lane: usize) -> Pass {
+    fn pass(&self, worker: usize, lane: usize) -> Pass
+        ensures lane { vec_len self.now.lanes ≤ lane → result ≡ Pass.Stop }
+        ensures worker { vec_len self.now.rounds ≤ worker → result ≡ Pass.Stop }
+    {
         let (Some(flags), Some(round)) = (self.lanes.get(lane), self.rounds.get(worker)) else {
             return Pass::Stop;
         };
-        let pass = pass_of(self.stopped.load(Ordering::SeqCst), flags.claim());
+        let is_stopped = self.stopped.load(Ordering::SeqCst);
+        // The one worker that takes the flag back goes for the lane.
+        let full = &flags.full;
+        let is_claimed = full.load(Ordering::SeqCst) == 1 && full.swap(0, Ordering::SeqCst) == 1;
+        let pass = pass_of(is_stopped, is_claimed);
         match pass {
             Pass::Go => self.begin(round),
             Pass::Skip => self.rest(round),
@@ -233,18 +269,16 @@ impl<R: Wait + Clock + Drop> Gate for DrainGate<R> {
         let Some(flags) = self.lanes.get(lane) else {
             return;
         };
-        match answer {
-            Ok(Drained::Took) => {
-                flags.full.store(1, Ordering::SeqCst);
-                flags.took.fetch_add(1, Ordering::SeqCst);
-                if flags.waits.load(Ordering::SeqCst) > 0 {
-                    flags.took.wake_all();
-                }
-            }
-            Ok(Drained::Empty) => {}
-            Err(_) => {
-                thread::sleep(&self.rt, Duration::from_millis(TICK_MS));
-                flags.full.store(1, Ordering::SeqCst);
+        if answer.is_err() {
+            thread::sleep(&self.rt, Duration::from_millis(TICK_MS));
+        }
+        if may_have_more(&answer) {
+            flags.full.store(1, Ordering::SeqCst);
+        }
+        if let Ok(Drained::Took) = answer {
+            flags.took.fetch_add(1, Ordering::SeqCst);
+            if flags.waits.load(Ordering::SeqCst) > 0 {
+                flags.took.wake_all();
             }
         }
     }

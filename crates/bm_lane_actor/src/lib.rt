@@ -23,6 +23,7 @@
 
 mod arrivals;
 mod byte_count;
+mod call_times;
 mod cancel_policy;
 mod connection_state;
 mod drain_gate;
@@ -57,9 +58,11 @@ mod step_machine;
 mod step_meter;
 mod stop_orders;
 mod stream;
+mod stream_calls;
 mod watch;
 
 pub use byte_count::{ByteCount, ByteCounts};
+pub use call_times::LOGIN_MS;
 pub use cancel_policy::CancelActs;
 pub use connection_state::ConnectionState;
 pub use drain_gate::DrainGate;
@@ -94,5 +97,5 @@ pub use step_laws::{
 };
 pub use step_machine::{StepActs, StepInput, StepMachine};
 pub use stop_orders::StopOrders;
-pub use stream::{LOGIN_MS, WorkerStream};
+pub use stream::WorkerStream;
 pub use watch::Watch;

@@ -1,8 +1,8 @@
 //! The login of a new connection: its handshake, and the hand-over to its lane.
 
-ghost use Rattle.std.specs.Prelude.{◌≡◌, IfOk, IfSome, slice_get};
+ghost use Rattle.std.specs.Prelude.{◌≡◌, ◌≤◌, length, IfOk, IfSome, OnErr, OnOk, slice_get};
 ghost use Rattle.bm_link.specs.Logins.{LogsInAt};
-ghost use Rattle.bm_lane_actor.specs.Login.{IsLoggedIn};
+ghost use Rattle.bm_lane_actor.specs.Login.{HasLoggedIn, IsLoggedIn, IsPutOff};
 
 use crate::mailbox::{HandOver, LaneHandle, handle_of};
 use crate::placing::put;
@@ -31,7 +31,10 @@ struct LoggedIn<S> {
 
 /// The name of the login that the link refused as one of no user, where it is short enough to be
 /// told.
-fn stranger<S: Read + Write + Drop>(alloc: Global, link: &MasterLink<S>) -> Option<Text> {
+fn stranger<S: Read + Write + Drop>(alloc: Global, link: &MasterLink<S>) -> Option<Text>
+    ensures refused { IfSome result (λ name. link.now.refused ≡ Some name) }
+    ensures short { IfSome result (λ name. length name ≤ 256) }
+{
     match link.refused() {
         Some(name) if name.len() <= MOST_NAME => Text::from_str(alloc, name).ok(),
         _ => None,
@@ -60,7 +63,9 @@ fn accept<S: Read + Write + Drop>(
     users: &[User],
     refused: &mut Option<Text>,
 ) -> Result<LoggedIn<S>, LinkFault>
-    ensures { IfOk result (λ w. IsLoggedIn S.remaining S.contents users.now w.place w.link) }
+    ensures login { IfOk result
+        (λ w. IsLoggedIn S.remaining S.contents users.now w.place w.link) }
+    ensures kept { OnOk result (refused.new ≡ refused.old) }
 {
     let mut link = match MasterLink::accept(alloc, stream) {
         Ok(link) => link,
@@ -84,7 +89,9 @@ fn name_of(users: &[User], place: usize) -> Option<Text>
 }
 
 /// Tells a worker `busy`, and lets its link go.
-fn put_off<S: Read + Write + Drop>(alloc: Global, link: MasterLink<S>) -> LinkFault {
+fn put_off<S: Read + Write + Drop>(alloc: Global, link: MasterLink<S>) -> LinkFault
+    ensures { IsPutOff S.contents link result }
+{
     let mut link = link;
     let fault = link.put_off(alloc);
     drop(link);
@@ -108,7 +115,11 @@ fn hand_over<S: Read + Write + Drop, R: Wait + Clock>(
 ) -> Result<usize, LinkFault>
     requires own { handle.now ≡ worker.place }
     requires login { IsLoggedIn S.remaining S.contents users.now worker.place worker.link }
-    ensures { IfOk result (λ lane. lane ≡ worker.place) }
+    ensures lane { IfOk result (λ lane. lane ≡ worker.place) }
+    ensures login { IfOk result (HasLoggedIn S.remaining S.contents users.now) }
+    ensures kept { OnOk result (refused.new ≡ refused.old) }
+    ensures name { OnErr result (IfSome refused.new (λ name.
+        IfSome (slice_get users.now worker.place) (λ u. name ≡ u.name))) }
 {
     let LoggedIn { place, link } = worker;
     let fault = match handle.attach(rt, link) {
@@ -141,6 +152,9 @@ pub fn log_in<R>(
 ) -> Result<usize, LinkFault>
 where
     R: Wait + Clock + Drop,
+    ensures login { IfOk result (HasLoggedIn ⟦<WorkerStream<R> as Read>⟧.remaining
+        ⟦<WorkerStream<R> as Write>⟧.contents users.now) }
+    ensures kept { OnOk result (refused.new ≡ refused.old) }
 {
     if stream.bound_calls().is_err() {
         drop(stream);

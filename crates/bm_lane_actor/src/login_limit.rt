@@ -1,7 +1,8 @@
 //! How many connections may wait for their login at once, and which of them makes room for another.
 
-ghost use Rattle.std.specs.Prelude.{◌≡◌};
+ghost use Rattle.std.specs.Prelude.{◌≡◌, ◌≢◌, ◌<◌, ◌⊎◌, ◌++◌, ◌∷◌, [], length, IfErr, IfSome, OnOk, OnErr, position};
 ghost use Rattle.bm_lane_actor.specs.LoginLimits.{entered, entry_of, left, longer};
+ghost use Rattle.bm_lane_actor.specs.PendingTable.{LeavesAt, has_number};
 
 use crate::pending_login::PendingLogin;
 use bm_operator::LoginRefusal;
@@ -103,6 +104,37 @@ impl LongestSilence {
     }
 }
 
+/// The place of the connection that has been silent longest, of those that were not put out.
+fn longest_silence(logins: &[Arc<PendingLogin, Global>]) -> Option<usize>
+    ensures { IfSome result (λ place. place < length logins.now) }
+{
+    let mut longest = LongestSilence {
+        place: None,
+        heard: 0,
+    };
+    for (place, login) in logins.iter().enumerate() {
+        if !login.is_put_out() {
+            longest.look(place, login.heard());
+        }
+    }
+    longest.place
+}
+
+/// Whether it is the connection of this number.
+fn has_number(number: u64, login: &Arc<PendingLogin, Global>) -> bool
+    ensures { result ≡ has_number number login.now }
+{
+    login.number() == number
+}
+
+/// The place of the connection of this number.
+fn place_of(logins: &[Arc<PendingLogin, Global>], number: u64) -> Option<usize>
+    ensures found { result ≡ position (has_number number) logins.now }
+    ensures bound { IfSome result (λ place. place < length logins.now) }
+{
+    logins.iter().position(|login| has_number(number, login))
+}
+
 /// The connections that have not logged in.
 #[derive(Drop)]
 struct PendingLogins {
@@ -111,8 +143,31 @@ struct PendingLogins {
 }
 
 impl PendingLogins {
+    /// Nobody has connected.
+    fn new(alloc: Global) -> PendingLogins
+        ensures nobody { result.logins.items ≡ [] }
+        ensures count { result.count ≡ record { inside = 0; leaving = 0 } }
+    {
+        PendingLogins {
+            count: LoginCount {
+                inside: 0,
+                leaving: 0,
+            },
+            logins: Vec::new(alloc),
+        }
+    }
+
     /// A connection comes in, or is told why not.
-    fn enter(&mut self, login: Arc<PendingLogin, Global>) -> Result<(), LoginRefusal> {
+    fn enter(&mut self, login: Arc<PendingLogin, Global>) -> Result<(), LoginRefusal>
+        ensures logins { OnOk result (self.new.logins.items
+            ≡ self.old.logins.items ++ login ∷ []) }
+        ensures count { OnOk result (self.new.count ≡ entered self.old.count) }
+        ensures place { OnOk result (entry_of self.old.count ≢ LoginEntry.Crowded) }
+        ensures kept { OnErr result (self.new.logins.items ≡ self.old.logins.items) }
+        ensures uncounted { OnErr result (self.new.count ≡ self.old.count) }
+        ensures why { IfErr result (λ why. (why ≡ LoginRefusal.Memory)
+            ⊎ ((why ≡ LoginRefusal.Crowded) × (entry_of self.old.count ≡ LoginEntry.Crowded))) }
+    {
         if self.logins.reserve(1).is_err() {
             return Err(LoginRefusal::Memory);
         }
@@ -121,24 +176,13 @@ impl PendingLogins {
             LoginEntry::InPlace => self.put_out(),
             LoginEntry::Room => {}
         }
-        if self.logins.push(login).is_err() {
-            return Err(LoginRefusal::Memory);
-        }
+        self.logins.push_reserved(login);
         Ok(())
     }
 
     /// Puts out the connection that has been silent longest.
-    fn put_out(&mut self) {
-        let mut longest = LongestSilence {
-            place: None,
-            heard: 0,
-        };
-        for (place, login) in self.logins.iter().enumerate() {
-            if !login.is_put_out() {
-                longest.look(place, login.heard());
-            }
-        }
-        if let Some(place) = longest.place {
+    fn put_out(&self) {
+        if let Some(place) = longest_silence(self.logins.as_slice()) {
             if let Some(login) = self.logins.get(place) {
                 login.put_out();
             }
@@ -146,12 +190,11 @@ impl PendingLogins {
     }
 
     /// The connection of this number has logged in or ended.
-    fn leave(&mut self, number: u64) {
-        let Some(place) = self
-            .logins
-            .iter()
-            .position(|login| login.number() == number)
-        else {
+    fn leave(&mut self, number: u64)
+        ensures { LeavesAt (position (has_number number) self.old.logins.items)
+            self.old.logins.items self.old.count self.new.logins.items self.new.count }
+    {
+        let Some(place) = place_of(self.logins.as_slice(), number) else {
             return;
         };
         let login = self.logins.swap_remove(place);
@@ -175,13 +218,7 @@ impl LoginLimit {
     /// Want of memory.
     pub fn new(alloc: Global) -> Result<LoginLimit, AllocError> {
         Ok(LoginLimit {
-            pending: Mutex::new(PendingLogins {
-                count: LoginCount {
-                    inside: 0,
-                    leaving: 0,
-                },
-                logins: Vec::new(alloc),
-            }),
+            pending: Mutex::new(PendingLogins::new(alloc)),
             said: Arc::new(alloc, AtomicU64::new(0))?,
         })
     }
@@ -197,7 +234,10 @@ impl LoginLimit {
         &self,
         rt: &R,
         alloc: Global,
-    ) -> Result<Arc<PendingLogin, Global>, LoginRefusal> {
+    ) -> Result<Arc<PendingLogin, Global>, LoginRefusal>
+        ensures { IfErr result (λ why. (why ≡ LoginRefusal.Memory)
+            ⊎ (why ≡ LoginRefusal.Crowded)) }
+    {
         let login = PendingLogin::new(alloc, &self.said);
         let Ok(login) = login else {
             return Err(LoginRefusal::Memory);

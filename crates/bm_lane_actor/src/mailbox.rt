@@ -1,7 +1,8 @@
 //! The mailbox of a lane's actor: the requests that wait in it, and the signals beside them.
 
-ghost use Rattle.std.specs.Prelude.{◌≡◌, ◌==◌, false, All, IfOk, IfSome, IfNone};
+ghost use Rattle.std.specs.Prelude.{◌≡◌, ◌<◌, ◌==◌, false, All, IfOk, IfSome, IfNone};
 ghost use Rattle.bm_session.specs.Trace.{below};
+ghost use Rattle.bm_lane_actor.specs.Mailboxes.{IsBack, handed_back, place_of};
 
 use crate::arrivals::{Arrivals, open_arrivals};
 use crate::lane_request::{LaneRequest, LaneSignal};
@@ -29,9 +30,7 @@ const ATTACH_MS: u64 = 1_000;
 /// not taken.
 #[derive(Drop)]
 struct SharedFlags {
-    shut_down: AtomicBool,
-    ended: AtomicBool,
-    leave: AtomicBool,
+    signals: [AtomicBool; 3],
     /// Set once the actor has left.
     is_shut: AtomicBool,
     /// What wakes the actor.
@@ -39,22 +38,34 @@ struct SharedFlags {
 }
 
 impl SharedFlags {
-    fn new(waker: Waker) -> SharedFlags {
+    fn new(waker: Waker) -> SharedFlags
+        ensures { result.waker ≡ waker }
+    {
         SharedFlags {
-            shut_down: AtomicBool::new(false),
-            ended: AtomicBool::new(false),
-            leave: AtomicBool::new(false),
+            signals: [
+                AtomicBool::new(false),
+                AtomicBool::new(false),
+                AtomicBool::new(false),
+            ],
             is_shut: AtomicBool::new(false),
             waker,
         }
     }
 
     fn flag(&self, signal: LaneSignal) -> &AtomicBool {
-        match signal {
-            LaneSignal::ShutDown => &self.shut_down,
-            LaneSignal::Ended => &self.ended,
-            LaneSignal::Leave => &self.leave,
-        }
+        &self.signals[place_of(signal)]
+    }
+}
+
+/// The place of a signal's flag. Each has its own.
+fn place_of(signal: LaneSignal) -> usize
+    ensures place { result ≡ place_of signal }
+    ensures bound { result < 3 }
+{
+    match signal {
+        LaneSignal::ShutDown => 0,
+        LaneSignal::Ended => 1,
+        LaneSignal::Leave => 2,
     }
 }
 
@@ -80,7 +91,9 @@ fn send_within<T: Drop, R: Wait + Clock>(
     sender: &Sender<T, Global>,
     message: T,
     most: Duration,
-) -> HandOver<T> {
+) -> HandOver<T>
+    ensures { IsBack message result }
+{
     match sender.send_timeout(rt, message, most) {
         Ok(()) => HandOver::Taken,
         Err(SendTimeoutError::Timeout(message)) => HandOver::Back(message),
@@ -89,7 +102,9 @@ fn send_within<T: Drop, R: Wait + Clock>(
 }
 
 /// What became of a link whose request has come back.
-fn handed_back<S: Drop>(request: LaneRequest<S>) -> HandOver<MasterLink<S>> {
+fn handed_back<S: Drop>(request: LaneRequest<S>) -> HandOver<MasterLink<S>>
+    ensures { result ≡ handed_back request }
+{
     match request {
         LaneRequest::Attach(link) => HandOver::Back(link),
         _ => HandOver::Left,
@@ -236,7 +251,9 @@ impl<S: Drop> LaneHandle<S> {
         &self,
         rt: &R,
         link: MasterLink<S>,
-    ) -> HandOver<MasterLink<S>> {
+    ) -> HandOver<MasterLink<S>>
+        ensures { IsBack link result }
+    {
         if self.is_shut() {
             drop(link);
             return HandOver::Left;
@@ -319,13 +336,17 @@ impl<S: Drop> Mailbox<S> {
     }
 
     /// Whether something came on a connection of the lane's worker, or may have. It is told once.
-    pub(crate) fn has_arrival(&mut self) -> bool {
+    pub(crate) fn has_arrival(&mut self) -> bool
+        ensures lane { self.new ≡ self.old }
+    {
         self.arrivals.take()
     }
 
     /// The next request, if there is one within this time. The wait ends early where a signal is
     /// given, or something comes on a connection.
-    pub(crate) fn wait_for<R: Wait + Clock>(&mut self, rt: &R, most: Duration) -> NextRequest<S> {
+    pub(crate) fn wait_for<R: Wait + Clock>(&mut self, rt: &R, most: Duration) -> NextRequest<S>
+        ensures lane { self.new ≡ self.old }
+    {
         match self.look(rt) {
             NextRequest::Nothing => {}
             next => return next,

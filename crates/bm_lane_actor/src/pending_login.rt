@@ -31,13 +31,19 @@ impl PendingLogin {
     ) -> Result<Arc<PendingLogin, Global>, AllocError> {
         let said = Arc::try_clone(said)?;
         let number = said.fetch_add(1, Ordering::SeqCst);
-        let login = PendingLogin {
+        Ok(Arc::new(alloc, PendingLogin::numbered(number, said))?)
+    }
+
+    /// The one of this number, which has a place.
+    fn numbered(number: u64, said: Arc<AtomicU64, Global>) -> PendingLogin
+        ensures { result.number ≡ number }
+    {
+        PendingLogin {
             number,
             heard: AtomicU64::new(number),
             is_put_out: AtomicBool::new(false),
             said,
-        };
-        Ok(Arc::new(alloc, login)?)
+        }
     }
 
     /// The number of its coming: no other one has it.

@@ -1,35 +1,31 @@
 //! A worker's connection, whose calls all end in time.
 
-ghost use Rattle.std.specs.Io.{WritesAtMost};
+ghost use Rattle.std.specs.Prelude.{◌≡◌, None, false, IfErr};
+ghost use Rattle.std.specs.Bool.{OnFalse, OnTrue};
+ghost use Rattle.std.specs.Io.{ReadsAtMost, WritesAtMost};
+ghost use Rattle.std.specs.IoError.{error_kind};
+ghost use Rattle.bm_lane_actor.specs.ReadWatch.{is_drained};
+ghost use Rattle.bm_lane_actor.specs.StreamCalls.{ReadsBy, is_made, is_unmade};
 
+use crate::call_times::{CallTimes, WRITE_MS};
 use crate::pending_login::PendingLogin;
 use crate::read_watch::{LastRead, is_drained};
+use crate::stream_calls::{
+    StreamFlags, aborted, ends_peek, is_ended, is_unmade, meets_nothing, reads_again, timed_out,
+};
 use std::alloc::Global;
-use std::io::{ErrorKind, Read, Write};
+use std::io::{Read, Write};
 use std::net::{SocketAddr, TcpStream};
 use std::sync::atomic::{AtomicBool, AtomicU64, Ordering};
 use std::sync::{Arc, Wait};
 use std::time::{Clock, Duration, Instant};
 use std::{io, thread};
 
-/// How long a login may take, in milliseconds.
-pub const LOGIN_MS: u64 = 10_000;
-
 /// How long a read of a login waits before it looks whether the master ends, in milliseconds.
 const READ_MS: u64 = 20;
 
 /// How long a write pauses where the socket has no room, in milliseconds.
 const ROOM_MS: u64 = 1;
-
-/// How long a turn may read, in milliseconds, whatever comes: the reads since the last that met
-/// nothing, or since the last write. A bound in the link would need a clock there.
-const TURN_MS: u64 = 50;
-
-/// How long the writes between two reads may take together, in milliseconds.
-const WRITE_MS: u64 = 5_000;
-
-/// How long they may take once the master ends, in milliseconds.
-const LAST_WRITE_MS: u64 = 100;
 
 /// How many reads in a row may meet nothing before a read fails.
 const MOST_READS: u32 = 1_000_000;
@@ -53,8 +49,6 @@ pub struct WorkerStream<R> {
     rt: R,
     /// Where it came from.
     from: SocketAddr,
-    /// When the time for its login is over. Where the clock failed it is over at once.
-    login_ends: Option<Instant>,
     /// Whether its place was given to another one before it logged in.
     pending: Arc<PendingLogin, Global>,
     is_logged_in: AtomicBool,
@@ -65,20 +59,7 @@ pub struct WorkerStream<R> {
     last_read: LastRead,
     /// Set once the master ends.
     is_over: Arc<AtomicBool, Global>,
-    /// When the turn's first read was made.
-    turn_began: Option<Instant>,
-    /// How long its writes have taken since its last read.
-    spent: Duration,
-}
-
-// The error of a stream for which nobody waits.
-fn aborted() -> io::Error {
-    io::Error::from(ErrorKind::ConnectionAborted)
-}
-
-// Whether a call that failed so met nothing: no bytes, or no room for them.
-fn meets_nothing(kind: ErrorKind) -> bool {
-    matches!(kind, ErrorKind::WouldBlock | ErrorKind::TimedOut)
+    times: CallTimes,
 }
 
 impl<R: Clock> WorkerStream<R> {
@@ -90,29 +71,32 @@ impl<R: Clock> WorkerStream<R> {
         from: SocketAddr,
         is_over: Arc<AtomicBool, Global>,
         pending: Arc<PendingLogin, Global>,
-    ) -> WorkerStream<R> {
-        let login_ends = match Instant::now(&rt) {
-            Ok(now) => now.checked_add(Duration::from_millis(LOGIN_MS)),
-            Err(_) => None,
-        };
+    ) -> WorkerStream<R>
+        ensures stream { result.stream ≡ stream }
+        ensures from { result.from ≡ from }
+        ensures unread { result.last_read ≡ LastRead.NotMade }
+        ensures turn { result.times.turn_began ≡ None }
+        ensures writes { result.times.spent ≡ 0 }
+    {
+        let times = CallTimes::new(Instant::now(&rt).ok());
         WorkerStream {
             stream,
             rt,
             from,
-            login_ends,
             pending,
             is_logged_in: AtomicBool::new(false),
             heard: AtomicU64::new(0),
             is_given_up: AtomicBool::new(false),
             last_read: LastRead::NotMade,
             is_over,
-            turn_began: None,
-            spent: Duration::from_secs(0),
+            times,
         }
     }
 
     /// Where it came from.
-    pub(crate) fn from(&self) -> SocketAddr {
+    pub(crate) fn from(&self) -> SocketAddr
+        ensures { result ≡ self.now.from }
+    {
         self.from
     }
 
@@ -125,7 +109,9 @@ impl<R: Clock> WorkerStream<R> {
     }
 
     /// What an actor waits at.
-    pub(crate) fn connection(&self) -> &TcpStream {
+    pub(crate) fn connection(&self) -> &TcpStream
+        ensures { result.now ≡ self.now.stream }
+    {
         &self.stream
     }
 
@@ -136,7 +122,9 @@ impl<R: Clock> WorkerStream<R> {
 
     /// Whether the connection had nothing more by its last read. Else there may be more, of which
     /// nobody is told.
-    pub(crate) fn is_drained(&self) -> bool {
+    pub(crate) fn is_drained(&self) -> bool
+        ensures { result ≡ is_drained self.now.last_read }
+    {
         is_drained(self.last_read)
     }
 
@@ -144,10 +132,7 @@ impl<R: Clock> WorkerStream<R> {
     /// read. One that has logged in is not waited for.
     pub(crate) fn has_left(&self) -> bool {
         let mut byte = [0u8; 1];
-        match self.stream.peek(&mut byte) {
-            Ok(count) => count == 0,
-            Err(error) => error.kind() != ErrorKind::Interrupted && !meets_nothing(error.kind()),
-        }
+        ends_peek(&self.stream.peek(&mut byte))
     }
 
     /// The worker is taken for dead.
@@ -155,83 +140,47 @@ impl<R: Clock> WorkerStream<R> {
         self.is_given_up.store(true, Ordering::SeqCst);
     }
 
-    fn is_logged_in(&self) -> bool {
-        self.is_logged_in.load(Ordering::SeqCst)
-    }
-
-    fn is_over(&self) -> bool {
-        self.is_over.load(Ordering::SeqCst)
-    }
-
-    /// Whether a login isn't waited for any more: the master ends, or another connection has its
-    /// place.
-    fn is_put_off(&self) -> bool {
-        !self.is_logged_in() && (self.is_over() || self.pending.is_put_out())
-    }
-
-    /// Whether nothing is read any more. A worker that has logged in may still be told that the
-    /// master ends.
-    fn is_ended(&self) -> bool {
-        self.is_given_up.load(Ordering::SeqCst) || self.is_put_off()
-    }
-
-    /// Something came.
-    fn has_heard(&self) {
-        self.heard.fetch_add(1, Ordering::SeqCst);
-        if !self.is_logged_in() {
-            self.pending.told();
+    /// What its flags say now.
+    fn flags(&self) -> StreamFlags {
+        StreamFlags {
+            is_given_up: self.is_given_up.load(Ordering::SeqCst),
+            is_logged_in: self.is_logged_in.load(Ordering::SeqCst),
+            is_over: self.is_over.load(Ordering::SeqCst),
+            is_put_out: self.pending.is_put_out(),
         }
     }
 
-    /// Whether so much time has passed since then. Where the clock fails it has.
-    fn has_passed(&self, began: &Instant, most: Duration) -> bool {
-        match began.elapsed(&self.rt) {
-            Ok(passed) => passed >= most,
-            Err(_) => true,
-        }
-    }
-
-    /// Whether it hasn't logged in, and its time is over.
-    fn is_late(&self) -> bool {
-        match (Instant::now(&self.rt), &self.login_ends) {
-            (Ok(now), Some(until)) => now >= *until,
-            _ => true,
-        }
-    }
-
-    /// Whether the turn has read for as long as it may. Its first read begins it.
-    fn is_turn_over(&mut self) -> bool {
-        match &self.turn_began {
-            Some(began) => self.has_passed(began, Duration::from_millis(TURN_MS)),
-            None => {
-                self.turn_began = Instant::now(&self.rt).ok();
-                false
+    /// A read came to this. The answer is whether that is told: else it is made again. By one that
+    /// met nothing the turn ends.
+    fn note_read(&mut self, answer: &io::Result<usize>, is_logged_in: bool) -> bool
+        ensures made { result ≡ is_made is_logged_in answer.now }
+        ensures told { OnTrue result
+            (ReadsBy answer.now self.new.last_read self.new.times.turn_began) }
+        ensures again { OnFalse result (self.new.last_read ≡ self.old.last_read) }
+        ensures writes { self.new.times.spent ≡ self.old.times.spent }
+        ensures login { self.new.times.login_ends ≡ self.old.times.login_ends }
+    {
+        match answer {
+            Ok(_) => {
+                self.has_heard(is_logged_in);
+                self.last_read = LastRead::Gave;
+                true
+            }
+            Err(error) if reads_again(error.kind(), is_logged_in) => false,
+            Err(_) => {
+                self.times.end_turn();
+                self.last_read = LastRead::MetNothing;
+                true
             }
         }
     }
 
-    /// Whether a read is made no more, since its time is over.
-    fn is_read_over(&mut self) -> bool {
-        if self.is_logged_in() {
-            self.is_turn_over()
-        } else {
-            self.is_late()
+    /// Something came.
+    fn has_heard(&self, is_logged_in: bool) {
+        self.heard.fetch_add(1, Ordering::SeqCst);
+        if !is_logged_in {
+            self.pending.told();
         }
-    }
-
-    /// Whether a read that failed so is made again. A read that may time out is interrupted by any
-    /// signal, also one that is ignored, as that of a child's end.
-    fn reads_again(&self, kind: ErrorKind) -> bool {
-        kind == ErrorKind::Interrupted || meets_nothing(kind) && !self.is_logged_in()
-    }
-
-    /// How long the writes between two reads may take.
-    fn write_time(&self) -> Duration {
-        Duration::from_millis(if self.is_over() {
-            LAST_WRITE_MS
-        } else {
-            WRITE_MS
-        })
     }
 
     /// Bounds what one call of a login waits for, and has a short write leave at once.
@@ -248,74 +197,77 @@ impl<R: Wait + Clock> WorkerStream<R> {
     /// Writes, and counts how long it took. Where there is no room it pauses for a moment. Where
     /// the clock fails no time is left.
     fn write_once(&mut self, buf: &[u8]) -> io::Result<usize>
-        ensures { WritesAtMost result buf.now }
+        ensures bound { WritesAtMost result buf.now }
+        ensures last { self.new.last_read ≡ self.old.last_read }
+        ensures turn { self.new.times.turn_began ≡ self.old.times.turn_began }
+        ensures login { self.new.times.login_ends ≡ self.old.times.login_ends }
     {
-        let began = Instant::now(&self.rt);
+        let began = Instant::now(&self.rt).ok();
         let answer = self.stream.write(buf);
         if let Err(error) = &answer {
             if meets_nothing(error.kind()) {
                 thread::sleep(&self.rt, Duration::from_millis(ROOM_MS));
             }
         }
-        let took = match began {
-            Ok(began) => began.elapsed(&self.rt),
-            Err(error) => Err(error),
-        };
-        self.spent = match took {
-            Ok(took) => self.spent.saturating_add(took),
-            Err(_) => Duration::from_millis(WRITE_MS),
-        };
+        self.times.wrote(began, Instant::now(&self.rt).ok());
         answer
     }
 }
 
 impl<R: Clock> Read for WorkerStream<R> {
-    fn read(&mut self, buf: &mut [u8]) -> io::Result<usize> {
-        self.spent = Duration::from_secs(0);
+    fn read(&mut self, buf: &mut [u8]) -> io::Result<usize>
+        ensures bound { ReadsAtMost result buf.new }
+        ensures told { ReadsBy result self.new.last_read self.new.times.turn_began }
+        ensures writes { self.new.times.spent ≡ 0 }
+        ensures login { self.new.times.login_ends ≡ self.old.times.login_ends }
+    {
+        self.times.begin_read();
         self.last_read = LastRead::NotMade;
         for _ in 0..MOST_READS {
-            if self.is_ended() {
+            let flags = self.flags();
+            if is_ended(flags) {
                 return Err(aborted());
             }
-            if self.is_read_over() {
+            let now = Instant::now(&self.rt).ok();
+            if self.times.is_read_over(flags.is_logged_in, now) {
                 break;
             }
-            match self.stream.read(buf) {
-                Ok(count) => {
-                    self.has_heard();
-                    self.last_read = LastRead::Gave;
-                    return Ok(count);
-                }
-                Err(error) if self.reads_again(error.kind()) => {}
-                Err(error) => {
-                    self.turn_began = None;
-                    self.last_read = LastRead::MetNothing;
-                    return Err(error);
-                }
+            let answer = self.stream.read(buf);
+            if self.note_read(&answer, flags.is_logged_in) {
+                return answer;
             }
         }
-        self.turn_began = None;
-        Err(io::Error::from(ErrorKind::TimedOut))
+        self.times.end_turn();
+        Err(timed_out())
     }
 }
 
 impl<R: Wait + Clock> Write for WorkerStream<R> {
-    fn write(&mut self, buf: &[u8]) -> io::Result<usize> {
-        self.turn_began = None;
+    fn write(&mut self, buf: &[u8]) -> io::Result<usize>
+        ensures bound { WritesAtMost result buf.now }
+        ensures made { IfErr result (λ e. is_unmade (error_kind e) ≡ false) }
+        ensures last { self.new.last_read ≡ self.old.last_read }
+        ensures turn { self.new.times.turn_began ≡ None }
+        ensures login { self.new.times.login_ends ≡ self.old.times.login_ends }
+    {
+        self.times.end_turn();
         for _ in 0..MOST_WRITES {
-            if self.is_given_up.load(Ordering::SeqCst) || self.spent >= self.write_time() {
+            let flags = self.flags();
+            if flags.is_given_up || self.times.is_spent(flags.is_over) {
                 break;
             }
             match self.write_once(buf) {
-                Err(error)
-                    if error.kind() == ErrorKind::Interrupted || meets_nothing(error.kind()) => {}
+                Err(error) if is_unmade(error.kind()) => {}
                 answer => return answer,
             }
         }
         Err(aborted())
     }
 
-    fn flush(&mut self) -> io::Result<()> {
+    fn flush(&mut self) -> io::Result<()>
+        ensures last { self.new.last_read ≡ self.old.last_read }
+        ensures times { self.new.times ≡ self.old.times }
+    {
         self.stream.flush()
     }
 }
