@@ -1,7 +1,8 @@
 """Edits of the crates' files, in the form of the toolchain's, and copies to apply them to.
 
 An edit has lines `file: PATH`, `old: TEXT` and `new: TEXT`: each old text stands there once, and is
-replaced by the new one behind it. Other lines `KEY: TEXT` say what the edit is for.
+replaced by the new one behind it. Other lines `KEY: TEXT` say what the edit is for. A text is one
+line, so an edit with another line, or with a text that stays as it is, is no edit.
 """
 
 import os
@@ -10,6 +11,7 @@ import shutil
 
 ROOT = os.path.abspath(f"{__file__}/../../..")
 PARTS = ("src", "specs", "proofs")
+KEY = re.compile(r"[a-z-]+:(?: |$)")
 HEAD = re.compile(r"( *)(?:pub(?:\(\w+\))? )?(?:const |unsafe )*fn (\w+)")
 # What a check says where a proof file names what an edit took away.
 GONE = re.compile(r"has no field|is not in scope|has no `|was not admitted")
@@ -36,7 +38,9 @@ class Edit:
         self.files = [line[len("file: ") :].strip() for line in lines if line.startswith("file: ")]
         olds = [line[len("old: ") :] for line in lines if line.startswith("old: ")]
         news = [line[len("new:") :].removeprefix(" ") for line in lines if line.startswith("new:")]
-        self.is_whole = len(self.files) == 1 and len(olds) == len(news)
+        is_changed = all(old != new for old, new in zip(olds, news))
+        is_read = all(KEY.match(line) for line in lines)
+        self.is_whole = len(self.files) == 1 and len(olds) == len(news) and is_changed and is_read
         self.pairs = list(zip(olds, news))
         told = (line.partition(": ") for line in lines if not re.match(r"(file|old|new):", line))
         self.told = {key: text.strip() for key, _, text in told}
