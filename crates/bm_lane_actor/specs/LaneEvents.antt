@@ -55,6 +55,11 @@ loss_of fault.Mem = loss.Memory
 loss_of fault.Arena = loss.Memory
 loss_of _ = loss.Closed
 
+-- why a lane is cut or given up by an order that its link answered so
+abbrev pub order_loss : Option LinkFault → LossCause
+order_loss (Some f) = loss_of f
+order_loss None = loss.Stream
+
 -- What is told of a link by which a login failed. Where a session stands after it, that is what a
 -- link that takes the lane up is greeted with, and then how that ended. Else the login was
 -- declined, and a session that was cut before may be lost by it. Its own is lost for the fault.

@@ -1,6 +1,8 @@
 -- What a build's port to a lane is.
 use mathlib.Core.List.{IsPrefix}
-use Rattle.std.specs.Prelude.{◌≡◌, ◌⊎◌, ℕ, ◌-◌, ◌^◌, Bool, true, false, nat_lt, List, [], ◌∷◌, ◌++◌, if◌then◌else◌, Option, Some, None, Result, Ok, Err}
+use Rattle.std.specs.Prelude.{◌≡◌, ◌⊎◌, ℕ, ◌+◌, ◌-◌, ◌/◌, ◌^◌, min, Bool, true, false, nat_lt, List, [], ◌∷◌, ◌++◌, if◌then◌else◌, Option, Some, None, Result, Ok, Err}
+use Rattle.std.specs.Time.{FitsClock, instant_nanos}
+use Rattle.std.specs.declared.time.Instant.{Instant}
 use Rattle.bm_session.specs.declared.results.Results.{Results}
 use Rattle.bm_session.specs.declared.results.Results.TheVariants.{Cancelled}
 use Rattle.bm_operator.specs.declared.reasons.StartRefusal.{StartRefusal}
@@ -51,6 +53,18 @@ polled cancelled (Err e) = running cancelled
 -- a tick that begins so many milliseconds late is a short one, and no tick is left out
 abbrev pub keeps_pace : ℕ → Bool
 keeps_pace behind_ms = nat_lt behind_ms 1000
+
+-- a tick begins at the end of the last one, or now
+abbrev pub begins_at : ℕ → ℕ → ℕ
+begins_at end now = if keeps_pace (min ((now - end) / 1_000_000) (2 ^ 64 - 1)) then end else now
+
+-- When the tick begins behind the one that began then: the first begins now. A clock tells no time
+-- beyond its range.
+abbrev pub TickAfter : Option Instant → Instant → Instant → Type 0
+TickAfter None now t = t ≡ now
+TickAfter (Some last) now t =
+    FitsClock (instant_nanos last + 10_000_000)
+    → instant_nanos t ≡ begins_at (instant_nanos last + 10_000_000) (instant_nanos now)
 
 -- the number of no command
 abbrev pub no_command : ℕ

@@ -9,7 +9,7 @@ ghost use Rattle.bm_link.specs.Laws.{CarriesPending};
 ghost use Rattle.bm_link.specs.Texts.{AreShort};
 ghost use Rattle.bm_lane_actor.specs.ResumeTimer.{kept as kept_timer, dismissed};
 ghost use Rattle.bm_lane_actor.specs.LaneStates.{awaited_of, Attaches, Closes, Expires, GivesUp, Interrupts, Pings, ShutsDown, Starts, Ticks, Turns, with_timer};
-ghost use Rattle.bm_lane_actor.specs.LaneEvents.{connection_of};
+ghost use Rattle.bm_lane_actor.specs.LaneEvents.{connection_of, order_loss};
 
 use crate::connection_state::ConnectionState;
 use crate::lane_event::{connection_of, loss_of};
@@ -76,6 +76,16 @@ pub(crate) enum Awaited {
     Tick,
 }
 
+/// Why a lane is cut or given up by an order that its link answered so.
+fn order_loss(fault: Option<LinkFault>) -> LossCause
+    ensures { result ≡ order_loss fault }
+{
+    match fault {
+        Some(fault) => loss_of(fault),
+        None => LossCause::Stream,
+    }
+}
+
 impl<Y: Yard, S> LaneState<Y, S> {
     /// The state of a lane that had no event. Its worker may take `resume_ticks` ticks to resume a
     /// session after a cut; where these are 0, no session is ever resumed. It takes no memory.
@@ -105,10 +115,7 @@ impl<Y: Yard, S> LaneState<Y, S> {
 
     /// Why the lane is cut or given up, where the last order was.
     pub fn order_loss(&self) -> LossCause {
-        match self.fault {
-            Some(fault) => loss_of(fault),
-            None => LossCause::Stream,
-        }
+        order_loss(self.fault)
     }
 
     /// The last event of the lane, if it had one.

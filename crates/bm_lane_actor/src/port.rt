@@ -1,7 +1,7 @@
 //! A build's port to its worker's lane: it sends requests by the lane's handle, and looks through a
 //! viewer of its own.
 
-ghost use Rattle.std.specs.Prelude.{◌≡◌, ◌++◌, ◌∷◌, [], List, false, true, IfSome, IfNone};
+ghost use Rattle.std.specs.Prelude.{◌≡◌, ◌++◌, ◌∷◌, [], List, None, false, true, IfSome, IfNone};
 ghost use Rattle.bm_runner.specs.declared.port.Told.{Told};
 ghost use Rattle.bm_runner.specs.Port.{IsAsking, asked, first_entry};
 ghost use Rattle.bm_lane_actor.specs.Ports.{Begins, Looks, Orders, Polls, Sees, StartsAs, Unstarts, Waits, with_step};
@@ -84,6 +84,16 @@ impl<'a, Y: Yard, S, R: Wait + Clock + Drop, W> Model for LanePort<'a, Y, S, R, 
     } };
 
     ghost invariant = { λ p. p.viewer.lane ≡ p.handle };
+}
+
+// How many bytes the updates of a command have carried, where they are counted.
+fn carried(bytes: &Option<ByteCount>) -> u64
+    ensures { bytes.now ≡ None → result ≡ 0 }
+{
+    match bytes {
+        Some(bytes) => bytes.load(Ordering::SeqCst),
+        None => 0,
+    }
 }
 
 impl<'a, Y: Yard, S: Drop, R: Wait + Clock + Drop, W: Watch + Drop> LanePort<'a, Y, S, R, W> {
@@ -348,16 +358,8 @@ impl<'a, Y: Yard, S: Drop, R: Wait + Clock + Drop, W: Watch + Drop> LanePort<'a,
         ensures { Sees self.old k result.said self.new }
     {
         let seen = self.look(k);
-        let bytes = self.carried();
+        let bytes = carried(&self.bytes);
         self.orders(k, StepInput::Ticked(seen, bytes))
-    }
-
-    // How many bytes the updates of its command have carried.
-    fn carried(&self) -> u64 {
-        match &self.bytes {
-            Some(bytes) => bytes.load(Ordering::SeqCst),
-            None => 0,
-        }
     }
 
     /// How the command does, by what the viewer sees.

@@ -1,6 +1,6 @@
 //! The orders of a build to start one command, and how far it has come by their answers.
 
-ghost use Rattle.std.specs.Prelude.{◌≡◌, false};
+ghost use Rattle.std.specs.Prelude.{◌≡◌, false, is_none, IfSome};
 ghost use Rattle.bm_latent.specs.StartTries.{is_given_up};
 ghost use Rattle.bm_lane_actor.specs.StartProgress.{after_step, bounded, start_refusal, start_step, tries_in};
 ghost use Rattle.bm_lane_actor.specs.declared.start_progress.StartStage.TheVariants as stage;
@@ -96,7 +96,10 @@ pub fn after_step(before: StartStage, step: StartStep) -> StartStage
 }
 
 /// The order to start a step's command. None where memory is wanting.
-fn order_of(step: &StepPlan, cancelled: &CancelFlag, bytes: &ByteCount) -> Option<StartOrder> {
+fn order_of(step: &StepPlan, cancelled: &CancelFlag, bytes: &ByteCount) -> Option<StartOrder>
+    ensures words { IfSome result (λ order. order.words ≡ step.now.argv) }
+    ensures cancelled { IfSome result (λ order. is_none order.cancelled ≡ step.now.always_run) }
+{
     let cancelled = if step.always_run {
         None
     } else {
