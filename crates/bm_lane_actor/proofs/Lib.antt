@@ -1,3 +1,4 @@
+pub mod Acting
 pub mod Carrying
 pub mod Declining
 pub mod Serving

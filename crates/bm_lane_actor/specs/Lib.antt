@@ -10,6 +10,8 @@ pub mod StepMeter
 -- LaneLaws: what follows of it, whatever comes.
 pub mod LanePolicy
 pub mod LaneLaws
+-- LaneActors: what a lane's actor is, and what it does by each thing that comes.
+pub mod LaneActors
 -- LaneEvents: what is told of a lane, and what follows. Login: what a connection is once it has
 -- logged in. LoginFates: what becomes of it at a lane that is up. LoginRefusals: why another one
 -- was not taken up.

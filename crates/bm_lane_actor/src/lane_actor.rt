@@ -1,7 +1,8 @@
 //! The actor of a lane: a thread's loop round the lane's state.
 
-ghost use Rattle.std.specs.Prelude.{◌≡◌};
-ghost use Rattle.bm_lane_actor.specs.LaneEvents.{loss_of};
+ghost use Rattle.std.specs.Prelude.{◌≡◌, None, true};
+ghost use Rattle.bm_lane_actor.specs.LaneStates.{GivesUp};
+ghost use Rattle.bm_lane_actor.specs.LaneActors.{Departs, HandsBack, Obeys, Rests, Runs, TakesNext, TakesTurn, Waits, with_state};
 
 use crate::byte_count::ByteCounts;
 use crate::connection_state::ConnectionState;
@@ -20,6 +21,8 @@ use bm_link::{LinkFault, MasterLink, Turn};
 use bm_operator::LossCause;
 use bumpalo::Bump;
 use std::alloc::Global;
+use std::io::{Read, Write};
+use std::marker::Model;
 use std::sync::Wait;
 use std::time::{Clock, Duration, Instant};
 
@@ -64,6 +67,24 @@ pub(crate) struct LaneActor<'a, Y: Yard, T, R: Wait + Clock + Drop> {
     pub(crate) mailbox: Mailbox<WorkerStream<R>>,
 }
 
+impl<'a, Y: Yard, T, R: Wait + Clock + Drop> Model for LaneActor<'a, Y, T, R> {
+    ghost use Rattle.bm_lane_actor.specs.LaneActors.{ActorView};
+    ghost use Rattle.bm_lane_actor.specs.declared.stream.WorkerStream.{WorkerStream};
+
+    ghost Value = { ActorView (WorkerStream R) };
+
+    ghost view = { λ a. record {
+      state = a.state;
+      policy = a.policy;
+      waiting = a.waiting;
+      stops = a.stops.commands.items;
+      counted = a.commands.commands.items;
+      lively = a.reads;
+      ticks = a.ticks;
+      began = a.began;
+    } };
+}
+
 /// An arena for a lane's messages.
 fn arena_of(alloc: Global) -> Bump {
     let arena = Bump::new(alloc);
@@ -93,6 +114,7 @@ where
     T: EventSink + Drop,
     R: Wait + Clock + Drop,
     requires { state.lane.lane ≡ mailbox }
+    ensures { HandsBack ⟦<WorkerStream<R> as Write>⟧.contents result }
 {
     let mut actor = LaneActor {
         rt,
@@ -129,7 +151,10 @@ where
     R: Wait + Clock + Drop,
 {
     /// Waits at the mailbox, and does what comes. False once it is told to leave.
-    fn goes_on(&mut self) -> bool {
+    fn goes_on(&mut self) -> bool
+        ensures { Runs ⟦<WorkerStream<R> as Read>⟧.remaining
+            ⟦<WorkerStream<R> as Write>⟧.contents self.old result self.new }
+    {
         if self.mailbox.takes(LaneSignal::Leave) {
             return false;
         }
@@ -138,6 +163,15 @@ where
         self.send_stop();
         let awaited = self.state.awaited(self.reads.may_give());
         self.count_ticks(awaited);
+        let next = self.wait(awaited);
+        self.takes(next)
+    }
+
+    /// Waits at the mailbox for what is awaited, and answers what lies there. An arrival says that a
+    /// read may give something.
+    fn wait(&mut self, awaited: Awaited) -> NextRequest<WorkerStream<R>>
+        ensures { Waits self.old self.new }
+    {
         let next = match awaited {
             Awaited::Request | Awaited::Glance => {
                 let most = self.glance();
@@ -152,56 +186,21 @@ where
         if self.mailbox.has_arrival() {
             self.reads.told();
         }
-        self.takes(next)
+        next
     }
 
     /// How long it waits for a request at most.
-    fn glance(&self) -> Duration {
+    fn glance(&self) -> Duration
+        ensures { Rests self.now result }
+    {
         Duration::from_millis(self.policy.rest_ms(self.is_up(), self.now()))
     }
 
-    /// Counts the ticks of a lane that is cut: one that isn't awaited any more is given up.
-    fn count_ticks(&mut self, awaited: Awaited) {
-        if awaited != Awaited::Tick {
-            self.ticks = None;
-            return;
-        }
-        let now = self.age();
-        let ended = match &mut self.ticks {
-            Some(ticks) => ticks.told(now),
-            None => {
-                self.ticks = Some(TickCounter::new(TICK_MS, now.unwrap_or(0)));
-                return self.expire();
-            }
-        };
-        for _ in 0..ended {
-            self.tick();
-        }
-    }
-
-    /// Signals come before each request that lies in the mailbox. What lies ready of a worker whose
-    /// process has ended is read before it is asked, since that is no answer.
-    fn takes_signals(&mut self) {
-        if self.mailbox.takes(LaneSignal::ShutDown) {
-            self.follows(LaneInput::ShutDown);
-            self.state.shut_down(self.alloc);
-            self.reads.told();
-            self.expire();
-        }
-        if self.mailbox.takes(LaneSignal::Ended) {
-            if self.is_up() {
-                self.turn();
-            }
-            let (is_up, came) = (self.is_up(), self.came());
-            self.follows(LaneInput::Ended { is_up, came });
-            self.state.dismiss();
-            self.reads.told();
-            self.expire();
-        }
-    }
-
     /// Obeys what was in the mailbox, or hears the worker where nothing was.
-    fn takes(&mut self, next: NextRequest<WorkerStream<R>>) -> bool {
+    fn takes(&mut self, next: NextRequest<WorkerStream<R>>) -> bool
+        ensures { TakesNext ⟦<WorkerStream<R> as Read>⟧.remaining
+            ⟦<WorkerStream<R> as Write>⟧.contents next self.old result self.new }
+    {
         match next {
             NextRequest::Request(request) => self.obeys(request),
             NextRequest::Nothing => self.turn(),
@@ -210,7 +209,11 @@ where
         true
     }
 
-    fn obeys(&mut self, request: LaneRequest<WorkerStream<R>>) {
+    /// Does what it is asked for.
+    fn obeys(&mut self, request: LaneRequest<WorkerStream<R>>)
+        ensures { Obeys ⟦<WorkerStream<R> as Read>⟧.remaining
+            ⟦<WorkerStream<R> as Write>⟧.contents request self.old self.new }
+    {
         match request {
             LaneRequest::Attach(link) => self.attach(link),
             LaneRequest::Start(order, answer) => {
@@ -234,7 +237,7 @@ where
     /// Wakes the gate, and tells how the lane went on from where it stood. Then its builds are
     /// called.
     pub(crate) fn note(&mut self, before: ConnectionState, cause: LossCause)
-        ensures { self.new.state ≡ self.old.state }
+        ensures { self.new ≡ self.old }
     {
         if let Some(event) = event_after(before, self.state.connection(), cause) {
             self.events.tell(event);
@@ -245,7 +248,10 @@ where
 
     /// Reads one message of the worker, where one is there, and tells who waits for what it
     /// brought.
-    pub(crate) fn turn(&mut self) {
+    pub(crate) fn turn(&mut self)
+        ensures { TakesTurn ⟦<WorkerStream<R> as Read>⟧.remaining
+            ⟦<WorkerStream<R> as Write>⟧.contents self.old self.new }
+    {
         let before = self.state.connection();
         let took = self.gate.took(self.place);
         let answer = self.state.turn(self.rt, self.alloc, &mut self.arena);
@@ -265,7 +271,9 @@ where
     }
 
     /// Whether a read of the link gives nothing until something comes.
-    pub(crate) fn is_drained(&self) -> bool {
+    pub(crate) fn is_drained(&self) -> bool
+        ensures { self.now.state.link ≡ None → result ≡ true }
+    {
         match self.state.stream() {
             Some(stream) => stream.is_drained(),
             None => true,
@@ -273,7 +281,9 @@ where
     }
 
     /// Counts what was heard, and wakes the gate; for what is more than lines the builds too.
-    fn heard(&mut self) {
+    fn heard(&mut self)
+        ensures { self.new ≡ self.old }
+    {
         let is_lines = match self.state.last_event() {
             Some(event) => self.commands.note(event),
             None => false,
@@ -291,37 +301,34 @@ where
             .wait_for_drain(self.place, took, Duration::from_millis(TICK_MS));
     }
 
-    /// A tick of a cut lane has passed.
-    fn tick(&mut self) {
-        let before = self.state.connection();
-        self.state.tick(self.rt);
-        let why = self.policy.why();
-        self.note(before, why);
-    }
-
-    /// A cut lane whose worker is awaited no more is given up.
-    fn expire(&mut self) {
-        let before = self.state.connection();
-        self.state.expire(self.rt);
-        let why = self.policy.why();
-        self.note(before, why);
-    }
-
     /// Tells the worker that the master ends, and gives the session up.
-    fn leave(&mut self) {
+    fn leave(&mut self)
+        ensures { Departs ⟦<WorkerStream<R> as Write>⟧.contents self.old self.new }
+    {
         self.state.close();
-        for _ in self.rt.forever() {
-            let took = self.gate.took(self.place);
-            if self.state.give_up(self.rt) {
-                break;
-            }
-            self.wait_for_place(took);
-        }
+        self.give_up();
         self.gate.ring(self.place);
     }
 
+    /// Gives the session up once the lane's queue has room for that.
+    fn give_up(&mut self)
+        ensures lane { GivesUp self.old.state true self.new.state }
+        ensures rest { self.new ≡ with_state self.old self.new.state self.old.lively }
+    {
+        for _ in self.rt.forever() {
+            let took = self.gate.took(self.place);
+            if self.state.give_up(self.rt) {
+                return;
+            }
+            self.wait_for_place(took);
+        }
+        unreachable!()
+    }
+
     /// Hands the lane's end back.
-    fn into_reader(self) -> ReaderEnd<Y> {
+    fn into_reader(self) -> ReaderEnd<Y>
+        ensures { result ≡ self.entry.state.lane }
+    {
         drop(self.waiting);
         self.state.into_reader()
     }

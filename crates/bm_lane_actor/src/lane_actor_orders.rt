@@ -1,7 +1,7 @@
 //! The orders of builds to a lane's actor.
 
-ghost use Rattle.std.specs.Prelude.{◌≡◌};
-ghost use Rattle.bm_lane_actor.specs.LaneStates.{StartsOrder};
+ghost use Rattle.std.specs.Prelude.{◌≡◌, None, false};
+ghost use Rattle.bm_lane_actor.specs.LaneActors.{SendsStop, StartsCounted, kept_stop};
 
 use crate::connection_state::ConnectionState;
 use crate::lane_actor::LaneActor;
@@ -19,7 +19,9 @@ use std::sync::atomic::Ordering;
 use std::time::Clock;
 
 /// Whether there is a flag, and it is set.
-fn is_set(flag: &Option<CancelFlag>) -> bool {
+fn is_set(flag: &Option<CancelFlag>) -> bool
+    ensures { flag.now ≡ None → result ≡ false }
+{
     match flag {
         Some(flag) => flag.load(Ordering::SeqCst),
         None => false,
@@ -51,8 +53,8 @@ where
         order: StartOrder,
         answer: &Sender<OrderOutcome, Global>,
     ) -> OrderOutcome
-        ensures { StartsOrder ⟦<WorkerStream<R> as Write>⟧.contents order.words self.old.state
-            result self.new.state }
+        ensures { StartsCounted ⟦<WorkerStream<R> as Write>⟧.contents order self.old result
+            self.new }
     {
         let outcome = self.start(order);
         reply(self.rt, answer, outcome)
@@ -63,8 +65,8 @@ where
     /// before the lane takes the order: who set it by then knows that no command follows. It is
     /// looked at before memory is wanting, so that a cancel ends what waits for that.
     fn start(&mut self, order: StartOrder) -> OrderOutcome
-        ensures { StartsOrder ⟦<WorkerStream<R> as Write>⟧.contents order.words self.old.state
-            result self.new.state }
+        ensures { StartsCounted ⟦<WorkerStream<R> as Write>⟧.contents order self.old result
+            self.new }
     {
         let StartOrder {
             words,
@@ -101,14 +103,18 @@ where
     }
 
     /// Keeps the order to interrupt a command. False where memory is wanting.
-    pub(crate) fn keep_stop(&mut self, command: u64) -> bool {
+    pub(crate) fn keep_stop(&mut self, command: u64) -> bool
+        ensures { self.new ≡ kept_stop command result self.old }
+    {
         self.stops.keep(command).is_ok()
     }
 
     /// Sends the oldest order to interrupt a command, where the lane takes it. One that it doesn't
     /// take just now is kept, and so is each while the lane is cut. Another turn follows: it sends
     /// the next one, or meets the fault of a link by which nothing could be sent.
-    pub(crate) fn send_stop(&mut self) {
+    pub(crate) fn send_stop(&mut self)
+        ensures { SendsStop ⟦<WorkerStream<R> as Write>⟧.contents self.old self.new }
+    {
         let (before, took) = (self.state.connection(), self.gate.took(self.place));
         let Some(command) = self.stops.due(before) else {
             return;

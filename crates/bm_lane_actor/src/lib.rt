@@ -30,6 +30,7 @@ mod drain_gate;
 mod lane_actor;
 mod lane_actor_links;
 mod lane_actor_orders;
+mod lane_actor_ticks;
 mod lane_event;
 mod lane_laws;
 mod lane_policy;
