@@ -1,7 +1,5 @@
 -- What a worker does about a connection, by its login, its silence, its messages and its end.
 use Rattle.std.specs.Prelude.{ℕ, Bool, true, false, Result, Ok, Err}
-use Rattle.std.specs.declared.io.ErrorKind.{ErrorKind}
-use Rattle.std.specs.declared.io.ErrorKind.TheVariants as kind
 use Rattle.bm_link.specs.declared.attaching.Attached.{Attached}
 use Rattle.bm_link.specs.declared.attaching.Attached.TheVariants as attached
 use Rattle.bm_link.specs.declared.fault.LinkFault.{LinkFault}
@@ -29,13 +27,6 @@ abbrev pub is_message : Turn → Bool
 is_message turn.Heard = true
 is_message turn.Noted = true
 is_message other = false
-
--- a look that failed so found no byte, and the stream hasn't ended
-abbrev pub is_of_silence : ErrorKind → Bool
-is_of_silence kind.Interrupted = true
-is_of_silence kind.WouldBlock = true
-is_of_silence kind.TimedOut = true
-is_of_silence _ = false
 
 -- Why it connects again, or else its exit status. It ends where its master ended its work, and
 -- where memory is wanting.

@@ -1,8 +1,11 @@
 //! A build worker, and its loop over a connection: what is told, and what is done about its mail.
 
-ghost use Rattle.std.specs.Prelude.{◌≡◌, ◌∷◌, []};
+ghost use Rattle.std.specs.Prelude.{◌≡◌, ◌∷◌, [], IfOk, None, false};
+ghost use Rattle.std.specs.Option.{option_copied};
 ghost use Rattle.bm_link.specs.Texts.{AreShort};
+ghost use Rattle.bm_worker_session.specs.Sessions.{new_session};
 ghost use Rattle.bm_worker_threads.specs.Connections.{keeps_commands};
+ghost use Rattle.bm_worker_threads.specs.Serving.{SendsOn, TellsMore, after_sending, no_tries};
 
 use crate::connection::{Connection, ConnectionEnd};
 use crate::host::Host;
@@ -37,7 +40,12 @@ impl<S: Read + Write + Drop, K: MaskKeys + Drop> BuildWorker<S, K> {
         alloc: Global,
         session: Option<&str>,
         marks: Marks,
-    ) -> Result<BuildWorker<S, K>, AllocError> {
+    ) -> Result<BuildWorker<S, K>, AllocError>
+        ensures session { IfOk result (λ worker. worker.session ≡ new_session) }
+        ensures texts { IfOk result (λ worker. worker.texts
+            ≡ record { session = option_copied session.entry; is_answered = false }) }
+        ensures tries { IfOk result (λ worker. worker.tries ≡ no_tries) }
+    {
         let texts = SessionTexts::new(alloc, session)?;
         let processes = Processes::new(alloc, marks)?;
         Ok(BuildWorker {
@@ -93,7 +101,10 @@ impl<S: Read + Write + Drop, K: MaskKeys + Drop> BuildWorker<S, K> {
         alloc: Global,
         connection: &Connection,
         attached: Attached,
-    ) -> (ConnectionEnd, Option<WorkerLink<S, K>>) {
+    ) -> (ConnectionEnd, Option<WorkerLink<S, K>>)
+        ensures lost { self.new.session.link ≡ None }
+        ensures texts { self.new.texts ≡ self.old.texts }
+    {
         let mut arena = Bump::new(alloc);
         let end = self.work(rt, alloc, &mut arena, connection, attached);
         if end == ConnectionEnd::Shutdown {
@@ -110,7 +121,9 @@ impl<S: Read + Write + Drop, K: MaskKeys + Drop> BuildWorker<S, K> {
         arena: &mut Bump,
         connection: &Connection,
         attached: Attached,
-    ) -> ConnectionEnd {
+    ) -> ConnectionEnd
+        ensures texts { self.new.texts ≡ self.old.texts }
+    {
         if !keeps_commands(attached) && self.processes.lose(rt, alloc).is_err() {
             return ConnectionEnd::NoMemory;
         }
@@ -133,7 +146,9 @@ impl<S: Read + Write + Drop, K: MaskKeys + Drop> BuildWorker<S, K> {
         alloc: Global,
         arena: &mut Bump,
         connection: &Connection,
-    ) -> Result<(), ConnectionEnd> {
+    ) -> Result<(), ConnectionEnd>
+        ensures texts { self.new.texts ≡ self.old.texts }
+    {
         if !self.send_next(rt, alloc)? {
             if let Some(mail) = self.processes.wait(rt) {
                 self.take(rt, alloc, arena, connection, mail)?;
@@ -143,24 +158,43 @@ impl<S: Read + Write + Drop, K: MaskKeys + Drop> BuildWorker<S, K> {
     }
 
     /// Sends what is next, and answers whether there was anything that can be sent.
-    fn send_next<R: Host>(&mut self, rt: &R, alloc: Global) -> Result<bool, ConnectionEnd> {
-        if self.processes.tick(rt, alloc).is_err() {
-            return Err(ConnectionEnd::NoMemory);
+    fn send_next<R: Host>(&mut self, rt: &R, alloc: Global) -> Result<bool, ConnectionEnd>
+        ensures sent { SendsOn S.contents self.old.session result self.new.session }
+        ensures texts { self.new.texts ≡ self.old.texts }
+        ensures tries { self.new.tries ≡ self.old.tries }
+    {
+        match self.tell_next(rt, alloc) {
+            Ok(()) => after_sending(self.session.send_next(alloc)),
+            Err(_) => Err(ConnectionEnd::NoMemory),
         }
-        if self.session.outbox.is_empty() {
-            let may_say = self.session.unanswered_bytes() < MOST_UNANSWERED_BYTES;
-            let outbox = &mut self.session.outbox;
-            let now_ms = self.processes.time.now(rt);
-            let next = self.processes.turn(rt, alloc, now_ms, may_say, outbox);
-            if next.is_err() {
-                return Err(ConnectionEnd::NoMemory);
-            }
+    }
+
+    /// Does what the time asks for. Where nothing waits to be told, what the machine of the commands
+    /// tells next is to be told.
+    fn tell_next<R: Host>(&mut self, rt: &R, alloc: Global) -> Result<(), AllocError>
+        ensures told { TellsMore self.old.session.outbox self.old.session self.new.session }
+        ensures texts { self.new.texts ≡ self.old.texts }
+        ensures tries { self.new.tries ≡ self.old.tries }
+    {
+        self.processes.tick(rt, alloc)?;
+        if !self.session.outbox.is_empty() {
+            return Ok(());
         }
-        match self.session.send_next(alloc) {
-            Ok(is_some) => Ok(is_some),
-            Err(SessionFault::Link) => Err(ConnectionEnd::Lost),
-            Err(SessionFault::Memory) => Err(ConnectionEnd::NoMemory),
-        }
+        let may_say = self.session.unanswered_bytes() < MOST_UNANSWERED_BYTES;
+        let outbox = &mut self.session.outbox;
+        let now_ms = self.processes.time.now(rt);
+        self.processes.turn(rt, alloc, now_ms, may_say, outbox)
+    }
+}
+
+/// How a connection ends where nothing more could be sent.
+fn after_sending(sent: Result<bool, SessionFault>) -> Result<bool, ConnectionEnd>
+    ensures { result ≡ after_sending sent }
+{
+    match sent {
+        Ok(is_some) => Ok(is_some),
+        Err(SessionFault::Link) => Err(ConnectionEnd::Lost),
+        Err(SessionFault::Memory) => Err(ConnectionEnd::NoMemory),
     }
 }
 

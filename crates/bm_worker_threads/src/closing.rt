@@ -1,5 +1,13 @@
 //! How a connection is closed, so that nothing that was sent is lost.
 
+ghost use Rattle.std.specs.Prelude.{◌≡◌, ◌≤◌, ◌*◌, IfSome, Result};
+ghost use Rattle.std.specs.Time.{instant_nanos};
+ghost use Rattle.std.specs.Duration.{as_nanos};
+ghost use Rattle.bm_link.specs.Working.{ClosesAt};
+ghost use Rattle.bm_link.specs.declared.fault.LinkFault.{LinkFault};
+ghost use Rattle.bm_worker_threads.specs.Serving.{OnlyHears};
+ghost use Rattle.bm_worker_threads.specs.Silences.{nanos_left};
+
 use crate::build_worker::BuildWorker;
 use crate::connection::Connection;
 use crate::host::Host;
@@ -9,6 +17,7 @@ use bm_commands::Input;
 use bm_link::{Turn, WorkerLink};
 use bumpalo::Bump;
 use std::alloc::Global;
+use std::io;
 use std::io::{Read, Write};
 use std::net::{OpenStream, Shutdown};
 use std::sync::Wait;
@@ -30,7 +39,11 @@ impl<S: Read + Write + Drop, K: MaskKeys + Drop> BuildWorker<S, K> {
         alloc: Global,
         arena: &mut Bump,
         connection: &Connection,
-    ) {
+    )
+        ensures session { OnlyHears self.old.session self.new.session }
+        ensures texts { self.new.texts ≡ self.old.texts }
+        ensures tries { self.new.tries ≡ self.old.tries }
+    {
         // Only a kill of one process wants memory.
         let _ = self.processes.put(rt, alloc, Input::Ends);
         let Some(deadline) = after(rt, LAST_ANSWERS_SECONDS) else {
@@ -50,7 +63,9 @@ impl<S: Read + Write + Drop, K: MaskKeys + Drop> BuildWorker<S, K> {
 
     /// Waits until the connection with this number has bytes to read, and forgets all other mail.
     /// The answer is false where that isn't so until then.
-    fn is_readable_by<R: Wait + Clock>(&mut self, rt: &R, number: u64, deadline: Instant) -> bool {
+    fn is_readable_by<R: Wait + Clock>(&mut self, rt: &R, number: u64, deadline: Instant) -> bool
+        ensures { self.new ≡ record self.old { processes = self.new.processes } }
+    {
         for _ in rt.forever() {
             match self.processes.wait_until(rt, deadline) {
                 Some(WorkerMail::Readable(one)) if one == number => return true,
@@ -63,7 +78,10 @@ impl<S: Read + Write + Drop, K: MaskKeys + Drop> BuildWorker<S, K> {
 
     /// Hears the messages that have come, and does nothing else that they ask; or answers that the
     /// connection has ended.
-    fn hears_all<R: Wait>(&mut self, rt: &R, alloc: Global, arena: &mut Bump) -> bool {
+    fn hears_all<R: Wait>(&mut self, rt: &R, alloc: Global, arena: &mut Bump) -> bool
+        ensures session { OnlyHears self.old.session self.new.session }
+        ensures others { self.new ≡ record self.old { session = self.new.session } }
+    {
         for _ in rt.forever() {
             match self.session.hear(alloc, arena) {
                 Ok((Turn::Quiet, _)) => return true,
@@ -76,7 +94,9 @@ impl<S: Read + Write + Drop, K: MaskKeys + Drop> BuildWorker<S, K> {
 }
 
 /// The moment so many seconds from now. None where the clock fails.
-fn after<R: Clock>(rt: &R, seconds: u64) -> Option<Instant> {
+fn after<R: Clock>(rt: &R, seconds: u64) -> Option<Instant>
+    ensures { IfSome result (λ moment. seconds * 1_000_000_000 ≤ instant_nanos moment) }
+{
     let now = Instant::now(rt).ok()?;
     now.checked_add(Duration::from_secs(seconds))
 }
@@ -89,6 +109,8 @@ where
     S: Read + Write + OpenStream + Drop,
     K: MaskKeys + Drop,
     R: Clock,
+    ensures { (sent : Result (Unit {0}) LinkFault) × ClosesAt (λ ready. S.contents ready.stream)
+        link.old.failed link.old sent link.new }
 {
     // Where it can't be sent the other end is told by the stream's end alone.
     let _ = link.close();
@@ -96,8 +118,10 @@ where
 }
 
 /// The time from now to the deadline: zero once it has passed, or where the clock fails.
-fn left_until<R: Clock>(rt: &R, deadline: Instant) -> Duration {
-    match Instant::now(rt) {
+fn left_until(now: io::Result<Instant>, deadline: Instant) -> Duration
+    ensures { as_nanos result ≡ nanos_left now deadline }
+{
+    match now {
         Ok(now) => deadline.saturating_duration_since(now),
         Err(_) => Duration::ZERO,
     }
@@ -115,7 +139,7 @@ where
     let _ = stream.shutdown(Shutdown::Write);
     let mut room = [0u8; 4096];
     for _ in 0..u64::MAX {
-        let left = left_until(rt, deadline);
+        let left = left_until(Instant::now(rt), deadline);
         if left.is_zero() || stream.set_read_timeout(Some(left)).is_err() {
             return;
         }

@@ -2,6 +2,7 @@
 
 ghost use Rattle.std.specs.Prelude.{◌≡◌};
 ghost use Rattle.bm_worker_threads.specs.Connections.{is_message};
+ghost use Rattle.bm_worker_threads.specs.Serving.{AfterTurn, DoesAct, HearsOnce, KeepsAlive, OnlyTells, Takes, after_turn, end_of_link};
 
 use crate::build_worker::BuildWorker;
 use crate::connection::{Connection, ConnectionEnd};
@@ -9,7 +10,7 @@ use crate::host::Host;
 use crate::mailbox::WorkerMail;
 use crate::processes::MOST_MAIL;
 use bm_commands::Input;
-use bm_link::Turn;
+use bm_link::{LinkFault, Turn};
 use bm_outbox::Keepalive;
 use bm_work::WorkAct;
 use bumpalo::Bump;
@@ -25,7 +26,9 @@ impl<S: Read + Write + Drop, K: MaskKeys + Drop> BuildWorker<S, K> {
         alloc: Global,
         arena: &mut Bump,
         connection: &Connection,
-    ) -> Result<(), ConnectionEnd> {
+    ) -> Result<(), ConnectionEnd>
+        ensures texts { self.new.texts ≡ self.old.texts }
+    {
         for _ in 0..MOST_MAIL {
             match self.processes.mail(rt) {
                 Some(mail) => self.take(rt, alloc, arena, connection, mail)?,
@@ -43,7 +46,11 @@ impl<S: Read + Write + Drop, K: MaskKeys + Drop> BuildWorker<S, K> {
         arena: &mut Bump,
         connection: &Connection,
         mail: WorkerMail,
-    ) -> Result<(), ConnectionEnd> {
+    ) -> Result<(), ConnectionEnd>
+        ensures taken { Takes S.contents connection.now.number mail self.old.session result
+            self.new.session }
+        ensures texts { self.new.texts ≡ self.old.texts }
+    {
         match mail {
             WorkerMail::Process(told) => {
                 match self.processes.keep(rt, alloc, told) {
@@ -70,16 +77,12 @@ impl<S: Read + Write + Drop, K: MaskKeys + Drop> BuildWorker<S, K> {
         alloc: Global,
         arena: &mut Bump,
         connection: &Connection,
-    ) -> Result<(), ConnectionEnd> {
+    ) -> Result<(), ConnectionEnd>
+        ensures texts { self.new.texts ≡ self.old.texts }
+    {
         for _ in rt.forever() {
-            match self.session.hear(alloc, arena) {
-                Ok((Turn::Quiet, _)) => break,
-                Ok((turn, act)) => {
-                    self.counts(turn);
-                    self.does(rt, alloc, &act)?;
-                }
-                Err(_) if self.session.is_closed() => return Err(ConnectionEnd::Closed),
-                Err(_) => return Err(ConnectionEnd::Lost),
+            if !self.hear_one(rt, alloc, arena)? {
+                break;
             }
         }
         if connection.ask(rt) {
@@ -89,14 +92,61 @@ impl<S: Read + Write + Drop, K: MaskKeys + Drop> BuildWorker<S, K> {
         }
     }
 
+    /// Hears a message, and does what it asks. False where none had come.
+    fn hear_one<R: Host>(
+        &mut self,
+        rt: &R,
+        alloc: Global,
+        arena: &mut Bump,
+    ) -> Result<bool, ConnectionEnd>
+        ensures heard { HearsOnce S.remaining S.contents self.old.session self.old.tries result
+            self.new.session self.new.tries }
+        ensures texts { self.new.texts ≡ self.old.texts }
+    {
+        let heard = self.session.hear(alloc, arena);
+        self.follow(rt, alloc, heard)
+    }
+
+    /// Does what a turn of the link asks. False where nothing was heard.
+    fn follow<R: Host>(
+        &mut self,
+        rt: &R,
+        alloc: Global,
+        heard: Result<(Turn, WorkAct), LinkFault>,
+    ) -> Result<bool, ConnectionEnd>
+        ensures done { AfterTurn heard self.old.session self.old.tries result self.new.session
+            self.new.tries }
+        ensures texts { self.new.texts ≡ self.old.texts }
+    {
+        match heard {
+            Ok((Turn::Quiet, _)) => Ok(false),
+            Ok((turn, act)) => {
+                self.counts(turn);
+                match self.does(rt, alloc, &act) {
+                    Ok(()) => Ok(true),
+                    Err(end) => Err(end),
+                }
+            }
+            Err(_) => Err(end_of_link(self.session.is_closed())),
+        }
+    }
+
     /// A message begins the count of tries to connect afresh.
-    fn counts(&mut self, turn: Turn) {
+    fn counts(&mut self, turn: Turn)
+        ensures { self.new ≡ record self.old { tries = after_turn turn self.old.tries } }
+    {
         if is_message(turn) {
             self.tries.heard();
         }
     }
 
-    fn does<R: Host>(&mut self, rt: &R, alloc: Global, act: &WorkAct) -> Result<(), ConnectionEnd> {
+    /// Does what a message asks.
+    fn does<R: Host>(&mut self, rt: &R, alloc: Global, act: &WorkAct) -> Result<(), ConnectionEnd>
+        ensures done { DoesAct act.now self.old.session.outbox result self.new.session.outbox }
+        ensures session { OnlyTells self.old.session self.new.session }
+        ensures texts { self.new.texts ≡ self.old.texts }
+        ensures tries { self.new.tries ≡ self.old.tries }
+    {
         let outbox = &mut self.session.outbox;
         let done = match act {
             WorkAct::Run { command, argv } => {
@@ -115,16 +165,17 @@ impl<S: Read + Write + Drop, K: MaskKeys + Drop> BuildWorker<S, K> {
     }
 
     /// Pings a silent master, or counts the connection as lost.
-    fn keep_alive(&mut self, next: Keepalive) -> Result<(), ConnectionEnd> {
-        let is_kept = match next {
-            Keepalive::Wait => true,
-            Keepalive::Ping => self.session.ping().is_ok(),
-            Keepalive::GiveUp => false,
-        };
-        if is_kept {
-            Ok(())
-        } else {
-            Err(ConnectionEnd::Lost)
+    fn keep_alive(&mut self, next: Keepalive) -> Result<(), ConnectionEnd>
+        ensures kept { KeepsAlive S.contents next self.old.session result self.new.session }
+        ensures others { self.new ≡ record self.old { session = self.new.session } }
+    {
+        match next {
+            Keepalive::Wait => Ok(()),
+            Keepalive::Ping => match self.session.ping() {
+                Ok(()) => Ok(()),
+                Err(_) => Err(ConnectionEnd::Lost),
+            },
+            Keepalive::GiveUp => Err(ConnectionEnd::Lost),
         }
     }
 }
@@ -134,4 +185,15 @@ fn is_message(turn: Turn) -> bool
     ensures { result ≡ is_message turn }
 {
     matches!(turn, Turn::Heard | Turn::Noted)
+}
+
+/// How a connection ends whose link failed: its master may have closed it.
+fn end_of_link(is_closed: bool) -> ConnectionEnd
+    ensures { result ≡ end_of_link is_closed }
+{
+    if is_closed {
+        ConnectionEnd::Closed
+    } else {
+        ConnectionEnd::Lost
+    }
 }

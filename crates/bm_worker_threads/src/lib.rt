@@ -7,6 +7,7 @@
 //! Promised: what the machine tells next is what waits next, of the command that it names. A
 //! command begins with the line of its words. Words of the command line ask for a worker exactly
 //! where `Arguments` of the specs says. A ready stream gives and takes what its own stream does.
+//! What a turn of a link gives is followed by what it asks, and by nothing else of the session.
 //! Tests show public calls, but for their safety. `Processes::turn` and `new_session` have clauses
 //! that no caller sees, and so have decisions about connections, sweeps and times.
 //!
@@ -34,6 +35,7 @@ mod ready_stream;
 mod run;
 mod session;
 mod session_texts;
+mod silence;
 mod socket_watch;
 mod spare_threads;
 mod starting;

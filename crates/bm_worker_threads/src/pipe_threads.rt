@@ -1,5 +1,7 @@
 //! How the thread of a pipe is started, before the process whose pipe it reads.
 
+ghost use Rattle.std.specs.Prelude.{◌≡◌, IfSome};
+
 use crate::host::Host;
 use crate::mailbox::WorkerMail;
 use crate::pipe_reader::PipeReader;
@@ -40,7 +42,10 @@ impl<'a> PipeTask<'a> {
     }
 
     // What the thread owns. None where memory is wanting.
-    fn reader(&self) -> Option<PipeReader> {
+    fn reader(&self) -> Option<PipeReader>
+        ensures { IfSome result (λ reader. (reader.process ≡ self.now.process)
+            × (reader.command ≡ self.now.command) × (reader.letter ≡ self.now.letter)) }
+    {
         Some(PipeReader {
             process: self.process,
             command: self.command,

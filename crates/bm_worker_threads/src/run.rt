@@ -1,6 +1,6 @@
 //! A worker's life: connections in turn, and the work that outlives them.
 
-ghost use Rattle.std.specs.Prelude.{◌∷◌, []};
+ghost use Rattle.std.specs.Prelude.{◌≡◌, ◌∷◌, [], IfSome};
 ghost use Rattle.bm_link.specs.Texts.{AreShort};
 
 use crate::build_worker::BuildWorker;
@@ -183,7 +183,10 @@ fn watched<S: OpenStream + Drop>(
     processes: &Processes,
     number: u64,
     stream: S,
-) -> Option<(Connection, ReadyStream<S>, SocketWatch<S>)> {
+) -> Option<(Connection, ReadyStream<S>, SocketWatch<S>)>
+    ensures { IfSome result (λ parts. (parts.0.number ≡ number) × (parts.1.stream ≡ stream)
+        × (parts.2.connection ≡ number)) }
+{
     let reads = Arc::new(alloc, AtomicU64::new(LOGIN_READS)).ok()?;
     let left = Arc::try_clone(&reads).ok()?;
     let (asks, asked) = crossbeam_channel::bounded(alloc, 1).ok()?;

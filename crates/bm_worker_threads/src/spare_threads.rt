@@ -1,5 +1,7 @@
 //! Whether a worker can start the threads that a command needs.
 
+ghost use Rattle.std.specs.Prelude.{◌≤◌, IfOk};
+
 use crate::host::Host;
 use std::alloc::{AllocError, Global};
 use std::thread;
@@ -18,7 +20,9 @@ pub(crate) fn has_threads<R: Host>(rt: &R, alloc: Global) -> bool {
 }
 
 /// How many of the threads can be started. All have ended when the answer comes.
-fn spare_threads<R: Host>(rt: &R, alloc: Global) -> Result<usize, AllocError> {
+fn spare_threads<R: Host>(rt: &R, alloc: Global) -> Result<usize, AllocError>
+    ensures { IfOk result (λ count. count ≤ 2) }
+{
     let mut spare: Vec<JoinHandle<()>> = Vec::with_capacity(alloc, PIPES)?;
     let (held, waits) = crossbeam_channel::bounded::<(), Global>(alloc, 1)?;
     for _ in 0..PIPES {
