@@ -3,3 +3,10 @@
 pub mod Programs
 pub mod TickWaits
 pub mod Ahead
+-- Which remarks are told, in which form, and what becomes of the count of refused connections. What a line of
+-- standard input asks for. Which step a build's thread tells of.
+pub mod Tellings
+pub mod Forms
+pub mod Refusals
+pub mod InputLines
+pub mod StepReports

@@ -1,5 +1,6 @@
 //! The thread of a build.
-ghost use Rattle.std.specs.Prelude.{◌≡◌};
+ghost use Rattle.std.specs.Prelude.{◌≡◌, IfErr, IfOk, IfSome};
+ghost use Rattle.bm_master_threads.specs.StepReports.{Reaches};
 
 use crate::events::{EventSender, MasterEvent, ReportedStep};
 use crate::shared_state::SharedState;
@@ -36,7 +37,11 @@ struct BuildTask<Y: Yard, R: Wait + Clock + Drop> {
 
 impl<Y: Yard, R: Wait + Clock + Drop> BuildTask<Y, R> {
     // The assignment comes back, which no thread took.
-    fn into_assignment(self) -> Assignment<Y> {
+    fn into_assignment(self) -> Assignment<Y>
+        ensures number { result.number ≡ self.number }
+        ensures worker { result.worker ≡ self.worker }
+        ensures viewer { result.viewer ≡ self.viewer }
+    {
         let BuildTask {
             number,
             worker,
@@ -51,18 +56,56 @@ impl<Y: Yard, R: Wait + Clock + Drop> BuildTask<Y, R> {
     }
 }
 
+/// Which step of a build was reached.
+#[derive(Drop)]
+struct ReachedStep {
+    /// How many of the build's steps are over or left out.
+    behind: usize,
+    /// The place of the last that was started or refused, and its name.
+    place: usize,
+    name: Option<Text>,
+}
+
+impl ReachedStep {
+    // Notes that this step is the next of these.
+    fn reaches(&mut self, steps: &[StepPlan], step: &StepPlan)
+        ensures { Reaches steps.now step.now self.old self.new }
+    {
+        if let Some(place) = place_of(steps, self.behind, step.always_run) {
+            self.place = place;
+            self.behind = place.saturating_add(1);
+        }
+        self.name = step.name.copy().ok();
+    }
+
+    // What is told of it.
+    fn report(&self, build: u64, event: StepEvent, said: Option<Text>) -> ReportedStep
+        ensures step { (result.build ≡ build) × (result.place ≡ self.now.place) }
+        ensures name { IfSome result.name (λ name. self.now.name ≡ Some name) }
+        ensures what { (result.event ≡ event) × (result.said ≡ said) }
+    {
+        let name = match &self.name {
+            Some(name) => name.copy().ok(),
+            None => None,
+        };
+        ReportedStep {
+            build,
+            place: self.place as u64,
+            name,
+            said,
+            event,
+        }
+    }
+}
+
 /// Tells the coordinator of a build's steps.
 #[derive(Drop)]
 struct StepReporter<'s, Y: Yard, R: Wait + Clock> {
     rt: &'s R,
     events: EventSender<Y>,
     build: u64,
-    /// The build's steps, and how many of them are over or left out.
     steps: &'s [StepPlan],
-    behind: usize,
-    /// The place of the last that was started or refused, and its name.
-    place: usize,
-    name: Option<Text>,
+    reached: ReachedStep,
 }
 
 impl<'s, Y: Yard, R: Wait + Clock> StepReporter<'s, Y, R> {
@@ -72,76 +115,72 @@ impl<'s, Y: Yard, R: Wait + Clock> StepReporter<'s, Y, R> {
         events: EventSender<Y>,
         build: u64,
         steps: &'s [StepPlan],
-    ) -> StepReporter<'s, Y, R> {
+    ) -> StepReporter<'s, Y, R>
+        ensures build { (result.build ≡ build) × (result.steps.now ≡ steps.now) }
+        ensures reached { result.reached ≡ record { behind = 0; place = 0; name = None } }
+    {
         StepReporter {
             rt,
             events,
             build,
             steps,
-            behind: 0,
-            place: 0,
-            name: None,
+            reached: ReachedStep {
+                behind: 0,
+                place: 0,
+                name: None,
+            },
         }
-    }
-
-    // Notes that this step is the next.
-    fn reaches(&mut self, step: &StepPlan) {
-        if let Some(place) = place_of(self.steps, self.behind, step.always_run) {
-            self.place = place;
-            self.behind = place.saturating_add(1);
-        }
-        self.name = step.name.copy().ok();
     }
 
     // Tells what happened to the step.
     fn tell(&self, event: StepEvent, said: Option<Text>) {
-        let name = match &self.name {
-            Some(name) => name.copy().ok(),
-            None => None,
-        };
-        self.events.tell(
-            self.rt,
-            MasterEvent::Step(ReportedStep {
-                build: self.build,
-                place: self.place as u64,
-                name,
-                said,
-                event,
-            }),
-        );
+        let reported = self.reached.report(self.build, event, said);
+        self.events.tell(self.rt, MasterEvent::Step(reported));
     }
 }
 
 impl<'s, Y: Yard, R: Wait + Clock> Watch for StepReporter<'s, Y, R> {
-    fn started(&mut self, step: &StepPlan, command: u64) {
-        self.reaches(step);
+    fn started(&mut self, step: &StepPlan, command: u64)
+        ensures { Reaches self.old.steps.now step.now self.old.reached self.new.reached }
+    {
+        self.reached.reaches(self.steps, step);
         self.tell(StepEvent::Started(command), None);
     }
 
-    fn cancelled(&mut self) {
+    fn cancelled(&mut self)
+        ensures { self.new.reached ≡ self.old.reached }
+    {
         self.events
             .tell(self.rt, MasterEvent::Cancelling(self.build));
     }
 
-    fn stopped(&mut self, command: u64, limit: StepLimit) {
+    fn stopped(&mut self, command: u64, limit: StepLimit)
+        ensures { self.new.reached ≡ self.old.reached }
+    {
         self.tell(StepEvent::Stopped(command, limit), None);
     }
 
-    fn refused(&mut self, step: &StepPlan, why: StartRefusal) {
-        self.reaches(step);
+    fn refused(&mut self, step: &StepPlan, why: StartRefusal)
+        ensures { Reaches self.old.steps.now step.now self.old.reached self.new.reached }
+    {
+        self.reached.reaches(self.steps, step);
         self.tell(StepEvent::Refused(why), None);
     }
 
-    fn failed(&mut self, command: u64, said: Option<Text>) {
+    fn failed(&mut self, command: u64, said: Option<Text>)
+        ensures { self.new.reached ≡ self.old.reached }
+    {
         self.tell(StepEvent::Failed(command), said);
     }
 
-    fn ended(&mut self, command: u64, outcome: Results) {
+    fn ended(&mut self, command: u64, outcome: Results)
+        ensures { self.new.reached ≡ self.old.reached }
+    {
         self.tell(StepEvent::Ended(command, outcome), None);
     }
 }
 
-// Runs a build to its end, and hands back what came of it.
+// Runs a build to its end. Its steps are told by `steps`.
 fn run<Y, R>(
     rt: &R,
     alloc: Global,
@@ -149,12 +188,12 @@ fn run<Y, R>(
     task: BuildTask<Y, R>,
     gate: &DrainGate<R>,
     cancelled: &CancelFlag,
-    events: EventSender<Y>,
     steps: EventSender<Y>,
-)
+) -> FinishedBuild<Y>
 where
     Y: Yard,
     R: Wait + Clock + Drop,
+    ensures { result.number ≡ task.number }
 {
     let BuildTask {
         number,
@@ -169,21 +208,23 @@ where
         Err(_) => None,
     };
     let (viewer, _) = port.into_parts();
-    events.tell(
-        rt,
-        MasterEvent::Ended(FinishedBuild {
-            number,
-            result,
-            viewer,
-        }),
-    );
+    FinishedBuild {
+        number,
+        result,
+        viewer,
+    }
 }
 
 // The task of an assignment. The assignment comes back where memory is wanting.
 fn task_of<Y: Yard, R: Wait + Clock + Drop>(
     lanes: &[LaneHandle<WorkerStream<R>>],
     assignment: Assignment<Y>,
-) -> Result<BuildTask<Y, R>, Assignment<Y>> {
+) -> Result<BuildTask<Y, R>, Assignment<Y>>
+    ensures number { IfOk result (λ task. task.number ≡ assignment.number) }
+    ensures worker { IfOk result (λ task. task.worker ≡ assignment.worker) }
+    ensures viewer { IfOk result (λ task. task.viewer ≡ assignment.viewer) }
+    ensures back { IfErr result (λ back. back ≡ assignment) }
+{
     let Some(lane) = handle_of(lanes, assignment.worker) else {
         return Err(assignment);
     };
@@ -213,6 +254,9 @@ pub fn start_build<'s, E, Y, R>(
 where
     Y: Yard + Send + Sync + 's,
     R: Wait + Clock + Threads + Drop + Send + Sync + 's,
+    ensures number { IfErr result (λ back. back.number ≡ assignment.number) }
+    ensures worker { IfErr result (λ back. back.worker ≡ assignment.worker) }
+    ensures viewer { IfErr result (λ back. back.viewer ≡ assignment.viewer) }
 {
     let (rt, alloc, gate) = (&shared.rt, shared.alloc, &shared.drain_gate);
     let worker = assignment.worker;
@@ -233,7 +277,8 @@ where
     // The task follows the thread, so that it isn't lost.
     let thread = scope.spawn(move || {
         if let Ok(task) = take.recv(rt) {
-            run(rt, alloc, build, task, gate, &cancel.flag, events, steps);
+            let finished = run(rt, alloc, build, task, gate, &cancel.flag, steps);
+            events.tell(rt, MasterEvent::Ended(finished));
         }
     });
     if thread.is_err() {

@@ -1,5 +1,7 @@
 //! What the coordinator is told.
 
+ghost use Rattle.std.specs.Prelude.{◌≡◌, IfSome};
+
 use bm_lane::Yard;
 use bm_lane_actor::LaneEvent;
 use bm_lines::Text;
@@ -109,7 +111,9 @@ impl<Y: Yard> EventSender<Y> {
 
 // Sends a message. It comes back where memory is wanting. It is generic: else its proof would take
 // an event of each kind apart.
-fn unsent<T: Drop, R: Wait>(rt: &R, sender: &Sender<T, Global>, message: T) -> Option<T> {
+fn unsent<T: Drop, R: Wait>(rt: &R, sender: &Sender<T, Global>, message: T) -> Option<T>
+    ensures { IfSome result (λ back. back ≡ message) }
+{
     match sender.send(rt, message) {
         Err(error) if !error.is_disconnected() => Some(error.into_inner()),
         _ => None,

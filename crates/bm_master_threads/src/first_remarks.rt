@@ -1,6 +1,12 @@
 //! What an operator is told first: what the master has, and the keys that nobody reads.
 
+ghost use Rattle.std.specs.Prelude.{◌≡◌, ◌+◌, ◌-◌, ◌^◌, length, min};
+ghost use Rattle.bm_operator.specs.Remark.{counted, told};
+ghost use Rattle.bm_master_threads.specs.Tellings.{steps_in};
+
 use crate::remarks::Remarks;
+use crate::tellings::key_remark;
+use bm_board::Build;
 use bm_config::{Config, UnknownKey};
 use bm_operator::Remark;
 use std::alloc::Global;
@@ -17,35 +23,39 @@ pub fn tell_first<R: Wait + Clock>(
     config: &Config,
     unknown: &[UnknownKey],
 ) {
-    let builds = config.builds.as_slice();
-    let mut steps: u64 = 0;
-    for build in builds {
-        steps = steps.saturating_add(build.steps.as_slice().len() as u64);
-    }
-    remarks.tell(
-        rt,
-        &Remark::Counted {
-            workers: config.workers.as_slice().len() as u64,
-            builds: builds.len() as u64,
-            steps,
-        },
-    );
+    remarks.tell(rt, &counted_remark(config));
     for key in unknown {
-        tell_unknown(rt, alloc, remarks, key);
+        if let Ok(place) = key.place.text(alloc) {
+            remarks.tell(rt, &key_remark(place.as_str(), key));
+        }
     }
 }
 
-// Tells of a key that nobody reads.
-fn tell_unknown<R: Wait + Clock>(rt: &R, alloc: Global, remarks: &Remarks, unknown: &UnknownKey) {
-    let Ok(place) = unknown.place.text(alloc) else {
-        return;
-    };
-    let (place, key) = (place.as_str(), unknown.key.as_str());
-    match unknown.near {
-        Some(near) => {
-            let near = near.name();
-            remarks.tell(rt, &Remark::MisspeltKey { place, key, near });
-        }
-        None => remarks.tell(rt, &Remark::UnknownKey { place, key }),
+// What is told of how many workers, builds and steps there are.
+fn counted_remark(config: &Config) -> Remark<'static>
+    ensures { told result ≡ counted
+        (length config.now.workers) (length config.now.builds) (steps_in config.now.builds) }
+{
+    let builds = config.builds.as_slice();
+    Remark::Counted {
+        workers: config.workers.as_slice().len() as u64,
+        builds: builds.len() as u64,
+        steps: steps_in(builds),
     }
+}
+
+// How many steps these builds have, up to 2^64-1.
+fn steps_in(builds: &[Build]) -> u64
+    ensures { result ≡ steps_in builds.now }
+{
+    builds.iter().fold(
+        0,
+        |sum, build| add_steps(sum, build.steps.as_slice().len() as u64),
+    )
+}
+
+fn add_steps(sum: u64, steps: u64) -> u64
+    ensures { result ≡ min (sum + steps) (2 ^ 64 - 1) }
+{
+    sum.saturating_add(steps)
 }

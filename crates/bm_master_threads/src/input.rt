@@ -1,7 +1,9 @@
 //! Standard input: builds that are to be cancelled.
 
-ghost use Rattle.std.specs.Prelude.{◌≡◌};
+ghost use Rattle.std.specs.Prelude.{◌≡◌, ◌≤◌, true, false, length, IfNone, IfSome};
 ghost use Rattle.bm_master_threads.specs.Ahead.{is_ahead};
+ghost use Rattle.bm_master_threads.specs.InputLines.{after_byte, asked, is_empty, line_told, no_line, with_byte};
+ghost use Rattle.bm_master_threads.specs.Refusals.{IsHeard};
 
 use crate::events::MasterEvent;
 use crate::shared_state::SharedState;
@@ -10,6 +12,7 @@ use bm_operator::{RateLimit, read_cancel};
 use crossbeam_channel::{Receiver, Sender, bounded};
 use std::alloc::Global;
 use std::io::{ErrorKind, Read};
+use std::marker::Model;
 use std::sync::Wait;
 use std::sync::atomic::{AtomicU64, Ordering};
 use std::thread::{Scope, Threads};
@@ -75,17 +78,30 @@ impl LinesAhead {
     }
 }
 
-/// The line that is being read, without its line end.
+/// The line that is being read, without its line end. Contracts see what is kept of it. It has room
+/// for all that one may have: else want of memory, later, would lose a cancel.
 #[derive(Drop)]
 struct InputLine {
     bytes: Vec<u8>,
     is_whole: bool,
 }
 
+impl Model for InputLine {
+    ghost use Rattle.std.specs.Prelude.{◌≤◌, vec_capacity};
+    ghost use Rattle.bm_master_threads.specs.InputLines.{LineView};
+
+    ghost Value = { LineView };
+
+    ghost view = { λ l. record { bytes = l.bytes.items; is_whole = l.is_whole } };
+
+    ghost invariant = { λ l. 4096 ≤ vec_capacity l.bytes };
+}
+
 impl InputLine {
-    // A line has room for all that one may have: else want of memory, later, would lose a cancel.
     // None where memory is wanting.
-    fn new(alloc: Global) -> Option<InputLine> {
+    fn new(alloc: Global) -> Option<InputLine>
+        ensures { IfSome result (λ line. line ≡ no_line) }
+    {
         let bytes = Vec::with_capacity(alloc, MOST_LINE).ok()?;
         Some(InputLine {
             bytes,
@@ -93,19 +109,26 @@ impl InputLine {
         })
     }
 
-    fn push(&mut self, byte: u8) {
+    fn push(&mut self, byte: u8)
+        ensures { self.new ≡ with_byte byte self.old }
+    {
         if self.bytes.len() >= MOST_LINE || self.bytes.push(byte).is_err() {
             self.is_whole = false;
         }
     }
 
-    fn is_empty(&self) -> bool {
+    fn is_empty(&self) -> bool
+        ensures { result ≡ is_empty self.now }
+    {
         self.is_whole && self.bytes.is_empty()
     }
 
     // Begins the next line. The number of the build that this line cancels, or None where it asks
     // for nothing.
-    fn end(&mut self) -> Option<u64> {
+    fn end(&mut self) -> Option<u64>
+        ensures asked { result ≡ asked self.old }
+        ensures next { self.new ≡ no_line }
+    {
         let cancelled = if self.is_whole {
             read_cancel(self.bytes.as_slice())
         } else {
@@ -126,16 +149,49 @@ struct MisreadLimit {
 }
 
 impl MisreadLimit {
-    // Another line that asks for nothing was read. True where that is told.
-    fn allows<R: Clock>(&mut self, rt: &R) -> bool {
-        let second = match self.began {
+    // How many whole seconds the reading lasts; none where the clock fails.
+    fn second<R: Clock>(&self, rt: &R) -> u64
+        ensures { IfNone self.now.began (result ≡ 0) }
+    {
+        match self.began {
             Some(began) => match began.elapsed(rt) {
                 Ok(age) => age.as_secs(),
                 Err(_) => 0,
             },
             None => 0,
-        };
+        }
+    }
+
+    // Whether a line is told: each one that cancels a build, and few of the others in a second.
+    fn tells<R: Clock>(&mut self, rt: &R, is_build: bool) -> bool
+        ensures build { is_build ≡ true → (result ≡ true) × (self.new ≡ self.old) }
+        ensures other { is_build ≡ false → IsHeard self.new.limit }
+    {
+        if is_build {
+            return true;
+        }
+        let second = self.second(rt);
         self.limit.allows(second)
+    }
+}
+
+/// What the coordinator is told of a line.
+#[derive(Clone, Copy)]
+enum LineTold {
+    Nothing,
+    Misread,
+    Cancel(u64),
+}
+
+// What is told of a line that asked for this. A line that cancels a build which isn't there is told
+// as a cancel, since the master's machine answers it.
+fn line_told(asked: Option<u64>, is_told: bool) -> LineTold
+    ensures { result ≡ line_told is_told asked }
+{
+    match asked {
+        _ if !is_told => LineTold::Nothing,
+        Some(number) => LineTold::Cancel(number),
+        None => LineTold::Misread,
     }
 }
 
@@ -145,6 +201,8 @@ fn tell_line<Y, R>(shared: &SharedState<Y, R>, misread: &mut MisreadLimit, line:
 where
     Y: Yard,
     R: Wait + Clock + Drop,
+    ensures line { line.new ≡ no_line }
+    ensures limit { IfNone (asked line.old) (IsHeard misread.new.limit) }
 {
     let (rt, lines) = (&shared.rt, &shared.lines);
     let asked = line.end();
@@ -152,16 +210,46 @@ where
         Some(number) => shared.build(number).is_some(),
         None => false,
     };
-    if !is_build && !misread.allows(rt) {
-        return;
-    }
-    match asked {
-        Some(number) => {
+    match line_told(asked, misread.tells(rt, is_build)) {
+        LineTold::Nothing => {}
+        LineTold::Misread => shared.events.tell(rt, MasterEvent::Misread),
+        LineTold::Cancel(number) => {
             lines.add();
             shared.events.tell(rt, MasterEvent::Cancel(number));
             lines.wait(rt);
         }
-        None => shared.events.tell(rt, MasterEvent::Misread),
+    }
+}
+
+// Takes a byte of the input.
+fn take_byte<Y, R>(
+    shared: &SharedState<Y, R>,
+    misread: &mut MisreadLimit,
+    line: &mut InputLine,
+    byte: u8,
+)
+where
+    Y: Yard,
+    R: Wait + Clock + Drop,
+    ensures { line.new ≡ after_byte byte line.old }
+{
+    if byte == b'\n' {
+        tell_line(shared, misread, line);
+    } else {
+        line.push(byte);
+    }
+}
+
+// Reads a piece of the input: how many bytes it has. None once the input has ended or can't be
+// read.
+fn read_piece<I: Read>(input: &mut I, piece: &mut [u8]) -> Option<usize>
+    ensures { IfSome result (λ count. count ≤ length piece.new) }
+{
+    match input.read(piece) {
+        Ok(0) => None,
+        Ok(count) => Some(count),
+        Err(error) if error.kind() == ErrorKind::Interrupted => Some(0),
+        Err(_) => None,
     }
 }
 
@@ -180,18 +268,11 @@ where
         began: Instant::now(rt).ok(),
     };
     for _ in rt.forever() {
-        let count = match input.read(&mut piece) {
-            Ok(0) => break,
-            Ok(count) => count,
-            Err(error) if error.kind() == ErrorKind::Interrupted => 0,
-            Err(_) => break,
+        let Some(count) = read_piece(&mut input, &mut piece) else {
+            break;
         };
         for byte in &piece[..count] {
-            if *byte != b'\n' {
-                line.push(*byte);
-            } else {
-                tell_line(shared, &mut misread, &mut line);
-            }
+            take_byte(shared, &mut misread, &mut line, *byte);
         }
     }
     if !line.is_empty() {

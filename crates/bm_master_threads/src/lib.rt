@@ -8,7 +8,10 @@
 //!
 //! A body could still start a thread too few, end one too early, or drop an event. The threads'
 //! work is put together here, and only tested. So is why a master could not begin. Inside the
-//! crate `BuildTask`, `TickWait`, `WaitingStream`, `is_ahead`, `leave` and `end` have clauses.
+//! crate `BuildTask`, `TickWait`, `WaitingStream`, `is_ahead`, `leave` and `end` have clauses. So
+//! have the choices: which remark is told of what happens (`tellings.rt`), and whether a refused
+//! connection is told or counted. Also what a line of standard input asks for, and which step the
+//! thread of a build tells of.
 #![tactic(auto)]
 
 mod acceptor;
@@ -30,6 +33,7 @@ mod setup;
 mod shared_state;
 mod sockets;
 mod teller;
+mod tellings;
 mod threads;
 mod tick_wait;
 mod waiting_stream;

@@ -1,5 +1,8 @@
 //! The thread that writes remarks, so that nobody waits for who reads them.
 
+ghost use Rattle.std.specs.Prelude.{◌≡◌, IfNone, IfOk, IfSome, string_bytes};
+ghost use Rattle.bm_master_threads.specs.Forms.{IsIn};
+
 use bm_config::RemarkForm;
 use bm_latent::millis;
 use bm_operator::Remark;
@@ -29,7 +32,9 @@ struct RemarkStyle {
 
 impl RemarkStyle {
     // The remark in its form, with its line end.
-    fn text<R: Clock>(&self, rt: &R, remark: &Remark<'_>) -> Result<String, AllocError> {
+    fn text<R: Clock>(&self, rt: &R, remark: &Remark<'_>) -> Result<String, AllocError>
+        ensures { IfOk result (λ text. IsIn self.now.form remark.now (string_bytes text)) }
+    {
         match self.form {
             RemarkForm::Text => remark.line(self.alloc),
             RemarkForm::Json => remark.object(self.alloc, self.age_ms(rt)),
@@ -37,7 +42,9 @@ impl RemarkStyle {
     }
 
     // The milliseconds since the master began; 0 where the clock fails.
-    fn age_ms<R: Clock>(&self, rt: &R) -> u64 {
+    fn age_ms<R: Clock>(&self, rt: &R) -> u64
+        ensures { IfNone self.now.began (result ≡ 0) }
+    {
         match self.began {
             Some(began) => match began.elapsed(rt) {
                 Ok(age) => millis(age),
@@ -109,6 +116,7 @@ impl Remarks {
     where
         R: Wait + Clock + Threads + Copy + Drop + Send + 'static,
         F: Write + Drop + Send + 'static,
+        ensures { IfSome result (λ remarks. remarks.style.form ≡ form) }
     {
         let (lines, taken) = bounded(alloc, MOST_REMARKS).ok()?;
         let (ends, end) = bounded::<(), Global>(alloc, 1).ok()?;

@@ -1,20 +1,25 @@
 //! What the coordinator tells the operator.
 
+ghost use Rattle.std.specs.Prelude.{◌≡◌, true, false, IfNone};
+ghost use Rattle.bm_operator.specs.RateLimit.{is_left_out};
+ghost use Rattle.bm_operator.specs.RefusalLimit.{has_told, no_refusals};
+ghost use Rattle.bm_lane_actor.specs.LaneEvents.{declines};
+ghost use Rattle.bm_master_threads.specs.Refusals.{HearsIf, IsHeard, Notes, taken_before, with_left_out};
+ghost use Rattle.bm_master_threads.specs.Tellings.{name_at};
+
 use crate::events::{RefusedConnection, ReportedStep};
 use crate::host::MasterHost;
 use crate::remarks::Remarks;
 use crate::shared_state::SharedState;
+use crate::tellings::{master_remark, name_at, step_at, step_remark};
 use bm_lane::Yard;
 use bm_lane_actor::{LaneEvent, declines, refusal_remark, remark_of};
 use bm_latent::millis;
 use bm_lines::Text;
 use bm_master::MasterRemark;
-use bm_operator::{RefusalLimit, Remark, StepAt};
+use bm_operator::{RefusalLimit, Remark};
 use std::sync::Wait;
 use std::time::{Clock, Duration, Instant};
-
-/// What is told of a command without an exit code whose worker doesn't say why.
-const NOTHING_SAID: &str = "no exit code";
 
 /// How many refused connections are told one by one in a second.
 const MOST_REFUSALS: u32 = 10;
@@ -33,7 +38,9 @@ pub struct Teller<'s, Y: Yard, R: Wait + Clock + Drop> {
 
 impl<'s, Y: Yard, R: MasterHost> Teller<'s, Y, R> {
     /// It has told nothing, and begins now.
-    pub fn new(shared: &'s SharedState<Y, R>, remarks: Option<Remarks>) -> Teller<'s, Y, R> {
+    pub fn new(shared: &'s SharedState<Y, R>, remarks: Option<Remarks>) -> Teller<'s, Y, R>
+        ensures { result.refusals ≡ no_refusals 10 }
+    {
         Teller {
             shared,
             remarks,
@@ -55,7 +62,9 @@ impl<'s, Y: Yard, R: MasterHost> Teller<'s, Y, R> {
     }
 
     // How long it is there. None where the clock fails.
-    fn age(&self) -> Option<Duration> {
+    fn age(&self) -> Option<Duration>
+        ensures { IfNone self.now.began (result ≡ None) }
+    {
         match self.began {
             Some(began) => began.elapsed(&self.shared.rt).ok(),
             None => None,
@@ -63,7 +72,9 @@ impl<'s, Y: Yard, R: MasterHost> Teller<'s, Y, R> {
     }
 
     /// How many milliseconds it is there. None where the clock fails.
-    pub fn now_ms(&self) -> Option<u64> {
+    pub fn now_ms(&self) -> Option<u64>
+        ensures { IfNone self.now.began (result ≡ None) }
+    {
         match self.age() {
             Some(age) => Some(millis(age)),
             None => None,
@@ -71,7 +82,9 @@ impl<'s, Y: Yard, R: MasterHost> Teller<'s, Y, R> {
     }
 
     // How many whole seconds it is there; none where the clock fails.
-    fn second(&self) -> u64 {
+    fn second(&self) -> u64
+        ensures { IfNone self.now.began (result ≡ 0) }
+    {
         match self.age() {
             Some(age) => age.as_secs(),
             None => 0,
@@ -86,77 +99,39 @@ impl<'s, Y: Yard, R: MasterHost> Teller<'s, Y, R> {
     }
 
     /// The name of the worker at this place, empty where there is none.
-    pub fn name(&self, worker: usize) -> &'s str {
-        match self.shared.config.workers.as_slice().get(worker) {
-            Some(worker) => worker.name.as_str(),
-            None => "",
-        }
-    }
-
-    fn worker_of(&self, build: u64) -> u64 {
-        match self.shared.config.builds.as_slice().get(build as usize) {
-            Some(build) => build.worker as u64,
-            None => 0,
-        }
+    pub fn name(&self, worker: usize) -> &'s str
+        ensures { result.now ≡ name_at self.now.shared.now.config.workers worker }
+    {
+        name_at(self.shared.config.workers.as_slice(), worker)
     }
 
     /// Tells what the master's machine says.
     pub fn tell(&self, remark: MasterRemark) {
-        self.remark(&match remark {
-            MasterRemark::BuildStarted { build, worker } => Remark::BuildStarted {
-                build,
-                worker: self.name(worker),
-            },
-            MasterRemark::BuildUnstarted { build } => Remark::BuildUnstarted { build },
-            MasterRemark::BuildWaits { build, worker } => Remark::BuildWaits {
-                build,
-                worker: self.name(worker),
-            },
-            MasterRemark::BuildEnded { build, result } => Remark::BuildEnded { build, result },
-            MasterRemark::BuildMissing { build } => Remark::BuildMissing { build },
-            MasterRemark::ProgramStarted { worker } => Remark::ProgramStarted {
-                worker: self.name(worker),
-            },
-            MasterRemark::ProgramFailed { worker, why } => Remark::ProgramFailed {
-                worker: self.name(worker),
-                why,
-            },
-            MasterRemark::ProgramEnded { worker } => Remark::ProgramEnded {
-                worker: self.name(worker),
-            },
-        });
+        let workers = self.shared.config.workers.as_slice();
+        self.remark(&master_remark(remark, workers));
     }
 
     /// Tells what happened to a step of a build.
     pub fn tell_step(&self, reported: &ReportedStep) {
-        let build = reported.build;
-        let step = StepAt {
-            place: reported.place,
-            name: match &reported.name {
-                Some(name) => name.as_str(),
-                None => "",
-            },
-        };
-        let said = match &reported.said {
-            Some(said) => said.as_str(),
-            None => NOTHING_SAID,
-        };
-        let lane = self.worker_of(build);
-        let lanes = self.shared.config.workers.as_slice().len() as u64;
-        let worker = self.name(lane as usize);
-        let remark = reported
-            .event
-            .remark(build, lane, lanes, worker, step, said);
-        self.remark(&remark);
+        let config = &self.shared.config;
+        let (builds, workers) = (config.builds.as_slice(), config.workers.as_slice());
+        self.remark(&step_remark(reported, step_at(reported), builds, workers));
     }
 
     /// Whether refused connections are counted that are still to be told.
-    pub fn is_left_out(&self) -> bool {
+    pub fn is_left_out(&self) -> bool
+        ensures { result ≡ is_left_out self.now.refusals.limit }
+    {
         self.refusals.is_left_out()
     }
 
     /// Tells how many refused connections were not told one by one in seconds that are over.
-    pub fn tell_left_out(&mut self) {
+    pub fn tell_left_out(&mut self)
+        ensures count { self.new.refusals
+            ≡ with_left_out self.new.refusals.limit.left_out self.old.refusals }
+        ensures none { is_left_out self.old.refusals.limit ≡ false
+            → self.new.refusals ≡ self.old.refusals }
+    {
         if self.is_left_out() {
             let second = self.second();
             self.tell_left_out_before(second);
@@ -164,13 +139,18 @@ impl<'s, Y: Yard, R: MasterHost> Teller<'s, Y, R> {
     }
 
     /// Tells how many were not told one by one, once none comes any more.
-    pub fn tell_all_left_out(&mut self) {
+    pub fn tell_all_left_out(&mut self)
+        ensures { self.new.refusals
+            ≡ with_left_out self.new.refusals.limit.left_out self.old.refusals }
+    {
         let second = self.second();
         self.tell_left_out_before(second.wrapping_add(1));
     }
 
     // Tells how many were not told one by one in seconds before this one.
-    fn tell_left_out_before(&mut self, second: u64) {
+    fn tell_left_out_before(&mut self, second: u64)
+        ensures { self.new.refusals ≡ taken_before second self.old.refusals }
+    {
         let count = self.refusals.take_left_out(second);
         if count > 0 {
             self.remark(&Remark::MoreRefused { count });
@@ -178,7 +158,11 @@ impl<'s, Y: Yard, R: MasterHost> Teller<'s, Y, R> {
     }
 
     // Whether a refused connection is told, by whose login it had this name.
-    fn tells_refused(&mut self, name: &Option<Text>) -> bool {
+    fn tells_refused(&mut self, name: &Option<Text>) -> bool
+        ensures told { result ≡ true → has_told name.now self.new.refusals.names ≡ false }
+        ensures counted { result ≡ false → is_left_out self.new.refusals.limit ≡ true }
+        ensures heard { IsHeard self.new.refusals.limit }
+    {
         self.tell_left_out();
         let second = self.second();
         self.refusals.tells(second, name)
@@ -186,7 +170,9 @@ impl<'s, Y: Yard, R: MasterHost> Teller<'s, Y, R> {
 
     // Notes the name of a refused connection that was told. Where it can't be kept, another one of
     // it is told too.
-    fn note_refused(&mut self, is_told: bool, name: Option<Text>) {
+    fn note_refused(&mut self, is_told: bool, name: Option<Text>)
+        ensures { Notes is_told name self.old.refusals self.new.refusals }
+    {
         match name {
             Some(name) if is_told => {
                 let _ = self.refusals.note(name);
@@ -196,7 +182,9 @@ impl<'s, Y: Yard, R: MasterHost> Teller<'s, Y, R> {
     }
 
     /// A connection was not taken up.
-    pub fn hear_refused(&mut self, refused: RefusedConnection) {
+    pub fn hear_refused(&mut self, refused: RefusedConnection)
+        ensures { IsHeard self.new.refusals.limit }
+    {
         let RefusedConnection { from, name, why } = refused;
         let is_told = self.tells_refused(&name);
         if is_told {
@@ -206,7 +194,9 @@ impl<'s, Y: Yard, R: MasterHost> Teller<'s, Y, R> {
     }
 
     // A login was declined at the lane of a worker.
-    fn tell_declined(&mut self, at: usize, event: LaneEvent) {
+    fn tell_declined(&mut self, at: usize, event: LaneEvent)
+        ensures { IsHeard self.new.refusals.limit }
+    {
         let name = Text::from_str(self.shared.alloc, self.name(at)).ok();
         let is_told = self.tells_refused(&name);
         if is_told {
@@ -223,7 +213,9 @@ impl<'s, Y: Yard, R: MasterHost> Teller<'s, Y, R> {
     }
 
     /// Tells what happened to a worker's lane. `is_dismissed`: the worker was told to shut down.
-    pub fn tell_lane(&mut self, at: usize, event: LaneEvent, is_dismissed: bool) {
+    pub fn tell_lane(&mut self, at: usize, event: LaneEvent, is_dismissed: bool)
+        ensures { HearsIf (declines event) self.old.refusals self.new.refusals }
+    {
         if declines(event) {
             return self.tell_declined(at, event);
         }
