@@ -1,5 +1,8 @@
 //! What all threads of a master share.
 
+ghost use Rattle.std.specs.Prelude.{◌≡◌, option_map};
+ghost use Rattle.bm_master_threads.specs.Shared.{both_at};
+
 use crate::events::EventSender;
 use crate::input::LinesAhead;
 use crate::sockets::AcceptorWaker;
@@ -28,12 +31,6 @@ impl BuildCancel {
     /// The build begins on this lane.
     pub fn begins(&self, lane: usize) {
         self.lane.store(lane as u64, Ordering::SeqCst);
-    }
-
-    /// The build is to be cancelled. The answer is the lane on which it runs.
-    pub fn set(&self) -> usize {
-        self.flag.store(true, Ordering::SeqCst);
-        self.lane.load(Ordering::SeqCst) as usize
     }
 }
 
@@ -109,7 +106,10 @@ impl<Y: Yard, R: Wait + Clock + Copy + Drop> SharedState<Y, R> {
 
 impl<Y: Yard, R: Wait + Clock + Drop> SharedState<Y, R> {
     /// The build of this number, and by what it is cancelled. None where there is no such build.
-    pub fn build(&self, number: u64) -> Option<(&Build, &BuildCancel)> {
+    pub fn build(&self, number: u64) -> Option<(&Build, &BuildCancel)>
+        ensures { option_map (λ both. (both.0.now, both.1.now)) result
+            ≡ both_at number self.now.config.builds self.now.cancels.items }
+    {
         let build = self.config.builds.as_slice().get(number as usize)?;
         Some((build, self.cancels.get(number as usize)?))
     }
@@ -117,7 +117,9 @@ impl<Y: Yard, R: Wait + Clock + Drop> SharedState<Y, R> {
     /// Calls a build that is to be cancelled. It tells itself that it obeys.
     pub fn cancel(&self, build: u64) {
         if let Some(cancel) = self.cancels.get(build as usize) {
-            self.drain_gate.call_builds(cancel.set());
+            cancel.flag.store(true, Ordering::SeqCst);
+            let lane = cancel.lane.load(Ordering::SeqCst);
+            self.drain_gate.call_builds(lane as usize);
         }
     }
 

@@ -1,5 +1,8 @@
 //! What the acceptor waits for: a connection, or the master's end.
 
+ghost use Rattle.std.specs.Prelude.{◌≡◌, [], IfSome};
+ghost use Rattle.mio.specs.Events.{capacity, items};
+
 use mio::unix::SourceFd;
 use mio::{Events, Interest, Poll, Token, Waker};
 use std::alloc::Global;
@@ -36,7 +39,10 @@ pub fn open_sockets<R: Net>(
     rt: &R,
     alloc: Global,
     listener: &TcpListener,
-) -> Option<(SocketEvents, AcceptorWaker)> {
+) -> Option<(SocketEvents, AcceptorWaker)>
+    ensures events { IfSome result (λ both. items both.0.events ≡ []) }
+    ensures room { IfSome result (λ both. capacity both.0.events ≡ MOST_EVENTS) }
+{
     let poll = Poll::new(rt).ok()?;
     let events = Events::with_capacity(alloc, MOST_EVENTS).ok()?;
     let fd = listener.as_raw_fd();

@@ -1,5 +1,9 @@
 //! The web, which is served until the coordinator ends it.
 
+ghost use Rattle.std.specs.Prelude.{◌≡◌, ◌*◌, ◌&&◌, false, not, true};
+ghost use Rattle.std.specs.Duration.{as_nanos};
+ghost use Rattle.bm_master_threads.specs.Stopping.{Waits};
+
 use crate::events::{EventSender, MasterEvent};
 use crate::shared_state::SharedState;
 use bm_lane::Yard;
@@ -36,6 +40,40 @@ struct StopSignal {
     going_on: Option<oneshot::Sender<()>>,
 }
 
+impl StopSignal {
+    ghost use Rattle.std.specs.Prelude.{None};
+
+    // Nobody serves yet, and nobody has ended it.
+    fn new() -> StopSignal
+        ensures { result ≡ record { is_over = false; going_on = None } }
+    {
+        StopSignal {
+            is_over: false,
+            going_on: None,
+        }
+    }
+
+    // Ends whoever serves, and lets nobody serve any more.
+    fn end(&mut self)
+        ensures { self.new ≡ record { is_over = true; going_on = None } }
+    {
+        self.is_over = true;
+        self.going_on = None;
+    }
+
+    // What tells that the web is to end. None where it was ended.
+    fn wait_for(&mut self, alloc: Global) -> Result<Option<oneshot::Receiver<()>>, AllocError>
+        ensures { Waits result self.old self.new }
+    {
+        if self.is_over {
+            return Ok(None);
+        }
+        let (going_on, stopped) = oneshot::channel(alloc)?;
+        self.going_on = Some(going_on);
+        Ok(Some(stopped))
+    }
+}
+
 /// Where the coordinator ends the web. It holds what ends the serving that goes on.
 #[derive(Drop)]
 pub struct WebStop {
@@ -46,18 +84,13 @@ impl WebStop {
     /// Nobody serves yet, and nobody has ended it.
     pub fn new() -> WebStop {
         WebStop {
-            signal: Mutex::new(StopSignal {
-                is_over: false,
-                going_on: None,
-            }),
+            signal: Mutex::new(StopSignal::new()),
         }
     }
 
     /// Ends what is served, and lets nothing be served any more.
     pub fn end<R: Wait>(&self, rt: &R) {
-        let mut signal = self.signal.lock(rt);
-        signal.is_over = true;
-        signal.going_on = None;
+        self.signal.lock(rt).end();
     }
 
     // What tells that the web is to end. None where it was ended.
@@ -66,13 +99,7 @@ impl WebStop {
         rt: &R,
         alloc: Global,
     ) -> Result<Option<oneshot::Receiver<()>>, AllocError> {
-        let mut signal = self.signal.lock(rt);
-        if signal.is_over {
-            return Ok(None);
-        }
-        let (going_on, stopped) = oneshot::channel(alloc)?;
-        signal.going_on = Some(going_on);
-        Ok(Some(stopped))
+        self.signal.lock(rt).wait_for(alloc)
     }
 }
 
@@ -112,12 +139,34 @@ where
             Ok(None) => return,
             Err(_) => is_served = false,
         }
-        if was_served && !is_served {
+        if is_told(was_served, is_served) {
             shared.events.tell(rt, MasterEvent::Paused);
         }
         thread::sleep(rt, Duration::from_millis(PAUSE_MS));
     }
     unreachable!()
+}
+
+// Whether it is told that the web isn't served: once, as that begins.
+fn is_told(was_served: bool, is_served: bool) -> bool
+    ensures { result ≡ was_served && not is_served }
+{
+    was_served && !is_served
+}
+
+// Within what bounds the web is served.
+fn limits() -> WebLimits
+    ensures threads { result.workers ≡ THREADS }
+    ensures connections { result.connections ≡ CONNECTIONS }
+    ensures idle { as_nanos result.idle ≡ IDLE_SECONDS * 1_000_000_000 }
+    ensures stalled { as_nanos result.stalled ≡ STALLED_SECONDS * 1_000_000_000 }
+{
+    WebLimits {
+        workers: THREADS,
+        connections: CONNECTIONS,
+        idle: Duration::from_secs(IDLE_SECONDS),
+        stalled: Duration::from_secs(STALLED_SECONDS),
+    }
 }
 
 // Serves the logs until they need not be served, or memory is wanting for it. False where that is
@@ -137,11 +186,5 @@ where
     let (Ok(listener), Ok(logs)) = (listener.try_clone(), Arc::try_clone(logs)) else {
         return false;
     };
-    let limits = WebLimits {
-        workers: THREADS,
-        connections: CONNECTIONS,
-        idle: Duration::from_secs(IDLE_SECONDS),
-        stalled: Duration::from_secs(STALLED_SECONDS),
-    };
-    serve(rt, limits, listener, logs, pauses, stopped).is_ok()
+    serve(rt, limits(), listener, logs, pauses, stopped).is_ok()
 }
