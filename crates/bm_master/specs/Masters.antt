@@ -1,5 +1,5 @@
 -- What a master does at an input, and what each of its effects says.
-use Rattle.std.specs.Prelude.{◌≡◌, ◌⊎◌, ◌<◌, ◌-◌, ℕ, Bool, true, false, if◌then◌else◌, List, length, slice_get, slice_set, Option, Some, None, Ok, position, ⊤}
+use Rattle.std.specs.Prelude.{◌≡◌, ◌⊎◌, ◌<◌, ◌-◌, ◌||◌, ℕ, nat_lt, Bool, true, false, if◌then◌else◌, List, length, slice_get, slice_set, Option, Some, None, Ok, position, ⊤}
 use Rattle.std.specs.List.{list_any}
 use Rattle.std.specs.Option.{option_map}
 use Rattle.bm_session.specs.declared.results.Results.{Results}
@@ -9,7 +9,9 @@ use Rattle.bm_build_queue.specs.BuildQueue.{QueueState, after_cancel, with_board
 use Rattle.bm_build_queue.specs.Cancels.{met_by}
 use Rattle.bm_build_queue.specs.declared.build_queue.Cancelled.{Cancelled}
 use Rattle.bm_build_queue.specs.declared.build_queue.Cancelled.TheVariants as met
+use Rattle.bm_latent.specs.declared.worker_event.WorkerEvent.{WorkerEvent}
 use Rattle.bm_latent.specs.declared.worker_input.WorkerInput.{WorkerInput}
+use Rattle.bm_latent.specs.declared.worker_input.WorkerInput.TheVariants as came
 use Rattle.bm_latent.specs.WorkerMachine.{effect_of, machine_after}
 use Rattle.bm_master.specs.declared.build_start.StartFate.TheVariants as fated
 use Rattle.bm_master.specs.declared.known_worker.WorkerAct.{WorkerAct}
@@ -22,12 +24,13 @@ use Rattle.bm_master.specs.declared.values.MasterRemark.{MasterRemark}
 use Rattle.bm_master.specs.declared.values.MasterRemark.TheVariants as news
 use Rattle.bm_master.specs.declared.values.MasterInput.{MasterInput}
 use Rattle.bm_master.specs.declared.values.MasterInput.TheVariants as given
+use Rattle.bm_master.specs.declared.values.FinishedBuild.{FinishedBuild}
 use Rattle.bm_master.specs.declared.values.MasterEffect.{MasterEffect}
 use Rattle.bm_master.specs.declared.values.MasterEffect.TheVariants as order
 use Rattle.bm_master.specs.BuildStarts.{fate}
-use Rattle.bm_master.specs.Builds.{BuildsView, IsNext, noted, opened}
+use Rattle.bm_master.specs.Builds.{BuildsView, IsNext, is_short, noted, opened}
 use Rattle.bm_master.specs.Flow.{FlowView, begun_flow, flow_after, step_of}
-use Rattle.bm_master.specs.Held.{is_free}
+use Rattle.bm_master.specs.Held.{IsNotedIn, is_free}
 use Rattle.bm_master.specs.KnownWorkers.{KnownView, first_of, owed_with}
 
 -- The builds, the workers and the flow of its work, and what it is about. What is told next, which
@@ -105,30 +108,31 @@ Follows old new (order.EndProgram at end) = IsFirst old at (act.End end)
 Follows old new (order.ShutDown at) = IsFirst old at act.ShutDown
 Follows old new (order.TellEnded at) = old.ended ≡ Some at
 Follows old new (order.Tell told) = (old.tells ≡ Some told) ⊎ IsSo new told
-Follows old new order.Report = step_of old.flow ≡ flow_step.Report
+Follows old new order.Report =
+    (step_of old.flow ≡ flow_step.Report) × (new.flow ≡ record old.flow { reported = true })
 Follows old new (order.Count timed) =
     (old.unheard ≡ None) × (list_any is_free new.builds.held.places ≡ true) × (new.timed ≡ timed)
 Follows old new order.Listen = IsHeard old new old.unheard
 Follows old new (order.Wait timed counted) = new.timed ≡ timed
 Follows old new order.Hear =
     (old.agenda ≡ topic.Look) × (old.hears ≡ true) × (new ≡ record old { hears = false })
-Follows old new order.Leave = step_of old.flow ≡ flow_step.Leave
+Follows old new order.Leave = (step_of old.flow ≡ flow_step.Leave) × (new.flow ≡ old.flow)
 
 -- An input comes to the machine of the worker at this place. The board is told whether the worker
 -- takes builds. What follows is to be done besides what was.
 abbrev pub Hears : MasterView → MasterView → ℕ → WorkerInput → Type 0
-Hears old new at heard =
+Hears old new at input =
     (w : KnownView) → slice_get old.workers at ≡ Some w
     → (new.workers
     ≡ slice_set old.workers at
     (record w {
-      machine = machine_after w.machine heard;
-      owed = owed_with w.owed (effect_of w.machine heard);
+      machine = machine_after w.machine input;
+      owed = owed_with w.owed (effect_of w.machine input);
     }))
     × (new.owes ≡ true)
     × (at < length old.builds.queue.board.workers
     → new.builds.queue.board
-    ≡ with_ready old.builds.queue.board at (effect_of w.machine heard).action.ready)
+    ≡ with_ready old.builds.queue.board at (effect_of w.machine input).action.ready)
 
 -- The build is cancelled on the board, and an unstarted one of its number notes that. One that runs
 -- is to be cancelled. One that waited is told to have ended with its result.
@@ -158,16 +162,71 @@ IsNoted old new =
     (build : ℕ) (r : Results) → new.tells ≡ Some (news.BuildEnded build r)
     → (old.tells ≡ new.tells) ⊎ (result_on new.builds.queue.board build ≡ Ok (Some r))
 
--- What an input does. What comes of a worker is said where it is heard.
+-- A wait is over. Ticks count where they were waited for, and builds may be started that could not.
+abbrev pub woken : ℕ → MasterView → MasterView
+woken ticks m =
+    if m.timed || m.over
+    then record m {
+      flow = if is_short m.builds then flow_after flow_input.Changed m.flow else m.flow;
+      agenda = if nat_lt 0 ticks then topic.Program 0 else m.agenda;
+      ticks = ticks;
+      hears = true;
+      looks = true;
+    }
+    else record m { hears = true }
+
+-- The thread of a build has ended. Where it brings no result, the master has failed.
+pub record IsEnded {Y : Type 0} (old new : MasterView) (build : FinishedBuild Y) : Type 0 where
+  pub failed : build.result ≡ None → new.builds.failed ≡ true
+  pub unstarted : new.builds.unstarted ≡ old.builds.unstarted
+  pub rest :
+      new
+      ≡ record old {
+        builds = new.builds;
+        flow = flow_after flow_input.Changed old.flow;
+        tells = new.tells;
+        looks = true;
+      }
+
+-- Something has happened to the lane of the worker at this place. Builds may be started by that.
+pub record HearsEvent (old new : MasterView) (at : ℕ) (event : WorkerEvent) : Type 0 where
+  pub heard : Hears old new at (came.Happened event)
+  pub flow : new.flow ≡ flow_after flow_input.Changed old.flow
+  pub tells : new.tells ≡ old.tells
+
+-- A build has started a command. It is noted, where there is memory for it.
+pub record IsCommanded (old new : MasterView) (build command : ℕ) : Type 0 where
+  pub queue : new.builds.queue ≡ old.builds.queue
+  pub noted : IsNotedIn old.builds.held new.builds.held
+      (record { build = build; command = command })
+  pub rest : new ≡ record old { builds = new.builds }
+
+-- the operator's input has ended
+abbrev pub closed : MasterView → MasterView
+closed m = record m { flow = flow_after flow_input.InputEnded m.flow }
+
+-- What an input does.
 abbrev pub Takes : {Y : Type 0} → MasterView → MasterView → MasterInput Y → Type 0
-Takes old new (given.Woke ticks) =
-    (new.builds ≡ old.builds) × (new.unheard ≡ old.unheard) × (new.hears ≡ true)
+Takes old new (given.Woke ticks) = new ≡ woken ticks old
 Takes old new (given.Ready events) = new ≡ record old { unheard = Some events }
 Takes old new given.Quiet = new ≡ record old { unheard = Some 0 }
-Takes old new (given.BuildStarted build worker) = new.builds ≡ old.builds
-Takes old new (given.Commanded build command) = new.builds.queue ≡ old.builds.queue
+Takes old new (given.Worker at event) = HearsEvent old new at event
+Takes old new (given.ProgramStarted at) =
+    Hears old new at came.Started × (new.tells ≡ Some (news.ProgramStarted at))
+Takes old new (given.ProgramRefused at failure) =
+    Hears old new at (came.Refused failure.may_pass)
+Takes old new (given.ProgramEnded at) =
+    Hears old new at came.Ended × (new.tells ≡ Some (news.ProgramEnded at))
+Takes old new (given.BuildStarted build worker) =
+    new ≡ record old { tells = Some (news.BuildStarted build worker) }
+Takes old new (given.BuildRefused build) =
+    (new.agenda ≡ topic.Start 0) × (new.workers ≡ old.workers)
+    × (new.builds
+    ≡ record old.builds {
+      unstarted = Some (record build { start = record build.start { told = true } });
+    })
+Takes old new (given.BuildEnded build) = IsEnded old new build
+Takes old new (given.Commanded build command) = IsCommanded old new build command
 Takes old new (given.Cancel build) = IsCancelled old new build
-Takes old new given.InputEnded =
-    new ≡ record old { flow = flow_after flow_input.InputEnded old.flow }
+Takes old new given.InputEnded = new ≡ closed old
 Takes old new given.Over = new ≡ record old { agenda = topic.End 0; over = true }
-Takes old new other = ⊤

@@ -14,7 +14,7 @@
 //! [`Master::step`] does what `Takes` says. A cancel of a build that runs is kept for its effect. A
 //! wait that is over gives no slot back, and nor does a count of events. An event is asked for once
 //! the ticks before it are told. What comes of a worker reaches its machine, and the board hears
-//! whether it takes builds: `hears` promises that.
+//! whether it takes builds.
 //!
 //! A body could still give no effect or give one too late. It could hold or end a build wrongly:
 //! `hold`, `finish` and `release_free` promise next to nothing. The simulation shows that none

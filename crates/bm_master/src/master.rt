@@ -1,9 +1,10 @@
 //! The machine of a master, and what comes to it.
 
-ghost use Rattle.std.specs.Prelude.{◌≡◌, Some, Ok, true};
+ghost use Rattle.std.specs.Prelude.{◌≡◌, Some, Ok};
 ghost use Rattle.bm_board.specs.Board.{result_on};
 ghost use Rattle.bm_session.specs.declared.results.Results.{Results};
-ghost use Rattle.bm_master.specs.Masters.{Hears, IsCancelled, IsNoted, Takes, begun_master};
+ghost use Rattle.bm_master.specs.Flow.{flow_after};
+ghost use Rattle.bm_master.specs.Masters.{Hears, IsCancelled, IsNoted, Takes, begun_master, woken};
 
 use crate::known_worker::KnownWorker;
 use crate::master_builds::MasterBuilds;
@@ -171,10 +172,7 @@ impl<Y: Yard> Master<Y> {
     // A wait is over. Builds may be started that couldn't be before it, and ticks count, where they
     // were waited for. They ended before the event came that the wait has brought.
     fn wakes(&mut self, ticks: u64)
-        ensures builds { self.new.builds ≡ self.old.builds }
-        ensures tells { self.new.tells ≡ self.old.tells }
-        ensures unheard { self.new.unheard ≡ self.old.unheard }
-        ensures hears { self.new.hears ≡ true }
+        ensures { self.new ≡ woken ticks self.old }
     {
         self.hears = true;
         if !self.is_timed && !self.is_over {
@@ -195,6 +193,8 @@ impl<Y: Yard> Master<Y> {
         ensures heard { Hears self.old self.new at input }
         ensures tells { self.new.tells ≡ self.old.tells }
         ensures over { self.new.over ≡ self.old.over }
+        ensures flow { flow_after FlowInput.Changed self.new.flow
+            ≡ flow_after FlowInput.Changed self.old.flow }
     {
         let Some(worker) = self.workers.get_mut(at) else {
             return false;

@@ -10,7 +10,7 @@ ghost use Rattle.bm_build_queue.specs.Cancels.{met_by};
 ghost use Rattle.bm_build_queue.specs.ViewerPool.{IsGiven};
 ghost use Rattle.bm_latent.specs.StartTries.{tries_after};
 ghost use Rattle.bm_master.specs.Builds.{IsNext, is_short, noted, opened};
-ghost use Rattle.bm_master.specs.Held.{is_free, is_of, is_vacant};
+ghost use Rattle.bm_master.specs.Held.{IsNotedIn, is_free, is_of, is_vacant};
 
 use crate::held_builds::HeldBuilds;
 use crate::unstarted_build::UnstartedBuild;
@@ -258,6 +258,8 @@ impl<Y: Yard> MasterBuilds<Y> {
     /// A build has started this command. It holds its slot until that has ended.
     pub(crate) fn note(&mut self, build: u64, command: u64)
         ensures queue { self.new.queue ≡ self.old.queue }
+        ensures noted { IsNotedIn self.old.held self.new.held
+            (record { build = build; command = command }) }
         ensures unstarted { self.new.unstarted ≡ self.old.unstarted }
         ensures failed { self.new.failed ≡ self.old.failed }
     {
