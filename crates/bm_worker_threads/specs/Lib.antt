@@ -1,7 +1,7 @@
 -- To believe: what is told of a worker's commands, as their machine says. Which session a login
 -- asks for, and when one that begins by it has another text. Which faults of a start may pass. What
 -- the words of the command line ask for, and what a worker does about a connection. By which texts
--- what its commands started is found, and why a sweep wasn't started.
+-- what its commands started is found, and what becomes of a sweep. What is done with processes.
 pub mod Turns
 pub mod SessionTexts
 pub mod Starting
@@ -9,3 +9,4 @@ pub mod Arguments
 pub mod Connections
 pub mod Marks
 pub mod Sweeps
+pub mod Carrying
