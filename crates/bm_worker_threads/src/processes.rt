@@ -109,8 +109,7 @@ impl Processes {
     ) -> Result<(), AllocError>
     where
         R: Host,
-        ensures told { OnOk result (Starts command argv.now outbox.old outbox.new) }
-        ensures number { OnOk result (self.new.queues.started ≡ self.old.queues.started + 1) }
+        ensures { OnOk result (Starts command argv.now outbox.old outbox.new) }
     {
         outbox.open(alloc, command, argv.as_slice())?;
         match self.starts(rt, alloc, command, argv.as_slice())? {
