@@ -1,2 +1,3 @@
--- LastColon: what a split at the last colon of a text gives.
+-- LastColon: what a split at the last colon of a text gives. Changes: what is changed of a process.
 mod LastColon
+mod Changes

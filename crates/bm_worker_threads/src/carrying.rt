@@ -1,9 +1,11 @@
 //! What the machine of the commands asks of the worker's first thread is carried out here.
 
-ghost use Rattle.std.specs.Prelude.{◌≡◌, ◌++◌, OnOk, position};
+ghost use Rattle.std.specs.Prelude.{◌≡◌, ◌≤◌, ◌++◌, ◌∷◌, [], IsSomeAnd, OnOk, false, position};
 ghost use Rattle.bm_commands.specs.Queues.{IsOwn, stepped};
-ghost use Rattle.bm_commands.specs.declared.values.Input.TheVariants.{Turn};
+ghost use Rattle.bm_commands.specs.declared.values.Input.TheVariants.{Ends, Turn};
 ghost use Rattle.bm_outbox.specs.Opening.{waiting_texts};
+ghost use Rattle.bm_worker_threads.specs.Carrying.{ChangesOf, IsKilled, LooksAt, PutsBy};
+ghost use Rattle.bm_worker_threads.specs.Sweeps.{LooksFor};
 ghost use Rattle.bm_worker_threads.specs.Turns.{KeepsBy, TakesText, TellsBy, TellsText, first_text, is_of, part_of, texts_of, without};
 
 use crate::host::Host;
@@ -25,9 +27,27 @@ impl Processes {
         rt: &R,
         alloc: Global,
         input: Input,
-    ) -> Result<(), AllocError> {
+    ) -> Result<(), AllocError>
+        ensures heard { self.new.queues
+            ≡ (stepped self.old.queues self.new.time.last_ms input).0 }
+        ensures later { self.old.time.last_ms ≤ self.new.time.last_ms }
+        ensures parts { OnOk result (PutsBy self.old.marks
+            (stepped self.old.queues self.new.time.last_ms input).1
+            self.old.parts.items self.new.parts.items) }
+    {
         let now_ms = self.time.now(rt);
-        match self.queues.step(input, now_ms) {
+        let effect = self.queues.step(input, now_ms);
+        self.carry(rt, alloc, effect)
+    }
+
+    /// Kills what is to be killed by this.
+    fn carry<R: Host>(&mut self, rt: &R, alloc: Global, effect: Effect) -> Result<(), AllocError>
+        ensures parts { OnOk result
+            (PutsBy self.old.marks effect self.old.parts.items self.new.parts.items) }
+        ensures machine { self.new.queues ≡ self.old.queues }
+        ensures time { self.new.time ≡ self.old.time }
+    {
+        match effect {
             Effect::Kill(process) => self.kill(rt, alloc, process),
             Effect::SweepAll => {
                 self.sweep_all(rt, alloc);
@@ -140,10 +160,18 @@ impl Processes {
     }
 
     /// What a look shows of a process. One of which nothing is there has ended.
-    fn look<R: Host>(&mut self, rt: &R, process: u64) -> ProcessLook {
+    fn look<R: Host>(&mut self, rt: &R, process: u64) -> ProcessLook
+        ensures look { LooksAt (position (is_of process) self.old.parts.items) result
+            self.old.parts.items self.new.parts.items }
+        ensures machine { self.new.queues ≡ self.old.queues }
+        ensures time { self.new.time ≡ self.old.time }
+    {
         match place_of(self.parts.as_slice(), process) {
-            Some(at) => self.parts[at].look(rt),
-            None => {
+            Some(at) if at < self.parts.len() => {
+                let part = &mut self.parts[at];
+                part.look(rt)
+            }
+            _ => {
                 ProcessLook {
                     child: ChildState::Ended(None),
                     sweep: Sweep::Clean,
@@ -162,19 +190,28 @@ impl Processes {
     }
 
     /// Kills a process, and begins the sweep of what it started.
-    fn kill<R: Host>(&mut self, rt: &R, alloc: Global, process: u64) -> Result<(), AllocError> {
-        let Some(at) = place_of(self.parts.as_slice(), process) else {
-            return Ok(());
-        };
-        // A child that can't be killed has ended, or runs as another user.
-        let _ = self.parts[at].child.kill();
-        let mark = self.marks.of_process(process)?;
-        self.parts[at].sweeper = Some(Sweeper::kill(rt, alloc, mark.as_str()));
-        Ok(())
+    fn kill<R: Host>(&mut self, rt: &R, alloc: Global, process: u64) -> Result<(), AllocError>
+        ensures parts { OnOk result (ChangesOf process (IsKilled self.old.marks)
+            self.old.parts.items self.new.parts.items) }
+        ensures machine { self.new.queues ≡ self.old.queues }
+        ensures time { self.new.time ≡ self.old.time }
+    {
+        match place_of(self.parts.as_slice(), process) {
+            Some(at) if at < self.parts.len() => {
+                let part = &mut self.parts[at];
+                part.kill(rt, alloc, &self.marks)
+            }
+            _ => Ok(()),
+        }
     }
 
     /// Kills all processes, and begins the sweep of all that the worker's commands started.
-    fn sweep_all<R: Host>(&mut self, rt: &R, alloc: Global) {
+    fn sweep_all<R: Host>(&mut self, rt: &R, alloc: Global)
+        ensures parts { self.new.parts.items ≡ [] }
+        ensures sweep { IsSomeAnd self.new.last_sweeper (LooksFor (self.old.marks.worker ∷ [])) }
+        ensures machine { self.new.queues ≡ self.old.queues }
+        ensures time { self.new.time ≡ self.old.time }
+    {
         for mut part in mem::replace(&mut self.parts, Vec::new(alloc)) {
             // A child that can't be killed has ended, or runs as another user.
             let _ = part.child.kill();
@@ -184,9 +221,16 @@ impl Processes {
 
     /// Ends all that the worker's commands started, and waits for that for some seconds at the
     /// most.
-    pub(crate) fn end<R: Host>(&mut self, rt: &R, alloc: Global) {
-        // Only a kill of one process wants memory.
-        let _ = self.put(rt, alloc, Input::Ends);
+    pub(crate) fn end<R: Host>(&mut self, rt: &R, alloc: Global)
+        ensures heard { self.new.queues
+            ≡ (stepped self.old.queues self.new.time.last_ms Ends).0 }
+        ensures later { self.old.time.last_ms ≤ self.new.time.last_ms }
+        ensures killed { self.old.queues.is_ending ≡ false → self.new.parts.items ≡ [] }
+    {
+        let now_ms = self.time.now(rt);
+        if let Effect::SweepAll = self.queues.step(Input::Ends, now_ms) {
+            self.sweep_all(rt, alloc);
+        }
         if let Some(sweeper) = &mut self.last_sweeper {
             sweeper.wait(rt);
         }

@@ -1,14 +1,17 @@
 //! What belongs to a process of the worker, under its number.
 
-ghost use Rattle.std.specs.Prelude.{◌≡◌, position};
+ghost use Rattle.std.specs.Prelude.{◌≡◌, OnOk, position};
+ghost use Rattle.std.specs.Process.{child_status};
+ghost use Rattle.bm_worker_threads.specs.Carrying.{AddsText, IsKilled, IsSeen, KeepsRest, sweep_of};
 ghost use Rattle.bm_worker_threads.specs.Turns.{is_of};
 
 use crate::host::Host;
+use crate::marks::Marks;
 use crate::sweeping::Sweeper;
 use bm_commands::{ChildState, ProcessLook};
 use bm_outbox::{Said, Sweep};
 use crossbeam_channel::Sender;
-use std::alloc::Global;
+use std::alloc::{AllocError, Global};
 use std::collections::VecDeque;
 use std::mem;
 use std::process::Child;
@@ -34,8 +37,39 @@ impl ProcessParts {
         mem::replace(&mut self.texts, VecDeque::new(alloc))
     }
 
+    /// Keeps a text behind those that were kept.
+    pub(crate) fn keep(&mut self, said: Said) -> Result<(), AllocError>
+        ensures { OnOk result (AddsText said self.old self.new) }
+    {
+        match self.texts.push_back(said) {
+            Ok(()) => Ok(()),
+            Err(_) => Err(AllocError),
+        }
+    }
+
+    /// Kills it, and begins the sweep of what it started.
+    pub(crate) fn kill<R: Host>(
+        &mut self,
+        rt: &R,
+        alloc: Global,
+        marks: &Marks,
+    ) -> Result<(), AllocError>
+        ensures killed { OnOk result (IsKilled marks.now self.old self.new) }
+        ensures kept { KeepsRest self.old self.new }
+    {
+        // A child that can't be killed has ended, or runs as another user.
+        let _ = self.child.kill();
+        let mark = marks.of_process(self.process)?;
+        self.sweeper = Some(Sweeper::kill(rt, alloc, mark.as_str()));
+        Ok(())
+    }
+
     /// What a look shows of it. A process that can't be asked has ended.
-    pub(crate) fn look<R: Host>(&mut self, rt: &R) -> ProcessLook {
+    pub(crate) fn look<R: Host>(&mut self, rt: &R) -> ProcessLook
+        ensures kept { KeepsRest self.old self.new }
+        ensures sweep { result.sweep ≡ sweep_of self.new.sweeper }
+        ensures child { IsSeen result.child (child_status self.new.child) }
+    {
         let sweep = match &mut self.sweeper {
             Some(sweeper) => sweeper.look(rt),
             None => Sweep::Going,

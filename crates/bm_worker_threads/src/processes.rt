@@ -1,7 +1,9 @@
 //! The processes of the commands that run, and what is told of them.
 
-ghost use Rattle.std.specs.Prelude.{◌≡◌, ◌-◌, OnOk, max};
+ghost use Rattle.std.specs.Prelude.{◌≡◌, ◌≤◌, ◌+◌, ◌-◌, [], IfNone, IfOk, IfSome, None, OnOk, false, max};
+ghost use Rattle.bm_commands.specs.Queues.{admitted, fresh_queues, stepped, wake};
 ghost use Rattle.bm_outbox.specs.Opening.{Starts};
+ghost use Rattle.bm_worker_threads.specs.Carrying.{AddsText, ChangesOf, KeepsText, KeepsTold, PushesStarted, text_input, told_input};
 
 use crate::host::Host;
 use crate::mailbox::{PipeEvent, ProcessEvent, WorkerMail};
@@ -40,7 +42,13 @@ pub struct Processes {
 
 impl Processes {
     /// No process was started.
-    pub(crate) fn new(alloc: Global, marks: Marks) -> Result<Processes, AllocError> {
+    pub(crate) fn new(alloc: Global, marks: Marks) -> Result<Processes, AllocError>
+        ensures machine { IfOk result (λ p. p.queues ≡ fresh_queues) }
+        ensures parts { IfOk result (λ p. p.parts.items ≡ []) }
+        ensures time { IfOk result (λ p. p.time ≡ record { begun = None; last_ms = 0 }) }
+        ensures marks { IfOk result (λ p. p.marks ≡ marks) }
+        ensures sweep { IfOk result (λ p. p.last_sweeper ≡ None) }
+    {
         let (owner, mailbox) = crossbeam_channel::bounded(alloc, MOST_MAIL)?;
         Ok(Processes {
             queues: CommandQueues::new(alloc),
@@ -54,7 +62,13 @@ impl Processes {
     }
 
     /// The mail that comes next. The answer is None where a tick is due first.
-    pub fn wait<R: Wait + Clock>(&mut self, rt: &R) -> Option<WorkerMail> {
+    pub fn wait<R: Wait + Clock>(&mut self, rt: &R) -> Option<WorkerMail>
+        ensures due { IfNone result
+            (IfSome (wake self.old.queues.rows) (λ wake_ms. wake_ms ≤ self.new.time.last_ms)) }
+        ensures later { self.old.time.last_ms ≤ self.new.time.last_ms }
+        ensures machine { self.new.queues ≡ self.old.queues }
+        ensures parts { self.new.parts ≡ self.old.parts }
+    {
         let Some(wake_ms) = self.queues.wake_at() else {
             return self.mailbox.recv(rt).ok();
         };
@@ -70,12 +84,16 @@ impl Processes {
     }
 
     /// The mail that comes next, if any does until then.
-    pub fn wait_until<R: Wait + Clock>(&mut self, rt: &R, deadline: Instant) -> Option<WorkerMail> {
+    pub fn wait_until<R: Wait + Clock>(&mut self, rt: &R, deadline: Instant) -> Option<WorkerMail>
+        ensures { self.new ≡ self.old }
+    {
         self.mailbox.recv_deadline(rt, deadline).ok()
     }
 
     /// The mail that lies ready, if any does.
-    pub fn mail<R: Wait>(&mut self, rt: &R) -> Option<WorkerMail> {
+    pub fn mail<R: Wait>(&mut self, rt: &R) -> Option<WorkerMail>
+        ensures { self.new ≡ self.old }
+    {
         self.mailbox.try_recv(rt).ok()
     }
 
@@ -107,7 +125,11 @@ impl Processes {
         alloc: Global,
         command: u64,
         words: &[Text],
-    ) -> Result<Option<StartFault>, AllocError> {
+    ) -> Result<Option<StartFault>, AllocError>
+        ensures number { OnOk result (self.new.queues.started ≡ self.old.queues.started + 1) }
+        ensures heard { IfOk result (λ why. IfNone why
+            (self.new.queues ≡ admitted command self.new.time.last_ms self.old.queues)) }
+    {
         self.parts.reserve(1)?;
         let now_ms = self.time.now(rt);
         let process = self.queues.admit(command, now_ms)?;
@@ -129,7 +151,11 @@ impl Processes {
         process: u64,
         command: u64,
         words: &[Text],
-    ) -> Result<Result<bool, StartFault>, AllocError> {
+    ) -> Result<Result<bool, StartFault>, AllocError>
+        ensures part { PushesStarted process result self.old.parts.items self.new.parts.items }
+        ensures machine { self.new.queues ≡ self.old.queues }
+        ensures time { self.new.time ≡ self.old.time }
+    {
         let (permits, given) = permits(rt, alloc)?;
         let mark = self.marks.value(process)?;
         let task = |letter| PipeTask {
@@ -169,7 +195,14 @@ impl Processes {
         rt: &R,
         alloc: Global,
         told: ProcessEvent,
-    ) -> Result<(), AllocError> {
+    ) -> Result<(), AllocError>
+        ensures heard { self.new.queues
+            ≡ (stepped self.old.queues self.new.time.last_ms (told_input told.process told.event)).0 }
+        ensures later { self.old.time.last_ms ≤ self.new.time.last_ms }
+        ensures kept { OnOk result (KeepsTold self.old.marks told.process told.event
+            (stepped self.old.queues self.new.time.last_ms (told_input told.process told.event)).1
+            self.old.parts.items self.new.parts.items) }
+    {
         let process = told.process;
         match told.event {
             PipeEvent::Text(said) => self.keep_text(rt, process, said),
@@ -187,18 +220,46 @@ impl Processes {
     }
 
     /// Keeps a text until its command's turn, where it is to be told.
-    fn keep_text<R: Clock>(&mut self, rt: &R, process: u64, said: Said) -> Result<(), AllocError> {
+    fn keep_text<R: Clock>(&mut self, rt: &R, process: u64, said: Said) -> Result<(), AllocError>
+        ensures heard { self.new.queues
+            ≡ (stepped self.old.queues self.new.time.last_ms (text_input process)).0 }
+        ensures later { self.old.time.last_ms ≤ self.new.time.last_ms }
+        ensures kept { OnOk result (KeepsText process said
+            (stepped self.old.queues self.new.time.last_ms (text_input process)).1
+            self.old.parts.items self.new.parts.items) }
+    {
         let now_ms = self.time.now(rt);
         let input = Input::Process(process, ProcessInput::Text);
-        let Effect::Keep = self.queues.step(input, now_ms) else {
-            return Ok(());
-        };
-        let Some(at) = place_of(self.parts.as_slice(), process) else {
-            return Ok(());
-        };
-        match self.parts[at].texts.push_back(said) {
-            Ok(()) => Ok(()),
-            Err(_) => Err(AllocError),
+        let effect = self.queues.step(input, now_ms);
+        self.keep_by(effect, process, said)
+    }
+
+    /// Keeps a text where this says so.
+    fn keep_by(&mut self, effect: Effect, process: u64, said: Said) -> Result<(), AllocError>
+        ensures kept { OnOk result
+            (KeepsText process said effect self.old.parts.items self.new.parts.items) }
+        ensures machine { self.new.queues ≡ self.old.queues }
+        ensures time { self.new.time ≡ self.old.time }
+    {
+        match effect {
+            Effect::Keep => self.add_text(process, said),
+            _ => Ok(()),
+        }
+    }
+
+    /// Keeps a text at the end of those of its process.
+    fn add_text(&mut self, process: u64, said: Said) -> Result<(), AllocError>
+        ensures kept { OnOk result (ChangesOf process (AddsText said)
+            self.old.parts.items self.new.parts.items) }
+        ensures machine { self.new.queues ≡ self.old.queues }
+        ensures time { self.new.time ≡ self.old.time }
+    {
+        match place_of(self.parts.as_slice(), process) {
+            Some(at) if at < self.parts.len() => {
+                let part = &mut self.parts[at];
+                part.keep(said)
+            }
+            _ => Ok(()),
         }
     }
 }
@@ -212,7 +273,9 @@ fn pause_until(wake_ms: u64, now_ms: u64) -> u64
 }
 
 /// False where there is no pipe, or no thread that takes it.
-fn gives<R: Wait, P: Drop>(rt: &R, thread: &Sender<P>, pipe: Option<P>) -> bool {
+fn gives<R: Wait, P: Drop>(rt: &R, thread: &Sender<P>, pipe: Option<P>) -> bool
+    ensures { IfNone pipe (result ≡ false) }
+{
     match pipe {
         Some(pipe) => thread.send(rt, pipe).is_ok(),
         None => false,

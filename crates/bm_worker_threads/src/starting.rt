@@ -1,7 +1,8 @@
 //! How the process of a command is started.
 
-ghost use Rattle.std.specs.Prelude.{◌≡◌};
-ghost use Rattle.bm_worker_threads.specs.Starting.{may_pass};
+ghost use Rattle.std.specs.Prelude.{◌≡◌, ◌++◌, IfOk, OnOk, Some, drop};
+ghost use Rattle.std.specs.Process.{SameEnv, SameOtherVars, SameProgramAndArgs, clears_env, command_args, command_program, command_var};
+ghost use Rattle.bm_worker_threads.specs.Starting.{IsCommand, may_pass, program_of, variable};
 
 use crate::host::Host;
 use crate::marks::VARIABLE;
@@ -79,14 +80,9 @@ fn started_once<R: Host>(
     words: &[Text],
     mark: &str,
 ) -> Result<Child, StartFault> {
-    match command_of(alloc, words, mark) {
-        Ok(mut command) => spawned(rt, &mut command),
-        Err(_) => Err(StartFault::NoMemory),
-    }
-}
-
-/// The process of a command, or why it can't be started.
-fn spawned<R: Host>(rt: &R, command: &mut Command) -> Result<Child, StartFault> {
+    let Ok(mut command) = command_of(alloc, words, mark) else {
+        return Err(StartFault::NoMemory);
+    };
     match command.spawn(rt) {
         Ok(child) => Ok(child),
         Err(error) => Err(StartFault::of(&error)),
@@ -94,26 +90,49 @@ fn spawned<R: Host>(rt: &R, command: &mut Command) -> Result<Child, StartFault> 
 }
 
 /// The command of these words and this mark. One without words has no program.
-fn command_of(alloc: Global, words: &[Text], mark: &str) -> Result<Command, AllocError> {
+fn command_of(alloc: Global, words: &[Text], mark: &str) -> Result<Command, AllocError>
+    ensures { IfOk result (IsCommand words.now mark.now) }
+{
     let mut command = Command::new(alloc, program_of(words))?;
-    fill(&mut command, words, mark)?;
+    set_streams(&mut command, mark)?;
+    add_words(&mut command, words)?;
     Ok(command)
 }
 
-fn program_of(words: &[Text]) -> &str {
+fn program_of(words: &[Text]) -> &str
+    ensures { result.now ≡ program_of words.now }
+{
     match words.first() {
         Some(first) => first.as_str(),
         None => "",
     }
 }
 
-/// Gives a command its streams, its mark, and the words behind the first one.
-fn fill(command: &mut Command, words: &[Text], mark: &str) -> Result<(), AllocError> {
+/// Gives a command its streams and its mark.
+fn set_streams(command: &mut Command, mark: &str) -> Result<(), AllocError>
+    ensures marked { OnOk result (command_var command.new variable ≡ Some (Some mark.now)) }
+    ensures others { OnOk result (SameOtherVars command.old command.new variable) }
+    ensures words { OnOk result (SameProgramAndArgs command.old command.new) }
+    ensures inherits { OnOk result (clears_env command.new ≡ clears_env command.old) }
+{
     command.stdin(Stdio::null());
     command.stdout(Stdio::piped());
     command.stderr(Stdio::piped());
     command.env(VARIABLE, mark)?;
-    for word in words.iter().skip(1) {
+    Ok(())
+}
+
+/// Gives a command the words behind the first one.
+fn add_words(command: &mut Command, words: &[Text]) -> Result<(), AllocError>
+    ensures words { OnOk result
+        (command_args command.new ≡ command_args command.old ++ drop 1 words.now) }
+    ensures program { OnOk result (command_program command.new ≡ command_program command.old) }
+    ensures env { OnOk result (SameEnv command.old command.new) }
+{
+    let Some((_, rest)) = words.split_first() else {
+        return Ok(());
+    };
+    for word in rest {
         command.arg(word.as_str())?;
     }
     Ok(())

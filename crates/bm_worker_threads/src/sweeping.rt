@@ -1,14 +1,16 @@
 //! Processes that carry a mark are looked for and killed, by a script that nobody waits for.
 
-ghost use Rattle.std.specs.Prelude.{◌≡◌};
+ghost use Rattle.std.specs.Prelude.{◌≡◌, ◌+◌, ◌-◌, ◌^◌, ◌∷◌, ◌++◌, [], IfNone, IfOk, MatchResult, None, OnErr, OnOk, Some, codes, if◌then◌else◌, is_ok, min, true};
 ghost use Rattle.std.specs.IoError.{error_kind};
-ghost use Rattle.bm_worker_threads.specs.Sweeps.{awaited, is_begun_again, unstarted};
+ghost use Rattle.std.specs.Option.{option_copied, option_to_list};
+ghost use Rattle.std.specs.Process.{command_args, command_program};
+ghost use Rattle.bm_worker_threads.specs.Sweeps.{Goes, IsShell, LooksFor, awaited, begun_after, has_failed, is_begun_again, seen, unstarted};
 
 use crate::host::Host;
 use bm_outbox::Sweep;
 use std::alloc::{AllocError, Global};
 use std::io::ErrorKind;
-use std::process::{Child, Command, Stdio};
+use std::process::{Child, Command, Processes, Stdio};
 use std::time::Duration;
 use std::{io, thread};
 
@@ -140,8 +142,10 @@ pub(crate) struct Sweeper {
 
 impl Sweeper {
     /// Looks for what carries this mark, and kills it.
-    pub(crate) fn kill<R: Host>(rt: &R, alloc: Global, mark: &str) -> Sweeper {
-        Sweeper::of(script(alloc, &[mark]), rt)
+    pub(crate) fn kill<R: Host>(rt: &R, alloc: Global, mark: &str) -> Sweeper
+        ensures { LooksFor (mark.now ∷ []) result }
+    {
+        Sweeper::of(script(alloc, mark, None), rt)
     }
 
     /// Looks for what workers left that are no longer there, and kills it. Their marks begin so.
@@ -152,10 +156,17 @@ impl Sweeper {
         place: &str,
         outer: &str,
     ) -> Sweeper {
-        Sweeper::of(script(alloc, &[place, outer]), rt)
+        Sweeper::of(script(alloc, place, Some(outer)), rt)
     }
 
-    fn of<R: Host>(command: Result<Command, AllocError>, rt: &R) -> Sweeper {
+    /// A sweep by this command, which was begun once. Without a command it has failed for good.
+    fn of<R: Host>(command: Result<Command, AllocError>, rt: &R) -> Sweeper
+        ensures command { MatchResult command
+            (λ c. result.command ≡ Some c) (λ _. result.command ≡ None) }
+        ensures begun { result.begun ≡ (if is_ok command then 1 else 250) }
+        ensures goes { Goes result }
+        ensures failed { OnErr command (has_failed (seen result) ≡ true) }
+    {
         let Ok(command) = command else {
             return Sweeper {
                 command: None,
@@ -175,12 +186,17 @@ impl Sweeper {
     }
 
     /// Begins it, or begins it again.
-    fn begin<R: Host>(&mut self, rt: &R) {
+    fn begin<R: Host>(&mut self, rt: &R)
+        ensures begun { self.new.begun ≡ min (self.old.begun + 1) (2 ^ 32 - 1) }
+        ensures command { self.new.command ≡ self.old.command }
+        ensures goes { IfNone self.old.child (Goes self.new) }
+    {
         self.begun = self.begun.saturating_add(1);
-        let Some(command) = &mut self.command else {
+        let Some(command) = &self.command else {
             return;
         };
-        match command.spawn(rt) {
+        let none = Stdio::null();
+        match Processes::spawn(rt, command, &none, &none, &none) {
             Ok(child) => {
                 self.child = Some(child);
                 self.state = Sweep::Going;
@@ -191,7 +207,12 @@ impl Sweeper {
 
     /// What is known of it, once it was looked at. One that has failed is begun again by a later
     /// look.
-    pub(crate) fn look<R: Host>(&mut self, rt: &R) -> Sweep {
+    pub(crate) fn look<R: Host>(&mut self, rt: &R) -> Sweep
+        ensures told { result ≡ seen self.new }
+        ensures again { IfNone self.old.child
+            (self.new.begun ≡ begun_after self.old.state self.old.begun) }
+        ensures command { self.new.command ≡ self.old.command }
+    {
         match &mut self.child {
             Some(child) => {
                 match child.try_wait() {
@@ -215,7 +236,9 @@ impl Sweeper {
     }
 
     /// Waits for its end, for some five seconds at the most. It goes on by itself then.
-    pub(crate) fn wait<R: Host>(&mut self, rt: &R) {
+    pub(crate) fn wait<R: Host>(&mut self, rt: &R)
+        ensures { self.new.command ≡ self.old.command }
+    {
         for _ in 0..MOST_LOOKS {
             if self.look(rt) != Sweep::Going {
                 return;
@@ -254,22 +277,36 @@ fn unstarted(error: &io::Error) -> Sweep
 }
 
 /// A shell that sweeps with these words.
-fn script(alloc: Global, words: &[&str]) -> Result<Command, AllocError> {
+fn script(alloc: Global, mark: &str, outer: Option<&str>) -> Result<Command, AllocError>
+    ensures { IfOk result (IsShell (mark.now ∷ option_to_list (option_copied outer.entry))) }
+{
     let mut command = Command::new(alloc, "/bin/sh")?;
-    fill(&mut command, words)?;
+    for_script(&mut command, SWEEP)?;
+    for_marks(&mut command, mark, outer)?;
     Ok(command)
 }
 
-/// Gives a shell its script with these words, and no streams.
-fn fill(command: &mut Command, words: &[&str]) -> Result<(), AllocError> {
-    command.stdin(Stdio::null());
-    command.stdout(Stdio::null());
-    command.stderr(Stdio::null());
-    for word in ["-c", SWEEP, "sweep"] {
-        command.arg(word)?;
-    }
-    for word in words {
-        command.arg(*word)?;
+/// Gives a shell this script.
+fn for_script(command: &mut Command, script: &str) -> Result<(), AllocError>
+    ensures words { OnOk result (command_args command.new
+        ≡ command_args command.old ++ codes "-c" ∷ script.now ∷ codes "sweep" ∷ []) }
+    ensures program { OnOk result (command_program command.new ≡ command_program command.old) }
+{
+    command.arg("-c")?;
+    command.arg(script)?;
+    command.arg("sweep")?;
+    Ok(())
+}
+
+/// Gives a script the marks that it looks for.
+fn for_marks(command: &mut Command, mark: &str, outer: Option<&str>) -> Result<(), AllocError>
+    ensures words { OnOk result (command_args command.new
+        ≡ command_args command.old ++ mark.now ∷ option_to_list (option_copied outer.entry)) }
+    ensures program { OnOk result (command_program command.new ≡ command_program command.old) }
+{
+    command.arg(mark)?;
+    if let Some(outer) = outer {
+        command.arg(outer)?;
     }
     Ok(())
 }
