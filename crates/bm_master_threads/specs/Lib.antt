@@ -3,3 +3,7 @@
 pub mod Programs
 pub mod TickWaits
 pub mod Ahead
+-- How the coordinator drives the machine of the master, to be believed.
+pub mod Coordination
+-- What a master begins with, to be believed.
+pub mod Beginnings
