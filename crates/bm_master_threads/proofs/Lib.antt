@@ -1,1 +1,4 @@
+pub mod Hearing
+pub mod Leaving
 mod ProgramLists
+pub mod Totals
