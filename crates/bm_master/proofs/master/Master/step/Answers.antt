@@ -28,8 +28,8 @@ returns-in-ProgramStarted g c =
 pub returns-then-hears : goal.returns-then-hears
 returns-then-hears g c =
     rw c.in-ProgramRefused.is (
-      subst (λ (m : MasterView). Hears c.args.self.now m c.in-ProgramRefused.at (came.Refused c.in-ProgramRefused.failure.may_pass))
-          (sym c.self-in-ProgramRefused.view_is) c.hears-in-ProgramRefused.ensures.heard
+    subst (λ (m : MasterView). Hears c.args.self.now m c.in-ProgramRefused.at (came.Refused c.in-ProgramRefused.failure.may_pass))
+    (sym c.self-in-ProgramRefused.view_is) c.hears-in-ProgramRefused.ensures.heard
     )
 
 pub returns-after-self : goal.returns-after-self
