@@ -1,5 +1,5 @@
 -- What a lane's actor does on a lane that can't be given up yet, and with ticks.
-use Rattle.std.proofs.Common.{◌≡◌, refl, true, false, Result, Ok, Err}
+use Rattle.std.proofs.Common.{◌≡◌, false, Ok, Err}
 use Rattle.bm_lane_actor.specs.LaneStates.{LaneView, GivesUp}
 
 module _ {S : Type 0} where

@@ -299,12 +299,17 @@ module _ {S : Type 0} where
       × Follows remaining contents (input.Ended (is_up turned.state.lane.trace) came) turned heard
       × GivenUp (with_state heard (with_timer heard.state (dismissed heard.state.timer)) true) new
 
-  -- signals are taken, of which each may be there
+  -- a signal is taken, where it was given
+  abbrev pub MayShutDown : (S → Option (List ℕ)) → (S → Option (List ℕ)) → ActorView S → ActorView S → Type 0
+  MayShutDown remaining contents old new = (new ≡ old) ⊎ ShutsWorkerDown remaining contents old new
+
+  abbrev pub MayEnd : (S → Option (List ℕ)) → (S → Option (List ℕ)) → ActorView S → ActorView S → Type 0
+  MayEnd remaining contents old new = (new ≡ old) ⊎ EndsProcess remaining contents old new
+
   abbrev pub Signals : (S → Option (List ℕ)) → (S → Option (List ℕ)) → ActorView S → ActorView S → Type 0
   Signals remaining contents old new =
       (mid : ActorView S)
-      × ((mid ≡ old) ⊎ ShutsWorkerDown remaining contents old mid)
-      × ((new ≡ mid) ⊎ EndsProcess remaining contents mid new)
+      × MayShutDown remaining contents old mid × MayEnd remaining contents mid new
 
   -- a request is obeyed
   abbrev pub Obeys : (S → Option (List ℕ)) → (S → Option (List ℕ)) → LaneRequest S → ActorView S → ActorView S → Type 0

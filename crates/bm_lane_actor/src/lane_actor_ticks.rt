@@ -2,7 +2,7 @@
 
 ghost use Rattle.std.specs.Prelude.{◌≡◌};
 ghost use Rattle.bm_session.specs.Trace.{is_up};
-ghost use Rattle.bm_lane_actor.specs.LaneActors.{CountsTicks, EndsProcess, GivenUp, ShutsWorkerDown, Signals, TickPasses, TurnsWhere, counted_until, ended_ticks, with_state, with_ticks};
+ghost use Rattle.bm_lane_actor.specs.LaneActors.{CountsTicks, EndsProcess, GivenUp, MayEnd, MayShutDown, ShutsWorkerDown, Signals, TickPasses, TurnsWhere, counted_until, ended_ticks, with_state, with_ticks};
 
 use crate::lane_actor::LaneActor;
 use crate::lane_event::EventSink;
@@ -65,9 +65,25 @@ where
         ensures { Signals ⟦<WorkerStream<R> as Read>⟧.remaining
             ⟦<WorkerStream<R> as Write>⟧.contents self.old self.new }
     {
+        self.takes_shut_down();
+        self.takes_end();
+    }
+
+    /// The signal to shut the worker down is taken, where it was given.
+    fn takes_shut_down(&mut self)
+        ensures { MayShutDown ⟦<WorkerStream<R> as Read>⟧.remaining
+            ⟦<WorkerStream<R> as Write>⟧.contents self.old self.new }
+    {
         if self.mailbox.takes(LaneSignal::ShutDown) {
             self.shut_down();
         }
+    }
+
+    /// The signal that the worker's process has ended is taken, where it was given.
+    fn takes_end(&mut self)
+        ensures { MayEnd ⟦<WorkerStream<R> as Read>⟧.remaining
+            ⟦<WorkerStream<R> as Write>⟧.contents self.old self.new }
+    {
         if self.mailbox.takes(LaneSignal::Ended) {
             self.end_process();
         }

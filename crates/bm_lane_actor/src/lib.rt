@@ -12,13 +12,16 @@
 //!
 //! Promised: what each call of it does to lane, link and timers, and that the orders without an
 //! answer are those sent again. The laws of `StepLaws.antt` and `LaneLaws.antt` say what follows of
-//! its two machines over whatever comes. The loops round it have no clauses: a body could still
-//! wait too long, take a request twice or tell no event.
+//! its two machines over whatever comes. `LaneActors.antt` says of each thing that an actor takes
+//! up which input its policy hears, and that nothing else touches the lane. An actor that has ended
+//! hands its lane's end back.
 //!
-//! Tests show what a channel carries and a flag holds, but for `StartProgress::ask`, `reply` and
-//! `SeenFlag::read`. They show that each update's bytes are counted once. Inside the crate these
-//! have clauses: `accept`, `hand_over`, `CancelPolicy`, `StepMeter`, `LoginLimit`, `ReadWatch`,
-//! `StopOrders`, `orders::start`, `answer_start`.
+//! No clause says that an actor takes up each thing that was sent, when it does, or what it tells:
+//! a body could still wait too long, or tell no event. Tests show that, and what a channel carries
+//! and a flag holds, but for `StartProgress::ask`, `reply` and `SeenFlag::read`. They show that
+//! each update's bytes are counted once. Inside the crate these have clauses too: `CancelPolicy`,
+//! `StepMeter`, `StopOrders`, `LoginLimit` with its table, `CallTimes` and what a worker's
+//! connection reads and writes, and what comes back of what a mailbox doesn't take.
 #![tactic(auto)]
 
 mod arrivals;

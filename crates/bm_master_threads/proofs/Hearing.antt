@@ -1,5 +1,5 @@
 -- What the coordinator hears at the end changes nothing of its being done.
-use Rattle.std.proofs.Common.{◌≡◌, ◌∙◌, ℕ, true, Option, Some, None, ap}
+use Rattle.std.proofs.Common.{◌∙◌, ℕ, Option, Some, None, ap}
 use Rattle.bm_lane_actor.specs.declared.lane_event.LaneEvent.{LaneEvent}
 use Rattle.bm_latent.specs.declared.worker_event.WorkerEvent.{WorkerEvent}
 use Rattle.bm_master.specs.Masters.{MasterView}

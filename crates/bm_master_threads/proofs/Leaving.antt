@@ -1,7 +1,7 @@
 -- The coordinator leaves only where the machine has it.
-use Rattle.std.proofs.Common.{◌≡◌, ◌∙◌, ◌&&◌, not, if◌then◌else◌, Bool, true, false, Option, refl, ap}
+use Rattle.std.proofs.Common.{◌≡◌, ◌∙◌, not, Bool, true, false, Option, refl, ap}
 use Rattle.bm_latent.specs.TickCounter.{CounterView}
-use Rattle.bm_master.specs.Flow.{FlowView, step_of}
+use Rattle.bm_master.specs.Flow.{step_of}
 use Rattle.bm_master.specs.Masters.{Follows, MasterView}
 use Rattle.bm_master.specs.declared.master_flow.FlowStep.TheVariants as flow_step
 use Rattle.bm_master.specs.declared.values.MasterEffect.{MasterEffect}

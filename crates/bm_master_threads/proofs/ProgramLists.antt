@@ -1,5 +1,5 @@
 -- Loops over the workers and over their programs.
-use Rattle.std.proofs.Common.{◌≡◌, sym, ◌∙◌, ap, ℕ, ◌+◌, ◌<◌, ◌≤◌, refl, List, [], ◌∷◌, arith, map, length, get_or, zero, suc, take, drop, set, ◌++◌}
+use Rattle.std.proofs.Common.{◌≡◌, ◌∙◌, ap, ℕ, ◌+◌, ◌<◌, ◌≤◌, refl, List, [], ◌∷◌, arith, map, length, get_or, zero, suc, take, drop, set, ◌++◌}
 use Rattle.std.specs.Prelude.{Option}
 use Rattle.bm_config.specs.declared.config.WorkerConfig.{WorkerConfig}
 use Rattle.std.specs.Prelude.{slice_get, Some, None}

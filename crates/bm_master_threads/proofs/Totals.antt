@@ -1,5 +1,5 @@
 -- What the end knows of the ends of the lanes.
-use Rattle.std.proofs.Common.{◌≡◌, ◌∙◌, ℕ, suc, true, Bool, List, [], ◌∷◌, length, Option, Some, None, IfSome, IsSome, Result, refl, sym, ap, absurd}
+use Rattle.std.proofs.Common.{◌≡◌, ◌∙◌, ℕ, suc, List, [], ◌∷◌, length, Option, Some, None, IfSome, IsSome, Result, refl, sym, ap, absurd}
 use Rattle.bm_lane.specs.Ends.{Heard}
 use Rattle.bm_lanes.specs.Totals.{AreTotals}
 use Rattle.bm_lanes.specs.declared.all_ends.LaneTotals.{LaneTotals}

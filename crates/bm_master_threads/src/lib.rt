@@ -6,12 +6,14 @@
 //! Promised: the exit status is that of `bm_operator` for how the builds ended and whether anything
 //! failed. A build runs on its own worker's lane. Everything here is safe, and may wait.
 //!
-//! A body could still start a thread too few, end one too early, or drop an event. The threads'
-//! work is put together here, and only tested. So is why a master could not begin. Inside the
-//! crate `BuildTask`, `TickWait`, `WaitingStream`, `is_ahead`, `leave` and `end` have clauses. So
-//! have the choices: which remark is told of what happens (`tellings.rt`), and whether a refused
-//! connection is told or counted. Also what a line of standard input asks for, and which step the
-//! thread of a build tells of.
+//! The coordinator hands each event that it takes up to the machine once, as the input that the
+//! event is, and each answer to an effect (`Coordination.antt`). It ends only once the input has
+//! ended and the results are written. Each choice round it has a clause: which remark is told,
+//! which refused connection, what a line of standard input asks for, which step a build's thread
+//! tells of, which worker's program is started or ended, and how long the acceptor waits.
+//!
+//! A body could still start a thread too few, end one too early, or never send an event. What
+//! threads, channels and sockets do together is only tested. So is why a master could not begin.
 #![tactic(auto)]
 
 mod acceptor;

@@ -1,5 +1,5 @@
 -- What serving a connection does to a worker's session, to what waits to be told, and to its tries.
-use Rattle.std.specs.Prelude.{◌≡◌, ◌≢◌, ◌≤◌, ◌⊎◌, ℕ, Bool, true, false, ◌==◌, if◌then◌else◌, List, [], ◌∷◌, Option, Some, None, Result, Ok, Err}
+use Rattle.std.specs.Prelude.{◌≡◌, ◌≢◌, ◌⊎◌, ℕ, Bool, true, false, ◌==◌, if◌then◌else◌, List, [], ◌∷◌, Option, None, Result, Ok, Err}
 use Rattle.bm_work.specs.declared.act.WorkAct.{WorkAct}
 use Rattle.bm_work.specs.declared.act.WorkAct.TheVariants as act
 use Rattle.bm_link.specs.declared.fault.LinkFault.{LinkFault}

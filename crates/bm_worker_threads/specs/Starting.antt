@@ -1,5 +1,5 @@
 -- What the process of a command is started by, and which faults of a start may pass within a moment.
-use Rattle.std.specs.Prelude.{◌≡◌, ◌≢◌, ℕ, Bool, true, false, List, [], ◌∷◌, codes, drop, Option, Some, None}
+use Rattle.std.specs.Prelude.{◌≡◌, ◌≢◌, ℕ, Bool, true, false, List, [], ◌∷◌, codes, drop, Some, None}
 use Rattle.std.specs.Process.{clears_env, command_args, command_program, command_var}
 use Rattle.std.specs.declared.alloc.Global.{Global}
 use Rattle.std.specs.declared.process.command.Command.{Command}

@@ -8,12 +8,14 @@
 //! command begins with the line of its words. Words of the command line ask for a worker exactly
 //! where `Arguments` of the specs says. A ready stream gives and takes what its own stream does.
 //! What a turn of a link gives is followed by what it asks, and by nothing else of the session.
-//! Tests show public calls, but for their safety. `Processes::turn` and `new_session` have clauses
-//! that no caller sees, and so have decisions about connections, sweeps and times.
 //!
-//! A body could still leave mail lying, read no pipe, count its time wrongly, or leave an effect
-//! undone. It could end nothing that a command started, or never come back. Threads, pipes,
-//! processes and scripts have no contract: `worker_tests` and the tests of the programs stand in
+//! Inside the crate the machine of the commands hears what a pipe or a process tells once. A text
+//! goes to the end of its own process's texts exactly where the machine keeps it, and an effect
+//! touches its own process alone (`Carrying.antt`). How a connection ends by what its link answers,
+//! when a silent master is asked, and by which words and marks programs are started is exact.
+//!
+//! A body could still leave mail lying, read no pipe, or never come back. What threads, pipes,
+//! processes and scripts do has no contract: `worker_tests` and the tests of the programs stand in
 //! for that.
 #![tactic(auto)]
 
