@@ -5,7 +5,7 @@ use Rattle.std.specs.Time.{instant_nanos}
 use Rattle.std.specs.declared.time.Instant.{Instant}
 use Rattle.core.specs.Duration.{max_nanos}
 
--- When the time for its login is over, when the turn's first read was made, and how long its writes
+-- When the time for its login is over. When the turn's first read was made. How long its writes
 -- have taken since its last read.
 pub record TimesView : Type 0 where
   pub login_ends : Option ℕ

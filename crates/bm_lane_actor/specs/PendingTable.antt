@@ -10,7 +10,7 @@ use Rattle.bm_lane_actor.specs.LoginLimits.{CountView, left}
 abbrev pub has_number : ℕ → Arc PendingLogin Global → Bool
 has_number number login = (arc_value login).number == number
 
--- The connection at this place leaves, and the last one takes its place; it is counted no more,
+-- The connection at this place leaves, and the last one takes its place. It is counted no more,
 -- whether it was put out or not. Where there is none nothing changes.
 abbrev pub LeavesAt : Option ℕ → List (Arc PendingLogin Global) → CountView
     → List (Arc PendingLogin Global) → CountView → Type 0

@@ -148,8 +148,8 @@ Waits old new =
     × (new.step.meter ≡ old.step.meter) × (new.step.none ≡ old.step.none)
     × (new.told ≡ old.told) × (new.refused ≡ old.refused)
 
--- What a build is told of its command: what the machine of its steps answers, by the flag and the
--- log as they were read last. It has waited for a tick or for that command's end. A step that has no
+-- What a build is told of its command is what the machine of its steps answers. The flag and the
+-- log were read right before. It has waited for a tick or for that command's end. A step without a
 -- command was cancelled.
 abbrev pub Polls : PortView → ℕ → Polled → PortView → Type 0
 Polls old k said new =

@@ -167,8 +167,8 @@ where
         self.takes(next)
     }
 
-    /// Waits at the mailbox for what is awaited, and answers what lies there. An arrival says that a
-    /// read may give something.
+    /// Waits at the mailbox for what is awaited, and answers what lies there. An arrival says that
+    /// a read may give something.
     fn wait(&mut self, awaited: Awaited) -> NextRequest<WorkerStream<R>>
         ensures { Waits self.old self.new }
     {

@@ -16,12 +16,12 @@
 //! up which input its policy hears, and that nothing else touches the lane. An actor that has ended
 //! hands its lane's end back.
 //!
-//! No clause says that an actor takes up each thing that was sent, when it does, or what it tells:
-//! a body could still wait too long, or tell no event. Tests show that, and what a channel carries
+//! No clause says that an actor takes up each thing that was sent, when it does, or what it tells.
+//! A body could still wait too long, or tell no event. Tests show that, and what a channel carries
 //! and a flag holds, but for `StartProgress::ask`, `reply` and `SeenFlag::read`. They show that
-//! each update's bytes are counted once. Inside the crate these have clauses too: `CancelPolicy`,
-//! `StepMeter`, `StopOrders`, `LoginLimit` with its table, `CallTimes` and what a worker's
-//! connection reads and writes, and what comes back of what a mailbox doesn't take.
+//! each update's bytes are counted once. Inside the crate `CancelPolicy`, `StepMeter`,
+//! `StopOrders`, `LoginLimit` and `CallTimes` have clauses too. So have the reads and writes of a
+//! worker's connection, and what comes back of what a mailbox doesn't take.
 #![tactic(auto)]
 
 mod arrivals;

@@ -19,7 +19,7 @@ pub(crate) struct StreamFlags {
     pub is_put_out: bool,
 }
 
-/// Whether nothing is read any more: its worker is given up, or its login isn't waited for, since
+/// Whether nothing is read any more. Its worker is given up. Or its login isn't waited for, since
 /// the master ends or another connection has its place. A worker that has logged in may still be
 /// told that the master ends.
 pub(crate) fn is_ended(flags: StreamFlags) -> bool
@@ -65,7 +65,7 @@ pub(crate) fn reads_again(kind: ErrorKind, is_logged_in: bool) -> bool
     matches!(kind, ErrorKind::Interrupted) || !is_logged_in && meets_nothing(kind)
 }
 
-/// Whether a look at what is there says that nothing of the connection is left to read: the peer
+/// Whether a look at what is there says that nothing of the connection is left to read. The peer
 /// has closed it, or it has failed.
 pub(crate) fn ends_peek(answer: &io::Result<usize>) -> bool
     ensures { result ≡ ends_peek answer.now }

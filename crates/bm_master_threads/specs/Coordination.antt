@@ -1,4 +1,4 @@
--- How the coordinator drives the machine of the master: what that hears of an event, and what it is
+-- How the coordinator drives the machine of the master. What that hears of an event, and what it is
 -- told in answer to an effect.
 use Rattle.std.specs.Prelude.{◌≡◌, ◌⊎◌, ◌||◌, ℕ, Bool, true, false, slice_get, Option, Some, None}
 use Rattle.std.specs.Option.{option_map_or}

@@ -65,7 +65,8 @@ abbrev pub unheard : WorkerConfig → KnownView
 unheard w =
     record { machine = fresh (newcomer (latent_of w.latent w.idle_ticks)); waits = no_notice; owed = nothing_owed }
 
--- the program of a worker with these words, which was not started: there is one where there are words
+-- The program of a worker with these words, which was not started. There is one where there are
+-- words.
 abbrev pub IsProgramOf : List ℕ → Option (List (List ℕ)) → Option WorkerProcess → Type 0
 IsProgramOf master (Some words) (Some p) = IsEachPlaced master words p.words × (p.child ≡ None)
 IsProgramOf master None None = ⊤

@@ -1,4 +1,4 @@
--- What the process of a command is started by, and which faults of a start may pass within a moment.
+-- What the process of a command is started by. Which faults of a start may pass within a moment.
 use Rattle.std.specs.Prelude.{◌≡◌, ◌≢◌, ℕ, Bool, true, false, List, [], ◌∷◌, codes, drop, Some, None}
 use Rattle.std.specs.Process.{clears_env, command_args, command_program, command_var}
 use Rattle.std.specs.declared.alloc.Global.{Global}

@@ -169,8 +169,8 @@ impl<S: Read + Write + Drop, K: MaskKeys + Drop> BuildWorker<S, K> {
         }
     }
 
-    /// Does what the time asks for. Where nothing waits to be told, what the machine of the commands
-    /// tells next is to be told.
+    /// Does what the time asks for. Where nothing waits to be told, what the machine of the
+    /// commands tells next is to be told.
     fn tell_next<R: Host>(&mut self, rt: &R, alloc: Global) -> Result<(), AllocError>
         ensures told { TellsMore self.old.session.outbox self.old.session self.new.session }
         ensures texts { self.new.texts ≡ self.old.texts }

@@ -9,10 +9,10 @@
 //! where `Arguments` of the specs says. A ready stream gives and takes what its own stream does.
 //! What a turn of a link gives is followed by what it asks, and by nothing else of the session.
 //!
-//! Inside the crate the machine of the commands hears what a pipe or a process tells once. A text
-//! goes to the end of its own process's texts exactly where the machine keeps it, and an effect
-//! touches its own process alone (`Carrying.antt`). How a connection ends by what its link answers,
-//! when a silent master is asked, and by which words and marks programs are started is exact.
+//! Inside the crate the machine of the commands hears what a pipe or a process tells once. Where
+//! the machine keeps a text, it goes to the end of its own process's texts. An effect touches its
+//! own process alone (`Carrying.antt`). Exact is how a connection ends by what its link answers,
+//! and when a silent master is asked. So are the words and marks by which programs are started.
 //!
 //! A body could still leave mail lying, read no pipe, or never come back. What threads, pipes,
 //! processes and scripts do has no contract: `worker_tests` and the tests of the programs stand in
