@@ -3,7 +3,7 @@
 use Rattle.std.specs.Prelude.{ℕ, ◌+◌, ◌-◌, ◌*◌, ◌^◌, min, nat_lt, nat_le, Bool, true, false, if◌then◌else◌, Option, Some, None, option_map}
 use Rattle.std.specs.Time.{instant_nanos}
 use Rattle.std.specs.declared.time.Instant.{Instant}
-use Rattle.core.specs.Duration.{max_nanos}
+use Rattle.std.specs.Duration.{max_nanos}
 
 -- When the time for its login is over. When the turn's first read was made. How long its writes
 -- have taken since its last read.

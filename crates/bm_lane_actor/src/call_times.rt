@@ -35,7 +35,7 @@ pub(crate) struct CallTimes {
 }
 
 impl Model for CallTimes {
-    ghost use Rattle.core.specs.Duration.{as_nanos};
+    ghost use Rattle.std.specs.Duration.{as_nanos};
     ghost use Rattle.bm_lane_actor.specs.CallTimes.{TimesView, clock_at};
 
     ghost Value = { TimesView };
