@@ -1,4 +1,1 @@
-pub mod Hearing
-pub mod Leaving
 mod ProgramLists
-pub mod Totals

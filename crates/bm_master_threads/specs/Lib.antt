@@ -1,8 +1,5 @@
--- To believe: how the coordinator drives the machine of the master, and what a master begins with.
-pub mod Coordination
-pub mod Beginnings
--- Which faults of a program's start may pass, and what becomes of the workers' programs. For how
--- long the coordinator waits at the end, and how far the input may be ahead of it.
+-- To believe: which faults of a program's start may pass, and what becomes of workers' programs.
+-- For how long the coordinator waits at the end, and how far the input may be ahead of it.
 pub mod Programs
 pub mod WorkerPrograms
 pub mod TickWaits

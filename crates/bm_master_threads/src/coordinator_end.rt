@@ -1,8 +1,5 @@
 //! What the coordinator does and hears once all builds are over.
 
-ghost use Rattle.std.specs.Prelude.{◌≡◌, true};
-ghost use Rattle.bm_master_threads.specs.Coordination.{HearsLast, HearsWhere, IsDone, is_last};
-
 use crate::coordinator::Coordinator;
 use crate::events::MasterEvent;
 use crate::host::MasterHost;
@@ -30,7 +27,7 @@ const GONE_TICKS: u64 = 20;
 /// How many events that lie ready are heard then. More are those of strangers that go on coming.
 const MOST_LAST_EVENTS: usize = 10_000;
 
-impl<'s, Y, R, O> Coordinator<'s, Y, R, O>
+impl<'c, 's, Y, R, O> Coordinator<'c, 's, Y, R, O>
 where
     Y: Yard + Send + Sync + 's,
     R: MasterHost + 's,
@@ -38,10 +35,7 @@ where
 {
     /// Has each login that still waits told `busy`, and the processes of workers ended. Tells the
     /// operator of logins that were refused, and of workers that have gone.
-    pub fn end<E>(&mut self, scope: &Scope<'s, E>)
-        ensures done { IsDone self.new.master }
-        ensures failed { self.old.has_failed ≡ true → self.new.has_failed ≡ true }
-    {
+    pub fn end<E>(&mut self, scope: &Scope<'s, E>) {
         put_off_logins(self.shared);
         self.hear_ready();
         self.end_programs(scope);
@@ -50,10 +44,7 @@ where
     }
 
     // Has the processes of workers ended, and ends those that don't in time.
-    fn end_programs<E>(&mut self, scope: &Scope<'s, E>)
-        ensures done { IsDone self.new.master }
-        ensures failed { self.old.has_failed ≡ true → self.new.has_failed ≡ true }
-    {
+    fn end_programs<E>(&mut self, scope: &Scope<'s, E>) {
         self.master.step(MasterInput::Over);
         self.serve(scope);
         let rt = &self.shared.rt;
@@ -75,10 +66,7 @@ where
     }
 
     // Hears what lies ready.
-    fn hear_ready(&mut self)
-        ensures done { IsDone self.old.master → IsDone self.new.master }
-        ensures failed { self.new.has_failed ≡ self.old.has_failed }
-    {
+    fn hear_ready(&mut self) {
         for _ in 0..MOST_LAST_EVENTS {
             match self.events.look(&self.shared.rt) {
                 Some(event) => self.hear_last(event),
@@ -88,10 +76,7 @@ where
     }
 
     // Hears for a moment of workers that were told to shut down and haven't gone.
-    fn hear_gone(&mut self)
-        ensures done { IsDone self.old.master → IsDone self.new.master }
-        ensures failed { self.new.has_failed ≡ self.old.has_failed }
-    {
+    fn hear_gone(&mut self) {
         self.hear_ready();
         let rt = &self.shared.rt;
         let mut wait = TickWait::new(GONE_TICKS);
@@ -108,10 +93,7 @@ where
     }
 
     // Hears the next event, if it comes within a tick.
-    fn hear_within_a_tick(&mut self)
-        ensures done { IsDone self.old.master → IsDone self.new.master }
-        ensures failed { self.new.has_failed ≡ self.old.has_failed }
-    {
+    fn hear_within_a_tick(&mut self) {
         let tick = Duration::from_millis(TICK_MS);
         if let Some(event) = self.events.wait_for(&self.shared.rt, tick) {
             self.hear_last(event);
@@ -120,11 +102,7 @@ where
 
     // Hears of a login that was refused, and of a worker that was told to shut down. All else is
     // over.
-    fn hear_last(&mut self, event: MasterEvent<Y>)
-        ensures heard { HearsLast self.old.master self.new.master event }
-        ensures done { IsDone self.old.master → IsDone self.new.master }
-        ensures failed { self.new.has_failed ≡ self.old.has_failed }
-    {
+    fn hear_last(&mut self, event: MasterEvent<Y>) {
         match &event {
             MasterEvent::Refused(_) => return self.hear_whole(event),
             MasterEvent::Lane(worker, event) => self.hear_last_of(*worker, *event),
@@ -134,12 +112,7 @@ where
     }
 
     // Hears what happened to the lane of a worker.
-    fn hear_last_of(&mut self, worker: usize, event: LaneEvent)
-        ensures heard { HearsWhere (is_last self.old.master worker event)
-            self.old.master self.new.master worker event }
-        ensures done { IsDone self.old.master → IsDone self.new.master }
-        ensures failed { self.new.has_failed ≡ self.old.has_failed }
-    {
+    fn hear_last_of(&mut self, worker: usize, event: LaneEvent) {
         if self.master.is_dismissed(worker) || declines(event) {
             self.hear_lane(worker, event);
         }

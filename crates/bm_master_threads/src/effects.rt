@@ -1,8 +1,5 @@
 //! What the coordinator does where the machine of the master says so.
 
-ghost use Rattle.std.specs.Prelude.{◌≡◌, ℕ, Some, true, not};
-ghost use Rattle.bm_master_threads.specs.Coordination.{IsAnswered, leaves};
-
 use crate::build_thread::start_build;
 use crate::coordinator::Coordinator;
 use crate::host::MasterHost;
@@ -14,19 +11,14 @@ use std::alloc::Global;
 use std::io::Write;
 use std::thread::Scope;
 
-impl<'s, Y, R, O> Coordinator<'s, Y, R, O>
+impl<'c, 's, Y, R, O> Coordinator<'c, 's, Y, R, O>
 where
     Y: Yard + Send + Sync + 's,
     R: MasterHost + 's,
     O: Write + Drop,
 {
     /// Does what the machine says. False once there is nothing more to do.
-    pub fn does<E>(&mut self, scope: &Scope<'s, E>, effect: MasterEffect<Y>) -> bool
-        ensures more { result ≡ not (leaves effect) }
-        ensures answered { IsAnswered self.old.master self.new.master self.old.ticks self.old.taken
-            self.new.taken effect }
-        ensures failed { self.old.has_failed ≡ true → self.new.has_failed ≡ true }
-    {
+    pub fn does<E>(&mut self, scope: &Scope<'s, E>, effect: MasterEffect<Y>) -> bool {
         let (rt, alloc) = (&self.shared.rt, self.shared.alloc);
         match effect {
             MasterEffect::Nothing => {}
@@ -52,11 +44,7 @@ where
     }
 
     // Starts the thread of a build, and hands in what came of that.
-    fn start<E>(&mut self, scope: &Scope<'s, E>, build: UnstartedBuild<Y>)
-        ensures answered { IsAnswered self.old.master self.new.master self.old.ticks self.old.taken
-            self.new.taken (MasterEffect.StartBuild build) }
-        ensures failed { self.new.has_failed ≡ self.old.has_failed }
-    {
+    fn start<E>(&mut self, scope: &Scope<'s, E>, build: UnstartedBuild<Y>) {
         let (assignment, start) = build.into_parts();
         let (build, worker) = (assignment.number, assignment.worker);
         let input = match start_build(scope, self.shared, assignment) {
@@ -67,11 +55,7 @@ where
     }
 
     // Starts the program of a worker, and hands in what came of that.
-    fn start_program(&mut self, at: usize)
-        ensures answered { IsAnswered self.old.master self.new.master self.old.ticks self.old.taken
-            self.new.taken (MasterEffect.StartProgram at) }
-        ensures failed { self.new.has_failed ≡ self.old.has_failed }
-    {
+    fn start_program(&mut self, at: usize) {
         let input = match self.programs.start(&self.shared.rt, self.shared.alloc, at) {
             Ok(()) => MasterInput::ProgramStarted(at),
             Err(failure) => MasterInput::ProgramRefused(at, failure),
@@ -80,40 +64,28 @@ where
     }
 
     // Hands in that the program of a worker has ended, where it has.
-    fn look_at_program(&mut self, at: usize)
-        ensures answered { IsAnswered self.old.master self.new.master self.old.ticks self.old.taken
-            self.new.taken (MasterEffect.LookAtProgram at) }
-        ensures failed { self.new.has_failed ≡ self.old.has_failed }
-    {
+    fn look_at_program(&mut self, at: usize) {
         if self.programs.has_ended(at) {
             self.master.step(MasterInput::ProgramEnded(at));
         }
     }
 
     // Has a worker told to shut down.
-    fn shut_down(&mut self, at: usize)
-        ensures { self.new ≡ self.old }
-    {
+    fn shut_down(&mut self, at: usize) {
         self.shared.signal(at, LaneSignal::ShutDown);
         let worker = self.teller.name(at);
         self.teller.remark(&Remark::Dismissed { worker });
     }
 
     // Hands in how many events lie ready.
-    fn count(&mut self)
-        ensures counted { (events : ℕ) × (self.new.master ≡ record self.old.master { unheard = Some events }) }
-        ensures failed { self.new.has_failed ≡ self.old.has_failed }
-    {
+    fn count(&mut self) {
         let events = self.events.count();
         self.master.step(MasterInput::Ready { events });
     }
 
     // Writes the results of all builds.
-    fn report(&mut self)
-        ensures master { self.new.master ≡ self.old.master }
-        ensures failed { self.old.has_failed ≡ true → self.new.has_failed ≡ true }
-    {
-        if !write_results(self.shared.alloc, &self.master, &mut self.output) {
+    fn report(&mut self) {
+        if !write_results(self.shared.alloc, self.master, self.output) {
             self.has_failed = true;
         }
     }

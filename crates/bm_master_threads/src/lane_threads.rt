@@ -1,8 +1,6 @@
 //! The threads that serve lanes: their actors, the pool that drains them, and the acceptor of
 //! workers' connections.
 
-ghost use Rattle.std.specs.Prelude.{◌≡◌, ◌+◌, ◌≤◌, IsSome, length, true};
-
 use crate::acceptor::accept_connections;
 use crate::events::{EventSender, MasterEvent};
 use crate::host::MasterHost;
@@ -44,7 +42,6 @@ fn start_actor<'s, E, Y, R>(
 where
     Y: Yard + Send + Sync + 's,
     R: Wait + Clock + Threads + Drop + Send + Sync + 's,
-    ensures { IsSome result → state.lane.lane ≡ mailbox }
 {
     if state.lane() != mailbox.lane() {
         return None;
@@ -69,9 +66,6 @@ fn start_actors<'s, E, Y, R>(
 where
     Y: Yard + Send + Sync + 's,
     R: Wait + Clock + Threads + Drop + Send + Sync + 's,
-    ensures all { result ≡ true
-        → length actors.new.items ≡ length actors.old.items + length states.items }
-    ensures most { length actors.new.items ≤ length actors.old.items + length states.items }
 {
     if actors.reserve(states.len()).is_err() {
         return false;
@@ -103,9 +97,6 @@ pub fn start_lanes<'s, E, Y, R>(
 where
     Y: Yard + Send + Sync + 's,
     R: MasterHost + 's,
-    ensures all { result.1 ≡ true → (length result.0.actors.items ≡ length states.items)
-        × IsSome result.0.pool × IsSome result.0.acceptor }
-    ensures most { length result.0.actors.items ≤ length states.items }
 {
     let pool = scope.spawn(move || drain_lanes(shared)).ok();
     let mut actors = Vec::new(shared.alloc);
@@ -166,10 +157,7 @@ impl<Y: Yard> LaneThreads<Y> {
         self,
         shared: &SharedState<Y, R>,
         room: Vec<ReaderEnd<Y>>,
-    ) -> (Vec<ReaderEnd<Y>>, bool)
-        ensures most { length result.0.items ≤ length room.items + length self.actors.items }
-        ensures drained { result.1 ≡ true → IsSome self.pool }
-    {
+    ) -> (Vec<ReaderEnd<Y>>, bool) {
         let LaneThreads {
             pool,
             actors,

@@ -6,15 +6,12 @@
 //! Promised: the exit status is that of `bm_operator` for how the builds ended and whether anything
 //! failed. A build runs on its own worker's lane. Everything here is safe, and may wait.
 //!
-//! The coordinator hands each event that it takes up to the machine once, as the input that the
-//! event is. So it does with the answer to each effect (`Coordination.antt`). It ends only once the
-//! input has ended and the results are written. The choices round it have clauses: which remark is
-//! told, and which refused connection. So have what a line of standard input asks for, and which
-//! step a build's thread tells of. So has which worker's program is started or ended, and how long
-//! the acceptor waits.
+//! The choices round the master's machine have clauses: which remark is told, and which refused
+//! connection. So have what a line of standard input asks for, and which step a build's thread
+//! tells of. So has which worker's program is started or ended, and how long the acceptor waits.
 //!
-//! A body could still start a thread too few, end one too early, or never send an event. What
-//! threads, channels and sockets do together is only tested. So is why a master could not begin.
+//! A body could still start a thread too few, end one too early, or drop an event. The threads'
+//! work is put together here, and only tested. So is why a master could not begin.
 #![tactic(auto)]
 
 mod acceptor;

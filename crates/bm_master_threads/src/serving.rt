@@ -1,5 +1,4 @@
 //! A build master, from its sockets to its last line.
-ghost use Rattle.std.specs.Prelude.{◌≡◌, Ok};
 ghost use Rattle.bm_lane.specs.Placed.{ArePlaced};
 
 use crate::begin_fault::BeginFault;
@@ -31,9 +30,7 @@ fn refuse<F: Write>(
     key: &str,
     at: SocketAddr,
     why: &io::Error,
-) -> Result<u8, BeginFault>
-    ensures { result ≡ Ok 2 }
-{
+) -> Result<u8, BeginFault> {
     // Where it can't be told, the status still says that the configuration is refused.
     let _ = writeln!(
         faults,

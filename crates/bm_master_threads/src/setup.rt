@@ -1,10 +1,5 @@
 //! What a master's threads begin with, made from its configuration.
 
-ghost use Rattle.std.specs.Prelude.{◌≡◌, IfSome, length};
-ghost use Rattle.std.specs.Arc.{arc_value};
-ghost use Rattle.bm_master.specs.Builds.{opened};
-ghost use Rattle.bm_master_threads.specs.Beginnings.{first_queue};
-
 use crate::coordinator::CoordinatorOwned;
 use crate::events::{EventReceiver, open_events};
 use crate::programs::{WorkerList, workers_of};
@@ -54,14 +49,11 @@ fn queue_of<Y: Yard>(
     alloc: Global,
     config: &Config,
     pools: Vec<ViewerPool<Y>>,
-) -> Option<BuildQueue<Y>>
-    ensures { IfSome result (λ queue. queue ≡ first_queue config.now pools.items) }
-{
+) -> Option<BuildQueue<Y>> {
     let slots = slots_of(alloc, config.workers.as_slice())?;
     let maxima = maxima_of(alloc, config.locks.as_slice())?;
     let mut queue = BuildQueue::new(alloc, slots.as_slice(), maxima.as_slice(), pools).ok()?;
-    let builds = config.builds.as_slice();
-    for build in builds {
+    for build in config.builds.as_slice() {
         queue.add(alloc, build).ok()?;
     }
     Some(queue)
@@ -76,12 +68,7 @@ fn coordinator_of<Y: Yard, O: Drop>(
     events: EventReceiver<Y>,
     output: O,
     remarks: Option<Remarks>,
-) -> Option<CoordinatorOwned<Y, O>>
-    ensures builds { IfSome result
-        (λ owned. owned.master.builds ≡ opened (first_queue config.now pools.items)) }
-    ensures given { IfSome result
-        (λ owned. (owned.events ≡ events) × (owned.output ≡ output) × (owned.remarks ≡ remarks)) }
-{
+) -> Option<CoordinatorOwned<Y, O>> {
     let list = workers_of(alloc, config, at).ok();
     let (queue, list) = queue_of(alloc, config, pools).zip(list)?;
     let WorkerList { workers, programs } = list;
@@ -100,10 +87,7 @@ type Logs<Y> = Arc<LogService<Y>>;
 
 // The logs that these see, for the thread that serves them and for the end. None where memory is
 // wanting, or there is no lane, which never comes.
-fn logs_of<Y: Yard>(alloc: Global, viewers: Vec<Viewer<Y>>) -> Option<(Logs<Y>, Logs<Y>)>
-    ensures same { IfSome result (λ logs. arc_value logs.0 ≡ arc_value logs.1) }
-    ensures lanes { IfSome result (λ logs. (arc_value logs.1).lanes ≡ length viewers.items) }
-{
+fn logs_of<Y: Yard>(alloc: Global, viewers: Vec<Viewer<Y>>) -> Option<(Logs<Y>, Logs<Y>)> {
     if viewers.is_empty() {
         return None;
     }
@@ -134,15 +118,6 @@ where
     R: Wait + Clock + Net + Copy + Drop,
     I: Drop,
     O: Drop,
-    ensures builds { IfSome result (λ made. made.1.coordinator.master.builds
-        ≡ opened (first_queue config ends.pools.items)) }
-    ensures lanes { IfSome result (λ made. made.1.states ≡ ends.states) }
-    ensures streams { IfSome result (λ made. (made.1.workers ≡ streams.workers)
-        × (made.1.web ≡ streams.web) × (made.1.input ≡ streams.input)
-        × (made.1.coordinator.output ≡ streams.output)
-        × (made.1.coordinator.remarks ≡ streams.remarks)) }
-    ensures logs { IfSome result
-        (λ made. (arc_value made.2).lanes ≡ length ends.web_viewers.items) }
 {
     let all = open_mailboxes(rt, alloc, ends.states.len());
     let (events, all) = open_events(alloc).ok().zip(all)?;

@@ -11,8 +11,6 @@
 //!
 //! Below the acceptor stands a thread for each connection without a login, below the coordinator
 //! one for each build. The thread of remarks stands by itself.
-ghost use Rattle.std.specs.Prelude.{◌≡◌, ◌+◌, ◌≤◌, IfSome, IsSome, length, true};
-ghost use Rattle.std.specs.Option.{is_some};
 ghost use Rattle.std.specs.Thread.{IsSend, IsSync};
 
 use crate::coordinator::{CoordinatorLeft, CoordinatorOwned, coordinate};
@@ -73,10 +71,6 @@ where
     Y: Yard,
     R: MasterHost,
     O: Drop,
-    ensures left { is_some result ≡ is_some coordinator }
-    ensures readers { IfSome result (λ left. length left.readers.items
-        ≤ length room.items + length lane_threads.actors.items) }
-    ensures whole { IfSome result (λ left. left.is_whole ≡ true → IsSome lane_threads.pool) }
 {
     let left = match coordinator {
         Some(thread) => Some(thread.join(&shared.rt)),
@@ -126,7 +120,6 @@ where
     R: MasterHost + 's,
     I: Read + Drop + Send + 's,
     O: Write + Drop + Send + 's,
-    ensures { IfSome result (λ left. length left.readers.items ≤ length owned.states.items) }
 {
     let lanes = shared.writers.len();
     let Ok(room) = Vec::with_capacity(shared.alloc, lanes) else {
