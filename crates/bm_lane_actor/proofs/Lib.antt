@@ -1,4 +1,3 @@
-pub mod Acting
 pub mod Carrying
 pub mod Declining
 pub mod Serving
