@@ -1,1 +1,1 @@
-mod ProgramLists
+mod Settling

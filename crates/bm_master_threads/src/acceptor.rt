@@ -8,13 +8,14 @@ ghost use Rattle.mio.specs.Events.{items};
 ghost use Rattle.bm_lane_actor.specs.LoginRefusals.{refusal_in};
 ghost use Rattle.bm_master_threads.specs.Arrivals.{has_connections, is_late, is_none_left, longest_wait};
 
-use crate::events::{MasterEvent, RefusedConnection};
 use crate::shared_state::SharedState;
 use crate::sockets::{LISTENER, SocketEvents};
+use bm_coordinator::MasterEvent;
 use bm_lane::Yard;
 use bm_lane_actor::{LOGIN_MS, PendingLogin, WorkerStream, log_in, refusal_in};
 use bm_link::LinkFault;
 use bm_operator::LoginRefusal;
+use bm_remarks::RefusedConnection;
 use std::alloc::Global;
 use std::net::{SocketAddr, TcpListener, TcpStream};
 use std::sync::atomic::{AtomicBool, Ordering};
@@ -42,9 +43,8 @@ fn refuse<Y: Yard, R: Wait + Clock + Drop>(
     why: LoginRefusal,
 ) {
     let refused = nameless(from, why);
-    shared
-        .events
-        .tell(&shared.rt, MasterEvent::Refused(refused));
+    let base = &shared.base;
+    base.events.tell(&base.rt, MasterEvent::Refused(refused));
 }
 
 // Why a connection isn't taken up whose link met this fault before its login, which took so long.
@@ -73,10 +73,10 @@ where
     R: Wait + Clock + Copy + Drop,
     ensures { IfSome result (λ refused. refused.from ≡ from) }
 {
-    let rt = &shared.rt;
-    let (users, lanes) = (shared.users.as_slice(), shared.lanes.as_slice());
+    let rt = &shared.base.rt;
+    let (users, lanes) = (shared.users.as_slice(), shared.base.lanes.as_slice());
     let mut name = None;
-    let Err(fault) = log_in(rt, shared.alloc, stream, users, lanes, &mut name) else {
+    let Err(fault) = log_in(rt, shared.base.alloc, stream, users, lanes, &mut name) else {
         return None;
     };
     let took = began.and_then(|began| began.elapsed(rt).ok());
@@ -98,9 +98,8 @@ where
     R: Wait + Clock + Copy + Drop,
 {
     if let Some(refused) = refused(shared, stream, from, began, pending) {
-        shared
-            .events
-            .tell(&shared.rt, MasterEvent::Refused(refused));
+        let base = &shared.base;
+        base.events.tell(&base.rt, MasterEvent::Refused(refused));
     }
 }
 
@@ -121,21 +120,21 @@ where
     ensures own { IfOk result (λ e. arc_value e.own ≡ arc_value e.pending) }
     ensures over { IfOk result (λ e. arc_value e.is_over ≡ arc_value shared.now.is_over) }
 {
-    let pending = match shared.logins.enter(&shared.rt, shared.alloc) {
+    let pending = match shared.logins.enter(&shared.base.rt, shared.base.alloc) {
         Ok(pending) => pending,
         Err(why) => return Err(why),
     };
     let number = pending.number();
-    let own = Arc::try_clone(&pending).ok();
-    let is_over = Arc::try_clone(&shared.is_over).ok();
+    let own = Arc::try_clone(&pending);
+    let is_over = Arc::try_clone(&shared.is_over);
     match (own, is_over) {
-        (Some(own), Some(is_over)) => Ok(Entry {
+        (Ok(own), Ok(is_over)) => Ok(Entry {
             pending,
             own,
             is_over,
         }),
         _ => {
-            shared.logins.leave(&shared.rt, number);
+            shared.logins.leave(&shared.base.rt, number);
             Err(LoginRefusal::Memory)
         }
     }
@@ -152,7 +151,7 @@ where
     Y: Yard + Send + Sync + 's,
     R: Wait + Clock + Threads + Copy + Drop + Send + Sync + 's,
 {
-    let rt = &shared.rt;
+    let rt = &shared.base.rt;
     let Entry {
         pending,
         own,
@@ -196,7 +195,7 @@ where
     Y: Yard + Send + Sync + 's,
     R: Wait + Clock + Threads + Copy + Drop + Send + Sync + 's,
 {
-    let rt = &shared.rt;
+    let rt = &shared.base.rt;
     for _ in rt.forever() {
         if shared.is_over.load(Ordering::SeqCst) {
             return false;
@@ -206,7 +205,7 @@ where
             Err(error) if is_none_left(&error) => return false,
             Err(_) => {
                 if !was_paused {
-                    shared.events.tell(rt, MasterEvent::Paused);
+                    shared.base.events.tell(rt, MasterEvent::Paused);
                 }
                 return true;
             }
@@ -249,7 +248,7 @@ where
 {
     let mut sockets = sockets;
     let mut is_paused = false;
-    for _ in shared.rt.forever() {
+    for _ in shared.base.rt.forever() {
         if shared.is_over.load(Ordering::SeqCst) {
             return;
         }
@@ -258,7 +257,7 @@ where
             .poll(&mut sockets.events, longest_wait(is_paused))
             .is_err()
         {
-            thread::sleep(&shared.rt, Duration::from_millis(PAUSE_MS));
+            thread::sleep(&shared.base.rt, Duration::from_millis(PAUSE_MS));
         }
         if has_connections(&sockets) || is_paused {
             is_paused = accept_all(scope, shared, listener, is_paused);
@@ -278,7 +277,7 @@ where
 {
     thread::scope(
         thread::scope_env(),
-        &shared.rt,
+        &shared.base.rt,
         |scope| -> ()
             requires { IsSend Y.row × IsSync Y.row × IsSend R.row × IsSync R.row }
         { serve_sockets(scope, shared, &listener, sockets) },

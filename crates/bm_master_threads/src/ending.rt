@@ -1,15 +1,19 @@
 //! The end of a master: its lanes are settled, and its exit status is decided.
-ghost use Rattle.std.specs.Prelude.{◌≡◌, Bool, [], ◌||◌, not, true};
+ghost use Rattle.std.specs.Prelude.{◌≡◌, Bool, [], ◌||◌, IfSome, IsSomeAnd, length, not, Option, true, Vec};
+ghost use Rattle.std.specs.Arc.{arc_value};
 ghost use Rattle.std.specs.Option.{option_map_or};
+ghost use Rattle.std.specs.declared.alloc.Global.{Global};
+ghost use Rattle.bm_build_queue.specs.BuildQueue.{AreResults};
 ghost use Rattle.bm_operator.specs.Exit.{exit_status};
+ghost use Rattle.bm_session.specs.declared.results.Results.{Results};
 
-use crate::coordinator::CoordinatorLeft;
 use crate::shared_state::SharedState;
 use crate::threads::MasterLeft;
 use bm_build_queue::ViewerPool;
 use bm_config::WorkerConfig;
+use bm_coordinator::write_line;
 use bm_lane::{ReaderEnd, WriterEnd, Yard};
-use bm_lanes::{AllEnds, settle_all};
+use bm_lanes::{AllEnds, LaneTotals, SettleError, settle_all};
 use bm_operator::{OutputLine, status};
 use bm_session::Results;
 use bm_web_server::LogService;
@@ -37,11 +41,6 @@ fn status_of(
     }
 }
 
-/// Writes a line at once. The answer is whether it was written.
-pub fn write_line<O: Write>(alloc: Global, line: OutputLine<'_>, output: &mut O) -> bool {
-    line.write(alloc, output).is_ok() && output.flush().is_ok()
-}
-
 /// Settles the lanes once all threads have ended, and `logs` are served no more. The answer is the
 /// exit status: 0 only where all that was to be done was done, and each build ended well.
 pub fn end<Y, R, O>(
@@ -53,31 +52,26 @@ where
     Y: Yard,
     R: Wait + Clock + Drop,
     O: Write + Drop,
-    ensures { (settled : Bool) × (result ≡ option_map_or
+    ensures { (all : Option (Vec Results Global)) × (settled : Bool)
+        × IfSome all (λ all. AreResults left.coordinator.master.builds.queue.board all.items)
+        × (result ≡ option_map_or
         (λ all. exit_status all.items
-        (left.coordinator.has_failed || not left.is_whole || not settled))
-        left.coordinator.results 1) }
+        ((left.coordinator.failed || left.coordinator.master.builds.failed)
+        || not left.is_whole || not settled)) all 1) }
 {
     let MasterLeft {
         readers,
         coordinator,
         is_whole,
     } = left;
-    let CoordinatorLeft {
-        pools,
-        output,
-        results,
-        has_failed,
-    } = coordinator;
-    let SharedState {
-        rt,
-        alloc,
-        config,
-        writers,
-        ..
-    } = shared;
+    let SharedState { base, writers, .. } = shared;
+    let alloc = base.alloc;
+    let results = coordinator.results(alloc);
+    let has_failed = coordinator.has_failed();
+    let (pools, output) = coordinator.into_ends();
     let ends = all_ends(readers, writers, pools, logs);
-    let is_settled = close(&rt, alloc, config.workers.as_slice(), ends, output);
+    let workers = base.config.workers.as_slice();
+    let is_settled = close(&base.rt, alloc, workers, ends, output);
     status_of(results, has_failed, is_whole, is_settled)
 }
 
@@ -87,7 +81,13 @@ fn all_ends<Y: Yard, R: Wait + Drop>(
     writers: Vec<Mutex<WriterEnd<Y, R>>>,
     pools: Vec<ViewerPool<Y>>,
     logs: Arc<LogService<Y>>,
-) -> Option<AllEnds<Y, R>> {
+) -> Option<AllEnds<Y, R>>
+    ensures readers { IfSome result (λ ends. ends.readers ≡ readers) }
+    ensures writers { IfSome result (λ ends. ends.writers ≡ writers) }
+    ensures pools { IfSome result (λ ends. ends.pools ≡ pools) }
+    ensures viewers { IfSome result
+        (λ ends. length ends.web_viewers.items ≡ (arc_value logs).lanes) }
+{
     match LogService::into_viewers(logs) {
         Some(web_viewers) => Some(AllEnds {
             readers,
@@ -101,13 +101,17 @@ fn all_ends<Y: Yard, R: Wait + Drop>(
 
 // Settles the lanes, and writes what each had. The answer is whether all could be settled and
 // written.
+#[tactic(auto, using(crate::proofs::Settling::as_many))]
 fn close<Y: Yard, R: Wait + Drop, O: Write + Drop>(
     rt: &R,
     alloc: Global,
     workers: &[WorkerConfig],
     ends: Option<AllEnds<Y, R>>,
     output: O,
-) -> bool {
+) -> bool
+    ensures { result ≡ true
+        → IsSomeAnd ends (λ ends. length ends.readers.items ≡ length workers.now) }
+{
     let mut output = output;
     let Some(ends) = ends else {
         return false;
@@ -115,8 +119,23 @@ fn close<Y: Yard, R: Wait + Drop, O: Write + Drop>(
     let Ok(totals) = settle_all(rt, alloc, ends) else {
         return false;
     };
-    let mut is_good = totals.len() == workers.len();
-    for (worker, total) in workers.iter().zip(totals.as_slice()) {
+    let is_each_told = write_totals(alloc, workers, totals.as_slice(), &mut output);
+    if totals.len() == workers.len() {
+        is_each_told
+    } else {
+        false
+    }
+}
+
+// Writes what each lane had. The answer is whether all could be settled and written.
+fn write_totals<O: Write>(
+    alloc: Global,
+    workers: &[WorkerConfig],
+    totals: &[Result<LaneTotals, SettleError>],
+    output: &mut O,
+) -> bool {
+    let mut is_good = true;
+    for (worker, total) in workers.iter().zip(totals) {
         match total {
             Ok(total) => {
                 let lane = OutputLine::Lane {
@@ -124,7 +143,7 @@ fn close<Y: Yard, R: Wait + Drop, O: Write + Drop>(
                     commands: total.commands,
                     lines: total.lines,
                 };
-                is_good = write_line(alloc, lane, &mut output) && is_good;
+                is_good = write_line(alloc, lane, output) && is_good;
             }
             Err(_) => is_good = false,
         }

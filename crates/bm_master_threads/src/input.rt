@@ -1,12 +1,11 @@
 //! Standard input: builds that are to be cancelled.
 
 ghost use Rattle.std.specs.Prelude.{◌≡◌, ◌≤◌, true, false, length, IfNone, IfSome};
-ghost use Rattle.bm_master_threads.specs.Ahead.{is_ahead};
 ghost use Rattle.bm_master_threads.specs.InputLines.{after_byte, asked, is_empty, line_told, no_line, with_byte};
-ghost use Rattle.bm_master_threads.specs.Refusals.{IsHeard};
+ghost use Rattle.bm_remarks.specs.Refusals.{IsHeard};
 
-use crate::events::MasterEvent;
 use crate::shared_state::SharedState;
+use bm_coordinator::MasterEvent;
 use bm_lane::Yard;
 use bm_operator::{RateLimit, read_cancel};
 use crossbeam_channel::{Receiver, Sender, bounded};
@@ -14,9 +13,8 @@ use std::alloc::Global;
 use std::io::{ErrorKind, Read};
 use std::marker::Model;
 use std::sync::Wait;
-use std::sync::atomic::{AtomicU64, Ordering};
 use std::thread::{Scope, Threads};
-use std::time::{Clock, Duration, Instant};
+use std::time::{Clock, Instant};
 
 /// How many bytes of a line are kept, and nothing of a longer one. A line that asks for something
 /// is shorter, unless thousands of zeros stand before its number.
@@ -25,58 +23,6 @@ const MOST_LINE: usize = 4096;
 /// How many lines that ask for nothing are told in a second. Events have room without a bound, and
 /// a file that is no list of lines must not fill the memory.
 const MOST_MISREAD: u32 = 10;
-
-/// How many lines that cancel a build may lie before the coordinator. It hears in turn what comes
-/// from lanes and builds, which lines that come faster must not delay.
-const MOST_AHEAD: u64 = 16;
-
-/// How long the thread waits at once for the coordinator, in milliseconds.
-const AHEAD_MS: u64 = 500;
-
-// Whether so many lines before the coordinator are too many for one more.
-fn is_ahead(lines: u64) -> bool
-    ensures { result ≡ is_ahead lines }
-{
-    lines > MOST_AHEAD
-}
-
-/// How many lines the coordinator was told and has not heard.
-#[derive(Drop)]
-pub struct LinesAhead {
-    count: AtomicU64,
-}
-
-impl LinesAhead {
-    /// No line was told.
-    pub fn new() -> LinesAhead {
-        LinesAhead {
-            count: AtomicU64::new(0),
-        }
-    }
-
-    fn add(&self) {
-        self.count.fetch_add(1, Ordering::SeqCst);
-    }
-
-    /// The coordinator has heard one.
-    pub fn heard(&self) {
-        self.count.fetch_sub(1, Ordering::SeqCst);
-        self.count.wake_all();
-    }
-
-    // Waits until few enough lie before the coordinator.
-    fn wait<R: Wait + Clock>(&self, rt: &R) {
-        for _ in rt.forever() {
-            let count = self.count.load(Ordering::SeqCst);
-            if !is_ahead(count) {
-                return;
-            }
-            let most = Duration::from_millis(AHEAD_MS);
-            self.count
-                .park_timeout(rt, (count & 0xffff_ffff) as u32, most);
-        }
-    }
-}
 
 /// The line that is being read, without its line end. Contracts see what is kept of it. It has room
 /// for all that one may have: else want of memory, later, would lose a cancel.
@@ -204,19 +150,19 @@ where
     ensures line { line.new ≡ no_line }
     ensures limit { IfNone (asked line.old) (IsHeard misread.new.limit) }
 {
-    let (rt, lines) = (&shared.rt, &shared.lines);
+    let (rt, base) = (&shared.base.rt, &shared.base);
     let asked = line.end();
     let is_build = match asked {
-        Some(number) => shared.build(number).is_some(),
+        Some(number) => base.build(number).is_some(),
         None => false,
     };
     match line_told(asked, misread.tells(rt, is_build)) {
         LineTold::Nothing => {}
-        LineTold::Misread => shared.events.tell(rt, MasterEvent::Misread),
+        LineTold::Misread => base.events.tell(rt, MasterEvent::Misread),
         LineTold::Cancel(number) => {
-            lines.add();
-            shared.events.tell(rt, MasterEvent::Cancel(number));
-            lines.wait(rt);
+            base.lines.add();
+            base.events.tell(rt, MasterEvent::Cancel(number));
+            base.lines.wait(rt);
         }
     }
 }
@@ -260,7 +206,7 @@ where
     Y: Yard,
     R: Wait + Clock + Drop,
 {
-    let rt = &shared.rt;
+    let rt = &shared.base.rt;
     let (mut input, mut line) = (input, line);
     let mut piece = [0u8; 512];
     let mut misread = MisreadLimit {
@@ -292,9 +238,10 @@ where
     Y: Yard,
     R: Wait + Clock + Drop,
 {
-    if let Ok(true) = begins.recv(&shared.rt) {
+    let base = &shared.base;
+    if let Ok(true) = begins.recv(&base.rt) {
         read_input(shared, input, line);
-        shared.events.tell(&shared.rt, MasterEvent::InputEnded);
+        base.events.tell(&base.rt, MasterEvent::InputEnded);
     }
 }
 
@@ -310,8 +257,8 @@ where
     R: Wait + Clock + Threads + Drop + Send + Sync + 's,
     I: Read + Drop + Send + 's,
 {
-    let (begin, begins) = bounded(shared.alloc, 1).ok()?;
-    let line = InputLine::new(shared.alloc)?;
+    let (begin, begins) = bounded(shared.base.alloc, 1).ok()?;
+    let line = InputLine::new(shared.base.alloc)?;
     scope
         .spawn(move || read_once_heard(shared, input, line, &begins))
         .ok()?;

@@ -1,11 +1,12 @@
 //! The threads that serve lanes: their actors, the pool that drains them, and the acceptor of
 //! workers' connections.
 
+ghost use Rattle.std.specs.Prelude.{◌≡◌, ◌+◌, false, IfNone, IfSome, IsSome, length, true};
+
 use crate::acceptor::accept_connections;
-use crate::events::{EventSender, MasterEvent};
-use crate::host::MasterHost;
 use crate::shared_state::SharedState;
 use crate::sockets::SocketEvents;
+use bm_coordinator::{EventSender, MasterEvent, MasterHost};
 use bm_lane::{Gate, Pass, ReaderEnd, Yard, writers};
 use bm_lane_actor::{
     EventSink, LaneEvent, LaneSignal, LaneState, Mailbox, WorkerStream, serve_lane,
@@ -42,12 +43,14 @@ fn start_actor<'s, E, Y, R>(
 where
     Y: Yard + Send + Sync + 's,
     R: Wait + Clock + Threads + Drop + Send + Sync + 's,
+    ensures { IfSome result (λ thread. state.lane.lane ≡ mailbox) }
 {
     if state.lane() != mailbox.lane() {
         return None;
     }
-    let (rt, alloc, gate) = (&shared.rt, shared.alloc, &shared.drain_gate);
-    let events = &shared.events;
+    let base = &shared.base;
+    let (rt, alloc, gate) = (&base.rt, base.alloc, &base.drain_gate);
+    let events = &base.events;
     let lane = state.lane() as usize;
     let reporter = LaneReporter { rt, events, lane };
     scope
@@ -97,9 +100,11 @@ pub fn start_lanes<'s, E, Y, R>(
 where
     Y: Yard + Send + Sync + 's,
     R: MasterHost + 's,
+    ensures pool { result.1 ≡ true → IsSome result.0.pool }
+    ensures acceptor { result.1 ≡ true → IsSome result.0.acceptor }
 {
     let pool = scope.spawn(move || drain_lanes(shared)).ok();
-    let mut actors = Vec::new(shared.alloc);
+    let mut actors = Vec::new(shared.base.alloc);
     let have_started = start_actors(scope, shared, states, mailboxes, &mut actors);
     let acceptor = scope
         .spawn(move || accept_connections(shared, workers, sockets))
@@ -121,9 +126,10 @@ where
     Y: Yard + Send + Sync,
     R: Wait + Clock + Threads + Drop + Send + Sync,
 {
-    let (rt, gate, lanes) = (&shared.rt, &shared.drain_gate, shared.writers.as_slice());
-    let threads = shared.config.writers as usize;
-    if writers(rt, shared.alloc, lanes, gate, threads, u64::MAX).is_ok() {
+    let (base, lanes) = (&shared.base, shared.writers.as_slice());
+    let (rt, gate) = (&base.rt, &base.drain_gate);
+    let threads = base.config.writers as usize;
+    if writers(rt, base.alloc, lanes, gate, threads, u64::MAX).is_ok() {
         return true;
     }
     for _ in rt.forever() {
@@ -157,16 +163,18 @@ impl<Y: Yard> LaneThreads<Y> {
         self,
         shared: &SharedState<Y, R>,
         room: Vec<ReaderEnd<Y>>,
-    ) -> (Vec<ReaderEnd<Y>>, bool) {
+    ) -> (Vec<ReaderEnd<Y>>, bool)
+        ensures { IfNone self.pool (result.1 ≡ false) }
+    {
         let LaneThreads {
             pool,
             actors,
             acceptor,
         } = self;
-        let rt = &shared.rt;
+        let rt = &shared.base.rt;
         let mut readers = room;
         shared.is_over.store(true, Ordering::SeqCst);
-        for lane in shared.lanes.iter() {
+        for lane in shared.base.lanes.iter() {
             lane.signal(LaneSignal::Leave);
         }
         for actor in actors {
@@ -176,7 +184,7 @@ impl<Y: Yard> LaneThreads<Y> {
             shared.acceptor.wake();
             acceptor.join(rt);
         }
-        shared.drain_gate.stop();
+        shared.base.drain_gate.stop();
         let is_drained = match pool {
             Some(pool) => pool.join(rt),
             None => false,

@@ -1,20 +1,21 @@
 //! A build master, from its sockets to its last line.
-ghost use Rattle.bm_lane.specs.Placed.{ArePlaced};
+ghost use Rattle.std.specs.Prelude.{◌≡◌, IfSome, length, map, Ok};
+ghost use Rattle.bm_session.specs.Trace.{below};
+ghost use Rattle.bm_lane.specs.Placed.{ArePlaced, new_readers};
 
 use crate::begin_fault::BeginFault;
-use crate::ending::{end, write_line};
-use crate::first_remarks::tell_first;
-use crate::host::MasterHost;
-use crate::remarks::Remarks;
+use crate::ending::end;
 use crate::setup::{MasterStreams, prepare};
 use crate::shared_state::SharedState;
 use crate::threads::{ThreadOwned, run_threads};
 use crate::waiting_stream::WaitingStream;
 use bm_config::{Config, UnknownKey, WorkerConfig};
+use bm_coordinator::MasterHost;
 use bm_lane::{Blank, Yard, ends_of_all};
 use bm_lane_actor::WorkerStream;
 use bm_lanes::{DealtLanes, deal, open_all};
 use bm_operator::{OutputLine, REFUSED};
+use bm_remarks::Remarks;
 use bm_web_server::LogService;
 use std::alloc::Global;
 use std::io;
@@ -30,7 +31,9 @@ fn refuse<F: Write>(
     key: &str,
     at: SocketAddr,
     why: &io::Error,
-) -> Result<u8, BeginFault> {
+) -> Result<u8, BeginFault>
+    ensures { result ≡ Ok REFUSED }
+{
     // Where it can't be told, the status still says that the configuration is refused.
     let _ = writeln!(
         faults,
@@ -102,6 +105,12 @@ fn ends_by_owner<Y: Yard, R: Wait + Clock + Drop>(
     blanks: Vec<Blank<R>>,
 ) -> Option<DealtLanes<Y, R, WorkerStream<R>>>
     requires placed { ArePlaced Y.queue Y.copy 0 blanks.items }
+    ensures readers { IfSome result
+        (λ lanes. map (λ s. s.lane) lanes.states.items ≡ new_readers 0 blanks.items) }
+    ensures writers { IfSome result
+        (λ lanes. length lanes.writers.items ≡ length blanks.items) }
+    ensures web_viewers { IfSome result (λ lanes. map (λ v. v.lane) lanes.web_viewers.items
+        ≡ below (length lanes.web_viewers.items)) }
 {
     match ends_of_all::<Y, R>(alloc, blanks) {
         Ok(all) => deal(alloc, workers, all),
@@ -158,13 +167,9 @@ where
     O: Write + Drop + Send,
 {
     let mut owned = owned;
-    let coordinator = &mut owned.coordinator;
-    if !write_line(shared.alloc, listening, &mut coordinator.output) {
+    if !owned.coordinator.greet(&shared.base, listening, unknown) {
         drop(owned);
         return Err(BeginFault::Output);
-    }
-    if let Some(remarks) = &coordinator.remarks {
-        tell_first(&shared.rt, shared.alloc, remarks, &shared.config, unknown);
     }
     match run_threads(&shared, owned) {
         Some(left) => Ok(end(shared, left, logs)),

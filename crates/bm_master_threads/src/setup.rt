@@ -1,20 +1,24 @@
 //! What a master's threads begin with, made from its configuration.
 
-use crate::coordinator::CoordinatorOwned;
-use crate::events::{EventReceiver, open_events};
-use crate::programs::{WorkerList, workers_of};
-use crate::remarks::Remarks;
+ghost use Rattle.std.specs.Prelude.{◌≡◌, IfSome, length};
+ghost use Rattle.std.specs.Arc.{arc_value};
+ghost use Rattle.std.specs.Option.{is_none};
+
 use crate::shared_state::SharedState;
 use crate::sockets::open_sockets;
 use crate::threads::ThreadOwned;
 use bm_build_queue::{BuildQueue, ViewerPool};
 use bm_config::Config;
+use bm_coordinator::{Coordinator, EventReceiver, open_events};
 use bm_lane::{Viewer, Yard};
 use bm_lane_actor::{Mailboxes, WorkerStream, open_mailboxes};
 use bm_lanes::{DealtLanes, maxima_of, slots_of};
 use bm_master::Master;
+use bm_programs::{WorkerList, workers_of};
+use bm_remarks::Remarks;
 use bm_web_server::LogService;
 use std::alloc::Global;
+use std::io::Write;
 use std::net::{Net, SocketAddr, TcpListener};
 use std::sync::{Arc, Wait};
 use std::time::Clock;
@@ -50,17 +54,20 @@ fn queue_of<Y: Yard>(
     config: &Config,
     pools: Vec<ViewerPool<Y>>,
 ) -> Option<BuildQueue<Y>> {
+    let builds = config.builds.as_slice();
     let slots = slots_of(alloc, config.workers.as_slice())?;
     let maxima = maxima_of(alloc, config.locks.as_slice())?;
     let mut queue = BuildQueue::new(alloc, slots.as_slice(), maxima.as_slice(), pools).ok()?;
-    for build in config.builds.as_slice() {
-        queue.add(alloc, build).ok()?;
+    for build in builds {
+        let Ok(_) = queue.add(alloc, build) else {
+            return None;
+        };
     }
     Some(queue)
 }
 
-// What the coordinator owns at first. `at` is where workers connect. None where memory is wanting.
-fn coordinator_of<Y: Yard, O: Drop>(
+// The coordinator of a configuration. `at` is where workers connect. None where memory is wanting.
+fn coordinator_of<Y: Yard, O: Write + Drop>(
     alloc: Global,
     config: &Config,
     at: SocketAddr,
@@ -68,17 +75,14 @@ fn coordinator_of<Y: Yard, O: Drop>(
     events: EventReceiver<Y>,
     output: O,
     remarks: Option<Remarks>,
-) -> Option<CoordinatorOwned<Y, O>> {
+) -> Option<Coordinator<Y, O>>
+    ensures { IfSome result (λ c. c.failed ≡ is_none remarks) }
+{
     let list = workers_of(alloc, config, at).ok();
     let (queue, list) = queue_of(alloc, config, pools).zip(list)?;
     let WorkerList { workers, programs } = list;
-    Some(CoordinatorOwned {
-        events,
-        master: Master::new(alloc, queue, workers),
-        programs,
-        output,
-        remarks,
-    })
+    let master = Master::new(alloc, queue, workers);
+    Some(Coordinator::new(alloc, events, master, programs, output, remarks))
 }
 
 /// A handle of the logs that the web serves. There are two: in what all threads share the logs
@@ -87,7 +91,11 @@ type Logs<Y> = Arc<LogService<Y>>;
 
 // The logs that these see, for the thread that serves them and for the end. None where memory is
 // wanting, or there is no lane, which never comes.
-fn logs_of<Y: Yard>(alloc: Global, viewers: Vec<Viewer<Y>>) -> Option<(Logs<Y>, Logs<Y>)> {
+fn logs_of<Y: Yard>(alloc: Global, viewers: Vec<Viewer<Y>>) -> Option<(Logs<Y>, Logs<Y>)>
+    ensures lanes { IfSome result
+        (λ both. (arc_value both.1).lanes ≡ length viewers.items) }
+    ensures same { IfSome result (λ both. arc_value both.0 ≡ arc_value both.1) }
+{
     if viewers.is_empty() {
         return None;
     }
@@ -117,7 +125,8 @@ where
     Y: Yard,
     R: Wait + Clock + Net + Copy + Drop,
     I: Drop,
-    O: Drop,
+    O: Write + Drop,
+    ensures { IfSome result (λ r. r.1.states ≡ ends.states) }
 {
     let all = open_mailboxes(rt, alloc, ends.states.len());
     let (events, all) = open_events(alloc).ok().zip(all)?;

@@ -11,15 +11,15 @@
 //!
 //! Below the acceptor stands a thread for each connection without a login, below the coordinator
 //! one for each build. The thread of remarks stands by itself.
+ghost use Rattle.std.specs.Prelude.{◌≡◌, false, IfNone, IfSome, is_some};
 ghost use Rattle.std.specs.Thread.{IsSend, IsSync};
 
-use crate::coordinator::{CoordinatorLeft, CoordinatorOwned, coordinate};
-use crate::host::MasterHost;
 use crate::input::start_input;
 use crate::lane_threads::{LaneThreads, start_lanes};
 use crate::shared_state::SharedState;
 use crate::sockets::SocketEvents;
 use crate::web::serve_web;
+use bm_coordinator::{Coordinator, MasterHost, coordinate};
 use bm_lane::{ReaderEnd, Yard};
 use bm_lane_actor::{LaneState, Mailbox, WorkerStream};
 use bm_web_server::LogService;
@@ -44,7 +44,8 @@ pub struct ThreadOwned<Y: Yard, R: Wait + Clock + Drop, I, O> {
     /// The first thread's: where it serves, and what.
     pub web: TcpListener,
     pub logs: Arc<LogService<Y>>,
-    pub coordinator: CoordinatorOwned<Y, O>,
+    /// The coordinator, which hasn't begun.
+    pub coordinator: Coordinator<Y, O>,
     /// The input thread's.
     pub input: I,
 }
@@ -54,7 +55,7 @@ pub struct ThreadOwned<Y: Yard, R: Wait + Clock + Drop, I, O> {
 pub struct MasterLeft<Y: Yard, O> {
     /// The reader's end of each lane whose actor was started.
     pub readers: Vec<ReaderEnd<Y>>,
-    pub coordinator: CoordinatorLeft<Y, O>,
+    pub coordinator: Coordinator<Y, O>,
     /// Whether the pool did its work to the end.
     pub is_whole: bool,
 }
@@ -63,7 +64,7 @@ pub struct MasterLeft<Y: Yard, O> {
 // coordinator. `room` is for the lanes' reader's ends.
 fn join_all<Y, R, O>(
     shared: &SharedState<Y, R>,
-    coordinator: Option<JoinHandle<CoordinatorLeft<Y, O>>>,
+    coordinator: Option<JoinHandle<Coordinator<Y, O>>>,
     lane_threads: LaneThreads<Y>,
     room: Vec<ReaderEnd<Y>>,
 ) -> Option<MasterLeft<Y, O>>
@@ -71,9 +72,12 @@ where
     Y: Yard,
     R: MasterHost,
     O: Drop,
+    ensures left { is_some result ≡ is_some coordinator }
+    ensures whole { IfSome result
+        (λ left. IfNone lane_threads.pool (left.is_whole ≡ false)) }
 {
     let left = match coordinator {
-        Some(thread) => Some(thread.join(&shared.rt)),
+        Some(thread) => Some(thread.join(&shared.base.rt)),
         None => None,
     };
     let (readers, is_whole) = lane_threads.end(shared, room);
@@ -87,14 +91,29 @@ where
     }
 }
 
+// Does the coordinator's work to its end, and then ends the web.
+fn coordinate_all<Y, R, O>(
+    shared: &SharedState<Y, R>,
+    coordinator: Coordinator<Y, O>,
+) -> Coordinator<Y, O>
+where
+    Y: Yard + Send + Sync,
+    R: MasterHost,
+    O: Write + Drop,
+{
+    let left = coordinate(&shared.base, coordinator);
+    shared.web_stop.end(&shared.base.rt);
+    left
+}
+
 // Starts the coordinator, and the thread that reads the input for it. None where one of them can't
 // be started: a master that hears no input would go on for ever.
 fn start_coordinator<'s, E, Y, R, I, O>(
     scope: &Scope<'s, E>,
     shared: &'s SharedState<Y, R>,
-    coordinator: CoordinatorOwned<Y, O>,
+    coordinator: Coordinator<Y, O>,
     input: I,
-) -> Option<JoinHandle<CoordinatorLeft<Y, O>>>
+) -> Option<JoinHandle<Coordinator<Y, O>>>
 where
     Y: Yard + Send + Sync + 's,
     R: MasterHost + 's,
@@ -102,8 +121,10 @@ where
     O: Write + Drop + Send + 's,
 {
     let begin = start_input(scope, shared, input)?;
-    let thread = scope.spawn(move || coordinate(shared, coordinator)).ok();
-    let _ = begin.send(&shared.rt, thread.is_some());
+    let thread = scope
+        .spawn(move || coordinate_all(shared, coordinator))
+        .ok();
+    let _ = begin.send(&shared.base.rt, thread.is_some());
     thread
 }
 
@@ -122,7 +143,7 @@ where
     O: Write + Drop + Send + 's,
 {
     let lanes = shared.writers.len();
-    let Ok(room) = Vec::with_capacity(shared.alloc, lanes) else {
+    let Ok(room) = Vec::with_capacity(shared.base.alloc, lanes) else {
         drop(owned);
         return None;
     };
@@ -147,7 +168,7 @@ where
         None
     };
     if coordinator.is_none() {
-        shared.web_stop.end(&shared.rt);
+        shared.web_stop.end(&shared.base.rt);
     }
     serve_web(shared, &web, &logs);
     join_all(shared, coordinator, lane_threads, room)
@@ -167,7 +188,7 @@ where
 {
     let left = thread::scope(
         thread::scope_env(),
-        &shared.rt,
+        &shared.base.rt,
         |scope| -> Option<MasterLeft<Y, O>>
             requires { IsSend Y.row × IsSync Y.row × IsSend R.row × IsSync R.row × IsSend I.row
                 × IsSend O.row }

@@ -4,8 +4,8 @@ ghost use Rattle.std.specs.Prelude.{◌≡◌, ◌*◌, ◌&&◌, false, not, tr
 ghost use Rattle.std.specs.Duration.{as_nanos};
 ghost use Rattle.bm_master_threads.specs.Stopping.{Waits};
 
-use crate::events::{EventSender, MasterEvent};
 use crate::shared_state::SharedState;
+use bm_coordinator::{EventSender, MasterEvent};
 use bm_lane::Yard;
 use bm_web_server::{LogService, PauseSink, WebLimits, serve};
 use std::alloc::{AllocError, AllocGlobal, Global};
@@ -127,12 +127,13 @@ where
     Y: Yard + Send + Sync,
     R: Wait + Threads + Clock + RandomSource + AllocGlobal + Net + Copy + Drop + Send + Sync,
 {
-    let rt = &shared.rt;
+    let base = &shared.base;
+    let rt = &base.rt;
     let mut is_served = true;
     for _ in rt.forever() {
         let was_served = is_served;
-        match shared.web_stop.wait_for(rt, shared.alloc) {
-            Ok(Some(stopped)) => is_served = match shared.events.copy() {
+        match shared.web_stop.wait_for(rt, base.alloc) {
+            Ok(Some(stopped)) => is_served = match base.events.copy() {
                 Ok(events) => serve_once(*rt, listener, logs, WebPauses { events }, stopped),
                 Err(_) => false,
             },
@@ -140,7 +141,7 @@ where
             Err(_) => is_served = false,
         }
         if is_told(was_served, is_served) {
-            shared.events.tell(rt, MasterEvent::Paused);
+            base.events.tell(rt, MasterEvent::Paused);
         }
         thread::sleep(rt, Duration::from_millis(PAUSE_MS));
     }

@@ -3,7 +3,7 @@
 -- session a login asks for, and when one that begins by it has another text. Which faults of a
 -- start may pass. What the words of the command line ask for, and what a worker does about a
 -- connection. By which texts what its commands started is found, and what becomes of a sweep. What
--- is done with processes.
+-- is done with processes, and what at a time.
 pub mod Turns
 pub mod SessionTexts
 pub mod Starting
@@ -14,3 +14,4 @@ pub mod Silences
 pub mod Marks
 pub mod Sweeps
 pub mod Carrying
+pub mod Ticks

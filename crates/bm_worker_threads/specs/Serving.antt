@@ -1,8 +1,12 @@
 -- What serving a connection does to a worker's session, to what waits to be told, and to its tries.
 use Rattle.std.specs.Prelude.{◌≡◌, ◌≢◌, ◌⊎◌, ℕ, Bool, true, false, ◌==◌, if◌then◌else◌, List, [], ◌∷◌, Option, None, Result, Ok, Err}
+use Rattle.std.specs.Option.{is_some}
 use Rattle.bm_work.specs.declared.act.WorkAct.{WorkAct}
 use Rattle.bm_work.specs.declared.act.WorkAct.TheVariants as act
+use Rattle.bm_link.specs.Working.{WorkState}
+use Rattle.bm_link.specs.declared.attaching.Attached.{Attached}
 use Rattle.bm_link.specs.declared.fault.LinkFault.{LinkFault}
+use Rattle.bm_link.specs.declared.fault.LinkFault.TheVariants as link_fault
 use Rattle.bm_link.specs.declared.turn.Turn.{Turn}
 use Rattle.bm_link.specs.declared.turn.Turn.TheVariants as turn
 use Rattle.bm_outbox.specs.Opening.{Starts}
@@ -10,10 +14,11 @@ use Rattle.bm_outbox.specs.Tries.{TriesState}
 use Rattle.bm_outbox.specs.declared.outbox_entry.OutboxEntry.{OutboxEntry}
 use Rattle.bm_outbox.specs.declared.keepalive.Keepalive.{Keepalive}
 use Rattle.bm_outbox.specs.declared.keepalive.Keepalive.TheVariants as keep
-use Rattle.bm_worker_session.specs.Sessions.{HearsBy, PingsBy, SendsNext, SessionState, is_closed}
+use Rattle.bm_worker_session.specs.Sessions.{ConnectsBy, HearsBy, PingsBy, SendsNext, SessionState, is_closed}
 use Rattle.bm_worker_session.specs.declared.session_fault.SessionFault.{SessionFault}
 use Rattle.bm_worker_session.specs.declared.session_fault.SessionFault.TheVariants as fault
 use Rattle.bm_worker_threads.specs.Connections.{is_message}
+use Rattle.bm_worker_threads.specs.SessionTexts.{NamedTexts, after_answer, wants_next}
 use Rattle.bm_worker_threads.specs.declared.connection.ConnectionEnd.{ConnectionEnd}
 use Rattle.bm_worker_threads.specs.declared.connection.ConnectionEnd.TheVariants as end
 use Rattle.bm_worker_threads.specs.declared.mailbox.WorkerMail.{WorkerMail}
@@ -57,6 +62,20 @@ DoesAct act.Shutdown old r new = (r ≡ Err end.Shutdown) × (new ≡ old)
 DoesAct a old r new = (r ≡ Ok tt) × (new ≡ old)
 
 module _ {S : Type 0} where
+  -- A login asks for the worker's session, and names a next one as its texts say. Where it wasn't
+  -- answered nothing has changed, and no login was made where no text could be drawn for it.
+  abbrev pub LogsIn : (S → Option (List ℕ)) → (S → Option (List ℕ)) → List ℕ → List ℕ → NamedTexts
+      → WorkState S → SessionState S → Result Attached LinkFault → NamedTexts → SessionState S → Type 0
+  LogsIn remaining contents name password texts link old (Ok a) texts2 new =
+      (next : Option (List ℕ)) × (is_some next ≡ wants_next texts)
+      × (texts2 ≡ after_answer a next texts)
+      × ConnectsBy remaining contents name password texts.session next link old (Ok a) new
+  LogsIn remaining contents name password texts link old (Err f) texts2 new =
+      (texts2 ≡ texts) × (new ≡ old)
+      × (((next : Option (List ℕ)) × (is_some next ≡ wants_next texts)
+      × ConnectsBy remaining contents name password texts.session next link old (Err f) new)
+      ⊎ (f ≡ link_fault.Mem))
+
   -- all but what waits to be told stays
   abbrev pub OnlyTells : SessionState S → SessionState S → Type 0
   OnlyTells old new = new ≡ record old { outbox = new.outbox }

@@ -5,13 +5,14 @@ ghost use Rattle.std.specs.Option.{option_copied};
 ghost use Rattle.bm_link.specs.Texts.{AreShort};
 ghost use Rattle.bm_worker_session.specs.Sessions.{new_session};
 ghost use Rattle.bm_worker_threads.specs.Connections.{keeps_commands};
-ghost use Rattle.bm_worker_threads.specs.Serving.{SendsOn, TellsMore, after_sending, no_tries};
+ghost use Rattle.bm_worker_threads.specs.Serving.{LogsIn, SendsOn, TellsMore, after_sending, no_tries};
 
 use crate::connection::{Connection, ConnectionEnd};
 use crate::host::Host;
 use crate::marks::Marks;
 use crate::processes::Processes;
 use crate::session_texts::SessionTexts;
+use bm_lines::Text;
 use bm_link::{Attached, LinkFault, WorkerLink};
 use bm_outbox::Tries;
 use bm_worker_session::{SessionFault, WorkerSession};
@@ -72,14 +73,15 @@ impl<S: Read + Write + Drop, K: MaskKeys + Drop> BuildWorker<S, K> {
         password: &str,
     ) -> Result<Attached, LinkFault>
         requires { AreShort (name.now ∷ password.now ∷ []) }
+        ensures login { LogsIn S.remaining S.contents name.now password.now self.old.texts link
+            self.old.session result self.new.texts self.new.session }
+        ensures others { self.new
+            ≡ record self.old { session = self.new.session; texts = self.new.texts } }
     {
         let Ok(next) = self.texts.next(rt) else {
             return Err(LinkFault::Mem);
         };
-        let new = match &next {
-            Some(text) => Some(text.as_str()),
-            None => None,
-        };
+        let new = text_in(&next);
         let session = self.texts.session();
         match self
             .session
@@ -203,4 +205,13 @@ fn keeps_commands(attached: Attached) -> bool
     ensures { result ≡ keeps_commands attached }
 {
     attached == Attached::Resumed
+}
+
+fn text_in(text: &Option<Text>) -> Option<&str>
+    ensures { option_copied result ≡ text.now }
+{
+    match text {
+        Some(text) => Some(text.as_str()),
+        None => None,
+    }
 }

@@ -1,11 +1,12 @@
 //! What the machine of the commands asks of the worker's first thread is carried out here.
 
-ghost use Rattle.std.specs.Prelude.{◌≡◌, ◌≤◌, ◌++◌, ◌∷◌, [], IsSomeAnd, OnOk, false, position};
+ghost use Rattle.std.specs.Prelude.{◌≡◌, ◌≤◌, ◌++◌, ◌∷◌, [], IfOk, IsSomeAnd, OnOk, false, position};
 ghost use Rattle.bm_commands.specs.Queues.{IsOwn, stepped};
-ghost use Rattle.bm_commands.specs.declared.values.Input.TheVariants.{Ends, Turn};
+ghost use Rattle.bm_commands.specs.declared.values.Input.TheVariants.{Ends, Tick, Turn};
 ghost use Rattle.bm_outbox.specs.Opening.{waiting_texts};
 ghost use Rattle.bm_worker_threads.specs.Carrying.{ChangesOf, IsKilled, LooksAt, PutsBy};
 ghost use Rattle.bm_worker_threads.specs.Sweeps.{LooksFor};
+ghost use Rattle.bm_worker_threads.specs.Ticks.{AsksOnce, DoesAt, Loses, Ticks, is_asked};
 ghost use Rattle.bm_worker_threads.specs.Turns.{KeepsBy, TakesText, TellsBy, TellsText, first_text, is_of, part_of, texts_of, without};
 
 use crate::host::Host;
@@ -34,6 +35,7 @@ impl Processes {
         ensures parts { OnOk result (PutsBy self.old.marks
             (stepped self.old.queues self.new.time.last_ms input).1
             self.old.parts.items self.new.parts.items) }
+        ensures marks { self.new.marks ≡ self.old.marks }
     {
         let now_ms = self.time.now(rt);
         let effect = self.queues.step(input, now_ms);
@@ -46,6 +48,7 @@ impl Processes {
             (PutsBy self.old.marks effect self.old.parts.items self.new.parts.items) }
         ensures machine { self.new.queues ≡ self.old.queues }
         ensures time { self.new.time ≡ self.old.time }
+        ensures marks { self.new.marks ≡ self.old.marks }
     {
         match effect {
             Effect::Kill(process) => self.kill(rt, alloc, process),
@@ -62,26 +65,68 @@ impl Processes {
     /// # Errors
     ///
     /// Want of memory. Those that are left are killed as the worker ends.
-    pub(crate) fn lose<R: Host>(&mut self, rt: &R, alloc: Global) -> Result<(), AllocError> {
+    pub(crate) fn lose<R: Host>(&mut self, rt: &R, alloc: Global) -> Result<(), AllocError>
+        ensures done { OnOk result (Loses self.old.marks self.new.time.last_ms self.old.queues
+            self.old.parts.items self.new.queues self.new.parts.items) }
+        ensures later { self.old.time.last_ms ≤ self.new.time.last_ms }
+    {
         self.put(rt, alloc, Input::SessionLost)?;
         self.tick(rt, alloc)
     }
 
     /// Does all that the time asks for: lost commands are killed, and processes looked at.
-    pub(crate) fn tick<R: Host>(&mut self, rt: &R, alloc: Global) -> Result<(), AllocError> {
+    pub(crate) fn tick<R: Host>(&mut self, rt: &R, alloc: Global) -> Result<(), AllocError>
+        ensures done { OnOk result (Ticks self.old.marks self.new.time.last_ms self.old.queues
+            self.old.parts.items self.new.queues self.new.parts.items) }
+        ensures later { self.old.time.last_ms ≤ self.new.time.last_ms }
+    {
         let now_ms = self.time.now(rt);
         for _ in rt.forever() {
-            match self.queues.step(Input::Tick, now_ms) {
-                Effect::Kill(process) => self.kill(rt, alloc, process)?,
-                Effect::Look(process) => {
-                    let told = ProcessInput::Looked(self.look(rt, process));
-                    let _ = self.queues.step(Input::Process(process, told), now_ms);
-                }
-                Effect::Forget(process) => drop(self.take_part(process)),
-                _ => return Ok(()),
+            if !self.ask(rt, alloc, now_ms)? {
+                return Ok(());
             }
         }
         unreachable!()
+    }
+
+    /// Asks the machine once what is to be done at this time, and does that. False where nothing
+    /// more is.
+    fn ask<R: Host>(&mut self, rt: &R, alloc: Global, now_ms: u64) -> Result<bool, AllocError>
+        ensures asked { IfOk result
+            (λ more. more ≡ is_asked (stepped self.old.queues now_ms Tick).1) }
+        ensures done { OnOk result (AsksOnce self.old.marks now_ms self.old.queues
+            self.old.parts.items self.new.queues self.new.parts.items) }
+        ensures time { self.new.time ≡ self.old.time }
+        ensures marks { self.new.marks ≡ self.old.marks }
+    {
+        let effect = self.queues.step(Input::Tick, now_ms);
+        self.answer(rt, alloc, effect, now_ms)
+    }
+
+    /// Does what the machine asks for at this time. False where that is nothing.
+    fn answer<R: Host>(
+        &mut self,
+        rt: &R,
+        alloc: Global,
+        effect: Effect,
+        now_ms: u64,
+    ) -> Result<bool, AllocError>
+        ensures asked { IfOk result (λ more. more ≡ is_asked effect) }
+        ensures done { OnOk result (DoesAt self.old.marks now_ms effect self.old.queues
+            self.old.parts.items self.new.queues self.new.parts.items) }
+        ensures time { self.new.time ≡ self.old.time }
+        ensures marks { self.new.marks ≡ self.old.marks }
+    {
+        match effect {
+            Effect::Kill(process) => self.kill(rt, alloc, process)?,
+            Effect::Look(process) => {
+                let told = ProcessInput::Looked(self.look(rt, process));
+                let _ = self.queues.step(Input::Process(process, told), now_ms);
+            }
+            Effect::Forget(process) => drop(self.take_part(process)),
+            _ => return Ok(false),
+        }
+        Ok(true)
     }
 
     /// Puts what the machine tells next at this time into the outbox, if it tells anything. Texts
@@ -165,6 +210,7 @@ impl Processes {
             self.old.parts.items self.new.parts.items }
         ensures machine { self.new.queues ≡ self.old.queues }
         ensures time { self.new.time ≡ self.old.time }
+        ensures marks { self.new.marks ≡ self.old.marks }
     {
         match place_of(self.parts.as_slice(), process) {
             Some(at) if at < self.parts.len() => {
@@ -184,6 +230,7 @@ impl Processes {
     fn take_part(&mut self, process: u64) -> Option<ProcessParts>
         ensures part { result ≡ part_of process self.old.parts.items }
         ensures kept { self.new.parts.items ≡ without process self.old.parts.items }
+        ensures others { self.new ≡ record self.old { parts = self.new.parts } }
     {
         let at = place_of(self.parts.as_slice(), process)?;
         Some(self.parts.remove(at))
@@ -195,6 +242,7 @@ impl Processes {
             self.old.parts.items self.new.parts.items) }
         ensures machine { self.new.queues ≡ self.old.queues }
         ensures time { self.new.time ≡ self.old.time }
+        ensures marks { self.new.marks ≡ self.old.marks }
     {
         match place_of(self.parts.as_slice(), process) {
             Some(at) if at < self.parts.len() => {
@@ -211,6 +259,7 @@ impl Processes {
         ensures sweep { IsSomeAnd self.new.last_sweeper (LooksFor (self.old.marks.worker ∷ [])) }
         ensures machine { self.new.queues ≡ self.old.queues }
         ensures time { self.new.time ≡ self.old.time }
+        ensures marks { self.new.marks ≡ self.old.marks }
     {
         for mut part in mem::replace(&mut self.parts, Vec::new(alloc)) {
             // A child that can't be killed has ended, or runs as another user.

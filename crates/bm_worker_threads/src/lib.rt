@@ -11,8 +11,9 @@
 //!
 //! Inside the crate the machine of the commands hears what a pipe or a process tells once. Where
 //! the machine keeps a text, it goes to the end of its own process's texts. An effect touches its
-//! own process alone (`Carrying.antt`). Exact is how a connection ends by what its link answers,
-//! and when a silent master is asked. So are the words and marks by which programs are started.
+//! own process alone (`Carrying.antt`). A tick does what the machine asks, until it asks no more.
+//! Exact is how a connection ends by what its link answers, what a login names, and when a silent
+//! master is asked. So are the words and marks by which programs are started.
 //!
 //! A body could still leave mail lying, read no pipe, or never come back. What threads, pipes,
 //! processes and scripts do has no contract: `worker_tests` and the tests of the programs stand in

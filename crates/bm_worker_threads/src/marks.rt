@@ -1,9 +1,9 @@
 //! By what the processes of a worker's commands are known: a variable of their environment. The
 //! toolchain starts no process groups, and few workers may make a control group.
 
-ghost use Rattle.std.specs.Prelude.{◌≡◌, IfOk, option_map, string_bytes};
+ghost use Rattle.std.specs.Prelude.{◌≡◌, IfOk, IfSome, option_map, string_bytes};
 ghost use Rattle.std.specs.Option.{option_copied};
-ghost use Rattle.bm_worker_threads.specs.Marks.{mark_of, value_of, text_or};
+ghost use Rattle.bm_worker_threads.specs.Marks.{AreNew, IsPlace, IsProcess, mark_of, namespace_in, place_text, process_text, text_or, value_of};
 
 use crate::session::new_session;
 use std::alloc::{AllocError, AllocGlobal, Global};
@@ -55,6 +55,7 @@ impl Marks {
     pub fn new<R>(rt: &R) -> io::Result<Marks>
     where
         R: Files + Env + RandomSource + AllocGlobal,
+        ensures { IfOk result AreNew }
     {
         let alloc = rt.alloc();
         let random = new_session(rt)?;
@@ -127,22 +128,46 @@ fn text_or<'a>(text: &'a Option<String>, other: &'a str) -> &'a str
 
 /// What the marks of workers of this user in this namespace of processes begin with. None where
 /// the system doesn't tell.
-fn place_of<R: Files + AllocGlobal>(rt: &R) -> Option<String> {
+fn place_of<R: Files + AllocGlobal>(rt: &R) -> Option<String>
+    ensures { IfSome result (λ place. IsPlace (string_bytes place)) }
+{
     let link = fs::read_link(rt, "/proc/self/ns/pid").ok()?;
-    let (_, namespace) = link.as_str().split_once('[')?;
-    let (namespace, _) = namespace.split_once(']')?;
+    let namespace = namespace_in(link.as_str())?;
     let status = fs::read_to_string(rt, "/proc/self/status").ok()?;
     let (_, users) = status.as_str().split_once("\nUid:")?;
     let user = users.split_ascii_whitespace().next()?;
-    format!(in rt.alloc(); "buildworker-{namespace}.{user}.").ok()
+    place_text(rt.alloc(), namespace, user)
+}
+
+/// The number of a namespace in the text of its link.
+fn namespace_in(link: &str) -> Option<&str>
+    ensures { IfSome result (λ namespace. namespace.now ≡ namespace_in link.now) }
+{
+    let (_, namespace) = link.split_once('[')?;
+    let (namespace, _) = namespace.split_once(']')?;
+    Some(namespace)
+}
+
+fn place_text(alloc: Global, namespace: &str, user: &str) -> Option<String>
+    ensures { IfSome result (λ text. string_bytes text ≡ place_text namespace.now user.now) }
+{
+    format!(in alloc; "buildworker-{namespace}.{user}.").ok()
 }
 
 /// The number of this process and its start time. None where the system doesn't tell.
-fn process_of<R: Files + AllocGlobal>(rt: &R) -> Option<String> {
+fn process_of<R: Files + AllocGlobal>(rt: &R) -> Option<String>
+    ensures { IfSome result (λ process. IsProcess (string_bytes process)) }
+{
     let stat = fs::read_to_string(rt, "/proc/self/stat").ok()?;
     let (number, _) = stat.as_str().split_once(' ')?;
     // The name stands in brackets, and may have some itself.
     let (_, rest) = stat.as_str().rsplit_once(')')?;
     let start = rest.split_ascii_whitespace().nth(START_PLACE)?;
-    format!(in rt.alloc(); "{number}.{start}.").ok()
+    process_text(rt.alloc(), number, start)
+}
+
+fn process_text(alloc: Global, number: &str, start: &str) -> Option<String>
+    ensures { IfSome result (λ text. string_bytes text ≡ process_text number.now start.now) }
+{
+    format!(in alloc; "{number}.{start}.").ok()
 }

@@ -2,6 +2,7 @@
 
 ghost use Rattle.std.specs.Prelude.{◌≡◌, ◌∷◌, [], IfSome};
 ghost use Rattle.bm_link.specs.Texts.{AreShort};
+ghost use Rattle.bm_worker_threads.specs.Connections.{TriesAgain, after_end, pause_or_status};
 
 use crate::build_worker::BuildWorker;
 use crate::closing::close;
@@ -15,6 +16,7 @@ use crate::socket_watch::SocketWatch;
 use crate::spare_threads::has_threads;
 use crate::sweeping::Sweeper;
 use bm_link::WorkerLink;
+use bm_outbox::Tries;
 use std::alloc::{AllocGlobal, Global};
 use std::io::{Read, Write};
 use std::net::{OpenStream, Shutdown};
@@ -118,16 +120,33 @@ where
             Some(stream) => connected(rt, alloc, worker, begun, number, stream, login),
             None => ConnectionEnd::Lost,
         };
-        let why = match after_end(end) {
-            Ok(why) => why,
+        match try_again(&mut worker.tries, end, millis_since(rt, begun)) {
+            Ok(pause) => thread::sleep(rt, Duration::from_millis(pause)),
             Err(status) => return status,
-        };
-        let Some(pause) = worker.tries.again(why, millis_since(rt, begun)) else {
-            return GIVEN_UP;
-        };
-        thread::sleep(rt, Duration::from_millis(pause));
+        }
     }
     unreachable!()
+}
+
+/// After how many milliseconds a worker connects again whose connection has ended so, or else its
+/// exit status.
+fn try_again(tries: &mut Tries, end: ConnectionEnd, now_ms: u64) -> Result<u64, u8>
+    ensures { TriesAgain (after_end end) now_ms tries.old result tries.new }
+{
+    match after_end(end) {
+        Ok(why) => pause_or_status(tries.again(why, now_ms)),
+        Err(status) => Err(status),
+    }
+}
+
+/// A worker without a pause before a next try gives up.
+fn pause_or_status(pause: Option<u64>) -> Result<u64, u8>
+    ensures { result ≡ pause_or_status pause }
+{
+    match pause {
+        Some(pause) => Ok(pause),
+        None => Err(GIVEN_UP),
+    }
 }
 
 /// Logs in over a stream, and serves the connection to its end. The connection's thread is started
