@@ -24,9 +24,10 @@ class Gone(Exception):
 
 
 class Server:
-    """A chunk server, over one connection that is opened anew where it was closed."""
+    """A chunk server, over one connection that is opened anew where it was closed. Once it has
+    ended its address may be another one's: `is_there` says whether it hasn't."""
 
-    def __init__(self, web):
+    def __init__(self, web, is_there=lambda: True):
         """Raises a ValueError where that is no address."""
         parts = urllib.parse.urlsplit(web if "://" in web else f"http://{web}")
         if parts.scheme != "http" or not parts.hostname or not parts.port:
@@ -38,6 +39,7 @@ class Server:
         except http.client.InvalidURL as fault:
             raise ValueError(web) from fault
         self.has_answered = False
+        self.is_there = is_there
 
     def ask(self, path, kind, **query):
         """What the answer has of the log, as MEMBERS says of that kind; None where there is no such
@@ -70,6 +72,11 @@ class Server:
 
     def answer_once(self, target):
         try:
+            if self.connection.sock is None:
+                self.connection.connect()
+                # Who is there behind the connection's begin was there at it, and had the address.
+                if not self.is_there():
+                    raise Gone("it has ended")
             self.connection.request("GET", target)
             answer = self.connection.getresponse()
             return answer.status, answer.read()

@@ -49,11 +49,11 @@ class Log:
 
 
 class Keeper:
-    """Reads each log to its end."""
+    """Reads each log to its end, while the server is there that has it."""
 
-    def __init__(self, web, asked, board):
+    def __init__(self, web, asked, board, is_there):
         self.folder, self.follows, self.board = asked.keep, asked.follow, board
-        self.server = Server(address(web))
+        self.server = Server(address(web), is_there)
         self.logs, self.open = [], []
         self.has_failed, self.is_gone, self.is_closing = False, False, False
         self.absent_since = None
