@@ -4,7 +4,7 @@
 ghost use Rattle.std.specs.Prelude.{◌≡◌, ◌+◌, false, IfNone, IfSome, IsSome, length, true};
 
 use crate::acceptor::accept_connections;
-use crate::shared_state::SharedState;
+use crate::shared::LaneThreadsShared;
 use crate::sockets::SocketEvents;
 use bm_coordinator::{EventSender, MasterEvent, MasterHost};
 use bm_lane::{Gate, Pass, ReaderEnd, Yard, writers};
@@ -36,7 +36,7 @@ impl<'s, Y: Yard, R: Wait + Clock> EventSink for LaneReporter<'s, Y, R> {
 // started.
 fn start_actor<'s, E, Y, R>(
     scope: &Scope<'s, E>,
-    shared: &'s SharedState<Y, R>,
+    shared: &'s LaneThreadsShared<Y, R>,
     state: LaneState<Y, WorkerStream<R>>,
     mailbox: Mailbox<WorkerStream<R>>,
 ) -> Option<JoinHandle<ReaderEnd<Y>>>
@@ -61,7 +61,7 @@ where
 // Starts the lanes' actors. The answer is whether all were started.
 fn start_actors<'s, E, Y, R>(
     scope: &Scope<'s, E>,
-    shared: &'s SharedState<Y, R>,
+    shared: &'s LaneThreadsShared<Y, R>,
     states: Vec<LaneState<Y, WorkerStream<R>>>,
     mailboxes: Vec<Mailbox<WorkerStream<R>>>,
     actors: &mut Vec<JoinHandle<ReaderEnd<Y>>>,
@@ -69,6 +69,8 @@ fn start_actors<'s, E, Y, R>(
 where
     Y: Yard + Send + Sync + 's,
     R: Wait + Clock + Threads + Drop + Send + Sync + 's,
+    ensures { result ≡ true
+        → (length actors.new.items ≡ length actors.old.items + length states.items) }
 {
     if actors.reserve(states.len()).is_err() {
         return false;
@@ -91,7 +93,7 @@ where
 /// Starts the threads that serve lanes. The answer is also whether all were started.
 pub fn start_lanes<'s, E, Y, R>(
     scope: &Scope<'s, E>,
-    shared: &'s SharedState<Y, R>,
+    shared: &'s LaneThreadsShared<Y, R>,
     states: Vec<LaneState<Y, WorkerStream<R>>>,
     mailboxes: Vec<Mailbox<WorkerStream<R>>>,
     workers: TcpListener,
@@ -100,6 +102,8 @@ pub fn start_lanes<'s, E, Y, R>(
 where
     Y: Yard + Send + Sync + 's,
     R: MasterHost + 's,
+    ensures actors { result.1 ≡ true
+        → (length result.0.actors.items ≡ length states.items) }
     ensures pool { result.1 ≡ true → IsSome result.0.pool }
     ensures acceptor { result.1 ≡ true → IsSome result.0.acceptor }
 {
@@ -121,7 +125,7 @@ where
 /// Drains the lanes until the gate says stop. Where the pool's writers can't be started this thread
 /// drains alone, so that no build waits for ever; the answer is then false. Its loop isn't the
 /// pool's: one for both would have both contracts.
-pub fn drain_lanes<Y, R>(shared: &SharedState<Y, R>) -> bool
+pub fn drain_lanes<Y, R>(shared: &LaneThreadsShared<Y, R>) -> bool
 where
     Y: Yard + Send + Sync,
     R: Wait + Clock + Threads + Drop + Send + Sync,
@@ -161,7 +165,7 @@ impl<Y: Yard> LaneThreads<Y> {
     /// The answer is also whether the pool did its work.
     pub fn end<R: Wait + Clock + Threads + Drop>(
         self,
-        shared: &SharedState<Y, R>,
+        shared: &LaneThreadsShared<Y, R>,
         room: Vec<ReaderEnd<Y>>,
     ) -> (Vec<ReaderEnd<Y>>, bool)
         ensures { IfNone self.pool (result.1 ≡ false) }
