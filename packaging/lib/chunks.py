@@ -115,19 +115,26 @@ def first_of(said, kind):
 
 def pieces(server, log, name, absent):
     """The log's lines, piece by piece as they come, to the end of its command. `absent` is called
-    once where there is no such log for more than a second."""
-    shown, pause, is_told, is_over = 0, FIRST_PAUSE, False, False
+    once where there is no such log for more than a second. A master that was started again has
+    another log under that number: its last line is asked for again, and has to be the same."""
+    shown, last, pause, is_told, is_over = 0, [], FIRST_PAUSE, False, False
     while True:
-        lines = server.lines(log, shown, name)
+        found = server.lines(log, shown - len(last), name)
+        if found and found[: len(last)] != last:
+            raise Gone(f"log {log} is another one now")
+        lines = found[len(last) :]
         shown += len(lines)
         if lines:
+            last = lines[-1:]
             yield lines
             pause = FIRST_PAUSE
-            if len(lines) < MOST_LINES:
+            if len(found) < MOST_LINES:
                 time.sleep(pause)
             continue
         # Only where nothing came it is asked whether the log has ended: no line waits for that.
         state = server.state(log, name)
+        if state and state[1] < shown:
+            raise Gone(f"log {log} is another one now")
         if state and state[0] and shown >= state[1]:
             return
         if state is None and name != "stdio" and not is_over:
