@@ -4,12 +4,12 @@
 //! `lane_threads.rt` starts and ends them. `acceptor.rt` has a connection up to its login, and
 //! `sockets.rt` what the acceptor waits for. [`LaneThreadsShared`] is what they share.
 //!
-//! Promised: a lane's actor has the mailbox of its own lane. Lanes count as started only where the
-//! pool and the acceptor were. A pool that wasn't there did no work. How long the acceptor waits,
-//! and which connection is told as late, have a clause.
+//! Promised: a lane's actor has the mailbox of its own lane. Lanes count as started only where each
+//! has its actor, and the pool and the acceptor are there. A pool that wasn't there did no work. How
+//! long the acceptor waits, and which connection is told as late, have a clause.
 //!
-//! A body could still start an actor too few, drop a connection, or never come back. What threads
-//! and sockets do is only tested.
+//! A body could still drop a connection, or never come back. What threads and sockets do is only
+//! tested.
 #![tactic(auto)]
 
 mod acceptor;
