@@ -5,8 +5,8 @@
 //! `sockets.rt` what the acceptor waits for. [`LaneThreadsShared`] is what they share.
 //!
 //! Promised: a lane's actor has the mailbox of its own lane. Lanes count as started only where each
-//! has its actor, and the pool and the acceptor are there. A pool that wasn't there did no work. How
-//! long the acceptor waits, and which connection is told as late, have a clause.
+//! has its actor, and the pool and the acceptor are there. A pool that wasn't there did no work.
+//! How long the acceptor waits, and which connection is told as late, have a clause.
 //!
 //! A body could still drop a connection, or never come back. What threads and sockets do is only
 //! tested.
