@@ -1,7 +1,7 @@
 //! The threads that serve lanes: their actors, the pool that drains them, and the acceptor of
 //! workers' connections.
 
-ghost use Rattle.std.specs.Prelude.{◌≡◌, ◌+◌, false, IfNone, IfSome, IsSome, length, true};
+ghost use Rattle.std.specs.Prelude.{◌≡◌, false, IfNone, IfSome, IsSome, length, true};
 
 use crate::acceptor::accept_connections;
 use crate::shared::LaneThreadsShared;
@@ -69,8 +69,6 @@ fn start_actors<'s, E, Y, R>(
 where
     Y: Yard + Send + Sync + 's,
     R: Wait + Clock + Threads + Drop + Send + Sync + 's,
-    ensures { result ≡ true
-        → (length actors.new.items ≡ length actors.old.items + length states.items) }
 {
     if actors.reserve(states.len()).is_err() {
         return false;
@@ -108,12 +106,14 @@ where
     ensures acceptor { result.1 ≡ true → IsSome result.0.acceptor }
 {
     let pool = scope.spawn(move || drain_lanes(shared)).ok();
+    let lanes = states.len();
     let mut actors = Vec::new(shared.base.alloc);
     let have_started = start_actors(scope, shared, states, mailboxes, &mut actors);
     let acceptor = scope
         .spawn(move || accept_connections(shared, workers, sockets))
         .ok();
-    let are_started = have_started && pool.is_some() && acceptor.is_some();
+    let has_all = have_started && actors.len() == lanes;
+    let are_started = has_all && pool.is_some() && acceptor.is_some();
     let threads = LaneThreads {
         pool,
         actors,

@@ -7,8 +7,9 @@ ghost use Rattle.bm_master_threads.specs.Beginnings.{board_of};
 
 use crate::threads::{SharedState, ThreadOwned};
 use crate::web::WebStop;
+use bm_board::Build;
 use bm_build_queue::{BuildQueue, ViewerPool};
-use bm_config::Config;
+use bm_config::{Config, LockConfig, WorkerConfig};
 use bm_coordinator::{Coordinator, EventReceiver, open_events};
 use bm_lane::{Viewer, Yard};
 use bm_lane_actor::{Mailboxes, WorkerStream, open_mailboxes};
@@ -52,16 +53,17 @@ impl<I, O> MasterStreams<I, O> {
 // build, which never comes.
 fn queue_of<Y: Yard>(
     alloc: Global,
-    config: &Config,
+    workers: &[WorkerConfig],
+    locks: &[LockConfig],
+    builds: &[Build],
     pools: Vec<ViewerPool<Y>>,
 ) -> Option<BuildQueue<Y>>
-    ensures board { IfSome result (λ queue. queue.board
-        ≡ board_of config.now.workers config.now.locks config.now.builds) }
+    ensures board { IfSome result
+        (λ queue. queue.board ≡ board_of workers.now locks.now builds.now) }
     ensures pools { IfSome result (λ queue. queue.pools ≡ pools.items) }
 {
-    let builds = config.builds.as_slice();
-    let slots = slots_of(alloc, config.workers.as_slice())?;
-    let maxima = maxima_of(alloc, config.locks.as_slice())?;
+    let slots = slots_of(alloc, workers)?;
+    let maxima = maxima_of(alloc, locks)?;
     let mut queue = BuildQueue::new(alloc, slots.as_slice(), maxima.as_slice(), pools).ok()?;
     for build in builds {
         let Ok(_) = queue.add(alloc, build) else {
@@ -86,7 +88,9 @@ fn coordinator_of<Y: Yard, O: Write + Drop>(
         ≡ board_of config.now.workers config.now.locks config.now.builds) }
 {
     let list = workers_of(alloc, config, at).ok();
-    let (queue, list) = queue_of(alloc, config, pools).zip(list)?;
+    let workers = config.workers.as_slice();
+    let (locks, builds) = (config.locks.as_slice(), config.builds.as_slice());
+    let (queue, list) = queue_of(alloc, workers, locks, builds, pools).zip(list)?;
     let WorkerList { workers, programs } = list;
     let master = Master::new(alloc, queue, workers);
     Some(Coordinator::new(alloc, events, master, programs, output, remarks))
