@@ -112,13 +112,12 @@ where
     let acceptor = scope
         .spawn(move || accept_connections(shared, workers, sockets))
         .ok();
-    let has_all = have_started && actors.len() == lanes;
-    let are_started = has_all && pool.is_some() && acceptor.is_some();
     let threads = LaneThreads {
         pool,
         actors,
         acceptor,
     };
+    let are_started = have_started && threads.are_all(lanes);
     (threads, are_started)
 }
 
@@ -160,6 +159,15 @@ pub struct LaneThreads<Y: Yard> {
 }
 
 impl<Y: Yard> LaneThreads<Y> {
+    // Whether they are all that serve so many lanes.
+    fn are_all(&self, lanes: usize) -> bool
+        ensures actors { result ≡ true → (length self.now.actors.items ≡ lanes) }
+        ensures pool { result ≡ true → IsSome self.now.pool }
+        ensures acceptor { result ≡ true → IsSome self.now.acceptor }
+    {
+        self.actors.len() == lanes && self.pool.is_some() && self.acceptor.is_some()
+    }
+
     /// Ends all of them: no connection is waited for any more, and the actors end while the pool
     /// still drains. The lanes' reader's ends come back in `room`, where there is room for them.
     /// The answer is also whether the pool did its work.
