@@ -7,8 +7,8 @@
 //! Promised: the exit status is that of `bm_operator` for how the builds ended and whether anything
 //! failed. A build runs on its own worker's lane. Everything here is safe, and may wait.
 //!
-//! The builds of the configuration stand on its board in their order. What a line of standard input
-//! asks for has a clause. So has when the web ends.
+//! The coordinator begins with the configuration's builds, in their order. What a line of standard
+//! input asks for has a clause. So has when the web ends.
 //!
 //! A body could still end a thread too early, or drop an event. The threads' work is put together
 //! here, and only tested. So is why a master could not begin.

@@ -174,7 +174,7 @@ where
         return Err(BeginFault::Output);
     }
     match run_threads(&shared, owned) {
-        Some(left) => Ok(end(shared, left, logs)),
+        Some(left) => Ok(end(shared.lanes, left, logs)),
         None => Err(BeginFault::Thread),
     }
 }

@@ -137,10 +137,7 @@ where
     R: Wait + Clock + Net + Copy + Drop,
     I: Drop,
     O: Write + Drop,
-    ensures states { IfSome result (λ r. r.1.states ≡ ends.states) }
-    ensures board { IfSome result (λ r. r.1.coordinator.master.builds.queue.board
-        ≡ board_of config.workers config.locks config.builds) }
-    ensures config { IfSome result (λ r. r.0.lanes.base.config ≡ config) }
+    ensures { IfSome result (λ r. r.1.states ≡ ends.states) }
 {
     let all = open_mailboxes(rt, alloc, ends.states.len());
     let (events, all) = open_events(alloc).ok().zip(all)?;
