@@ -60,7 +60,7 @@ HearsLastOf event at old new =
 abbrev pub IsCounted : MasterView → MasterView → Type 0
 IsCounted old new = (events : ℕ) × (new ≡ record old { unheard = Some events })
 
--- The thread of this build was started, or not. One that wasn't is told so, and is the next one.
+-- A build whose thread wasn't started, as the machine has it then: its agenda begins with it.
 abbrev pub refused_start : UnstartedView → UnstartedView
 refused_start build =
     record (assigned build.number build.worker build.viewer) {
@@ -72,6 +72,7 @@ pub record IsStartRefused (build : UnstartedView) (old new : MasterView) : Type 
   pub workers : new.workers ≡ old.workers
   pub builds : new.builds ≡ record old.builds { unstarted = Some (refused_start build) }
 
+-- The thread of this build was started, or not.
 abbrev pub IsStartAnswered : UnstartedView → MasterView → MasterView → Type 0
 IsStartAnswered build old new =
     (new ≡ record old { tells = Some (news.BuildStarted build.number build.worker) })

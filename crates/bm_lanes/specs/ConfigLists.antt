@@ -12,6 +12,10 @@ slots workers = map (λ w. w.slots) workers
 abbrev pub viewer_counts : List WorkerConfig → List ℕ
 viewer_counts workers = map (λ w. w.slots + 1) workers
 
+-- how many items each lane's queue takes
+abbrev pub capacities : ℕ → List WorkerConfig → List ℕ
+capacities capacity workers = map (λ w. capacity) workers
+
 -- how many builds may hold each lock
 abbrev pub maxima : List LockConfig → List ℕ
 maxima locks = map (λ l. l.max) locks

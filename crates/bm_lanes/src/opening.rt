@@ -1,7 +1,7 @@
 //! The opening of all lanes.
 
 ghost use Rattle.std.specs.Prelude.{◌≡◌, ◌+◌, ◌<◌, ◌≤◌, IfSome, map};
-ghost use Rattle.bm_lanes.specs.ConfigLists.{viewer_counts};
+ghost use Rattle.bm_lanes.specs.ConfigLists.{capacities, viewer_counts};
 
 use crate::config_lists::MOST_SLOTS;
 use bm_config::WorkerConfig;
@@ -14,7 +14,8 @@ const MOST_ITEMS: u32 = 65_536;
 /// A blank for the lane of a worker with so many slots.
 fn open_for<W: Wait + Drop>(rt: W, alloc: Global, capacity: usize, slots: u8) -> Option<Blank<W>>
     requires { (0 < capacity) × (capacity ≤ 65536) }
-    ensures { IfSome result (λ blank. blank.viewers ≡ slots + 1) }
+    ensures { IfSome result
+        (λ blank. (blank.capacity ≡ capacity) × (blank.viewers ≡ slots + 1)) }
 {
     if slots > MOST_SLOTS {
         return None;
@@ -31,7 +32,9 @@ pub fn open_all<W: Wait + Copy + Drop>(
     capacity: u32,
     workers: &[WorkerConfig],
 ) -> Option<Vec<Blank<W>>>
-    ensures { IfSome result
+    ensures capacity { IfSome result
+        (λ blanks. map (λ b. b.capacity) blanks.items ≡ capacities capacity workers.now) }
+    ensures viewers { IfSome result
         (λ blanks. map (λ b. b.viewers) blanks.items ≡ viewer_counts workers.now) }
 {
     if capacity == 0 || capacity > MOST_ITEMS {

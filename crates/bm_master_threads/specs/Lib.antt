@@ -1,5 +1,5 @@
--- To believe: what a line of standard input asks for. How long the acceptor waits. When the web
--- ends.
+-- To believe: with which builds a master begins, what a line of standard input asks for, and when
+-- the web ends.
+pub mod Beginnings
 pub mod InputLines
-pub mod Arrivals
 pub mod Stopping

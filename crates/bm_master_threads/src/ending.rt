@@ -7,12 +7,12 @@ ghost use Rattle.bm_build_queue.specs.BuildQueue.{AreResults};
 ghost use Rattle.bm_operator.specs.Exit.{exit_status};
 ghost use Rattle.bm_session.specs.declared.results.Results.{Results};
 
-use crate::shared_state::SharedState;
 use crate::threads::MasterLeft;
 use bm_build_queue::ViewerPool;
 use bm_config::WorkerConfig;
 use bm_coordinator::write_line;
 use bm_lane::{ReaderEnd, WriterEnd, Yard};
+use bm_lane_threads::LaneThreadsShared;
 use bm_lanes::{AllEnds, LaneTotals, SettleError, settle_all};
 use bm_operator::{OutputLine, status};
 use bm_session::Results;
@@ -44,7 +44,7 @@ fn status_of(
 /// Settles the lanes once all threads have ended, and `logs` are served no more. The answer is the
 /// exit status: 0 only where all that was to be done was done, and each build ended well.
 pub fn end<Y, R, O>(
-    shared: SharedState<Y, R>,
+    shared: LaneThreadsShared<Y, R>,
     left: MasterLeft<Y, O>,
     logs: Arc<LogService<Y>>,
 ) -> u8
@@ -64,7 +64,7 @@ where
         coordinator,
         is_whole,
     } = left;
-    let SharedState { base, writers, .. } = shared;
+    let LaneThreadsShared { base, writers, .. } = shared;
     let alloc = base.alloc;
     let results = coordinator.results(alloc);
     let has_failed = coordinator.has_failed();

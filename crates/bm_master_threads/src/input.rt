@@ -4,8 +4,7 @@ ghost use Rattle.std.specs.Prelude.{◌≡◌, ◌≤◌, true, false, length, I
 ghost use Rattle.bm_master_threads.specs.InputLines.{after_byte, asked, is_empty, line_told, no_line, with_byte};
 ghost use Rattle.bm_remarks.specs.Refusals.{IsHeard};
 
-use crate::shared_state::SharedState;
-use bm_coordinator::MasterEvent;
+use bm_coordinator::{CoordinatorShared, MasterEvent};
 use bm_lane::Yard;
 use bm_operator::{RateLimit, read_cancel};
 use crossbeam_channel::{Receiver, Sender, bounded};
@@ -143,33 +142,37 @@ fn line_told(asked: Option<u64>, is_told: bool) -> LineTold
 
 // Tells what a line asks for, and waits until the coordinator is near. A line that cancels no
 // build asks for nothing.
-fn tell_line<Y, R>(shared: &SharedState<Y, R>, misread: &mut MisreadLimit, line: &mut InputLine)
+fn tell_line<Y, R>(
+    shared: &CoordinatorShared<Y, R>,
+    misread: &mut MisreadLimit,
+    line: &mut InputLine,
+)
 where
     Y: Yard,
     R: Wait + Clock + Drop,
     ensures line { line.new ≡ no_line }
     ensures limit { IfNone (asked line.old) (IsHeard misread.new.limit) }
 {
-    let (rt, base) = (&shared.base.rt, &shared.base);
+    let rt = &shared.rt;
     let asked = line.end();
     let is_build = match asked {
-        Some(number) => base.build(number).is_some(),
+        Some(number) => shared.build(number).is_some(),
         None => false,
     };
     match line_told(asked, misread.tells(rt, is_build)) {
         LineTold::Nothing => {}
-        LineTold::Misread => base.events.tell(rt, MasterEvent::Misread),
+        LineTold::Misread => shared.events.tell(rt, MasterEvent::Misread),
         LineTold::Cancel(number) => {
-            base.lines.add();
-            base.events.tell(rt, MasterEvent::Cancel(number));
-            base.lines.wait(rt);
+            shared.lines.add();
+            shared.events.tell(rt, MasterEvent::Cancel(number));
+            shared.lines.wait(rt);
         }
     }
 }
 
 // Takes a byte of the input.
 fn take_byte<Y, R>(
-    shared: &SharedState<Y, R>,
+    shared: &CoordinatorShared<Y, R>,
     misread: &mut MisreadLimit,
     line: &mut InputLine,
     byte: u8,
@@ -200,13 +203,13 @@ fn read_piece<I: Read>(input: &mut I, piece: &mut [u8]) -> Option<usize>
 }
 
 // Tells what each line of the input asks for, until the input ends or can't be read.
-fn read_input<I, Y, R>(shared: &SharedState<Y, R>, input: I, line: InputLine)
+fn read_input<I, Y, R>(shared: &CoordinatorShared<Y, R>, input: I, line: InputLine)
 where
     I: Read + Drop,
     Y: Yard,
     R: Wait + Clock + Drop,
 {
-    let rt = &shared.base.rt;
+    let rt = &shared.rt;
     let (mut input, mut line) = (input, line);
     let mut piece = [0u8; 512];
     let mut misread = MisreadLimit {
@@ -228,7 +231,7 @@ where
 
 // Reads the input once there is a coordinator that hears of it.
 fn read_once_heard<I, Y, R>(
-    shared: &SharedState<Y, R>,
+    shared: &CoordinatorShared<Y, R>,
     input: I,
     line: InputLine,
     begins: &Receiver<bool, Global>,
@@ -238,10 +241,9 @@ where
     Y: Yard,
     R: Wait + Clock + Drop,
 {
-    let base = &shared.base;
-    if let Ok(true) = begins.recv(&base.rt) {
+    if let Ok(true) = begins.recv(&shared.rt) {
         read_input(shared, input, line);
-        base.events.tell(&base.rt, MasterEvent::InputEnded);
+        shared.events.tell(&shared.rt, MasterEvent::InputEnded);
     }
 }
 
@@ -249,7 +251,7 @@ where
 /// it is told anything else. None where it can't be started, or memory is wanting for a line.
 pub fn start_input<'s, E, Y, R, I>(
     scope: &Scope<'s, E>,
-    shared: &'s SharedState<Y, R>,
+    shared: &'s CoordinatorShared<Y, R>,
     input: I,
 ) -> Option<Sender<bool, Global>>
 where
@@ -257,8 +259,8 @@ where
     R: Wait + Clock + Threads + Drop + Send + Sync + 's,
     I: Read + Drop + Send + 's,
 {
-    let (begin, begins) = bounded(shared.base.alloc, 1).ok()?;
-    let line = InputLine::new(shared.base.alloc)?;
+    let (begin, begins) = bounded(shared.alloc, 1).ok()?;
+    let line = InputLine::new(shared.alloc)?;
     scope
         .spawn(move || read_once_heard(shared, input, line, &begins))
         .ok()?;

@@ -6,8 +6,7 @@ ghost use Rattle.bm_lane.specs.Placed.{ArePlaced, new_readers};
 use crate::begin_fault::BeginFault;
 use crate::ending::end;
 use crate::setup::{MasterStreams, prepare};
-use crate::shared_state::SharedState;
-use crate::threads::{ThreadOwned, run_threads};
+use crate::threads::{SharedState, ThreadOwned, run_threads};
 use crate::waiting_stream::WaitingStream;
 use bm_config::{Config, UnknownKey, WorkerConfig};
 use bm_coordinator::MasterHost;
@@ -167,12 +166,15 @@ where
     O: Write + Drop + Send,
 {
     let mut owned = owned;
-    if !owned.coordinator.greet(&shared.base, listening, unknown) {
+    if !owned
+        .coordinator
+        .greet(&shared.lanes.base, listening, unknown)
+    {
         drop(owned);
         return Err(BeginFault::Output);
     }
     match run_threads(&shared, owned) {
-        Some(left) => Ok(end(shared, left, logs)),
+        Some(left) => Ok(end(shared.lanes, left, logs)),
         None => Err(BeginFault::Thread),
     }
 }

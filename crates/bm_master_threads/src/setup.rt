@@ -3,15 +3,17 @@
 ghost use Rattle.std.specs.Prelude.{◌≡◌, IfSome, length};
 ghost use Rattle.std.specs.Arc.{arc_value};
 ghost use Rattle.std.specs.Option.{is_none};
+ghost use Rattle.bm_master_threads.specs.Beginnings.{board_of};
 
-use crate::shared_state::SharedState;
-use crate::sockets::open_sockets;
-use crate::threads::ThreadOwned;
+use crate::threads::{SharedState, ThreadOwned};
+use crate::web::WebStop;
+use bm_board::Build;
 use bm_build_queue::{BuildQueue, ViewerPool};
-use bm_config::Config;
+use bm_config::{Config, LockConfig, WorkerConfig};
 use bm_coordinator::{Coordinator, EventReceiver, open_events};
 use bm_lane::{Viewer, Yard};
 use bm_lane_actor::{Mailboxes, WorkerStream, open_mailboxes};
+use bm_lane_threads::{LaneThreadsShared, open_sockets};
 use bm_lanes::{DealtLanes, maxima_of, slots_of};
 use bm_master::Master;
 use bm_programs::{WorkerList, workers_of};
@@ -51,12 +53,17 @@ impl<I, O> MasterStreams<I, O> {
 // build, which never comes.
 fn queue_of<Y: Yard>(
     alloc: Global,
-    config: &Config,
+    workers: &[WorkerConfig],
+    locks: &[LockConfig],
+    builds: &[Build],
     pools: Vec<ViewerPool<Y>>,
-) -> Option<BuildQueue<Y>> {
-    let builds = config.builds.as_slice();
-    let slots = slots_of(alloc, config.workers.as_slice())?;
-    let maxima = maxima_of(alloc, config.locks.as_slice())?;
+) -> Option<BuildQueue<Y>>
+    ensures board { IfSome result
+        (λ queue. queue.board ≡ board_of workers.now locks.now builds.now) }
+    ensures pools { IfSome result (λ queue. queue.pools ≡ pools.items) }
+{
+    let slots = slots_of(alloc, workers)?;
+    let maxima = maxima_of(alloc, locks)?;
     let mut queue = BuildQueue::new(alloc, slots.as_slice(), maxima.as_slice(), pools).ok()?;
     for build in builds {
         let Ok(_) = queue.add(alloc, build) else {
@@ -76,10 +83,14 @@ fn coordinator_of<Y: Yard, O: Write + Drop>(
     output: O,
     remarks: Option<Remarks>,
 ) -> Option<Coordinator<Y, O>>
-    ensures { IfSome result (λ c. c.failed ≡ is_none remarks) }
+    ensures failed { IfSome result (λ c. c.failed ≡ is_none remarks) }
+    ensures board { IfSome result (λ c. c.master.builds.queue.board
+        ≡ board_of config.now.workers config.now.locks config.now.builds) }
 {
     let list = workers_of(alloc, config, at).ok();
-    let (queue, list) = queue_of(alloc, config, pools).zip(list)?;
+    let workers = config.workers.as_slice();
+    let (locks, builds) = (config.locks.as_slice(), config.builds.as_slice());
+    let (queue, list) = queue_of(alloc, workers, locks, builds, pools).zip(list)?;
     let WorkerList { workers, programs } = list;
     let master = Master::new(alloc, queue, workers);
     Some(Coordinator::new(alloc, events, master, programs, output, remarks))
@@ -147,9 +158,9 @@ where
         remarks,
     } = streams;
     let coordinator = coordinator_of(alloc, &config, at, pools, events, output, remarks);
-    let shared = SharedState::new(rt, alloc, config, handles, sender, acceptor, writers);
-    let (made, logs) = shared.zip(coordinator).zip(logs_of(alloc, web_viewers))?;
-    let (shared, coordinator) = made;
+    let lanes = LaneThreadsShared::new(rt, alloc, config, handles, sender, acceptor, writers);
+    let (made, logs) = lanes.zip(coordinator).zip(logs_of(alloc, web_viewers))?;
+    let (lanes, coordinator) = made;
     let (served, logs) = logs;
     let owned = ThreadOwned {
         states,
@@ -161,5 +172,6 @@ where
         coordinator,
         input,
     };
-    Some((shared, owned, logs))
+    let web_stop = WebStop::new();
+    Some((SharedState { lanes, web_stop }, owned, logs))
 }

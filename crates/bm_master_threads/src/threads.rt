@@ -15,13 +15,11 @@ ghost use Rattle.std.specs.Prelude.{◌≡◌, false, IfNone, IfSome, is_some};
 ghost use Rattle.std.specs.Thread.{IsSend, IsSync};
 
 use crate::input::start_input;
-use crate::lane_threads::{LaneThreads, start_lanes};
-use crate::shared_state::SharedState;
-use crate::sockets::SocketEvents;
-use crate::web::serve_web;
+use crate::web::{WebStop, serve_web};
 use bm_coordinator::{Coordinator, MasterHost, coordinate};
 use bm_lane::{ReaderEnd, Yard};
 use bm_lane_actor::{LaneState, Mailbox, WorkerStream};
+use bm_lane_threads::{LaneThreads, LaneThreadsShared, SocketEvents, start_lanes};
 use bm_web_server::LogService;
 use std::io::{Read, Write};
 use std::net::TcpListener;
@@ -29,6 +27,15 @@ use std::sync::{Arc, Wait};
 use std::thread;
 use std::thread::{JoinHandle, Scope};
 use std::time::Clock;
+
+/// What all threads of a master share.
+#[derive(Drop)]
+pub struct SharedState<Y: Yard, R: Wait + Clock + Drop> {
+    /// What those have of it that serve lanes, and in that what the coordinator has.
+    pub lanes: LaneThreadsShared<Y, R>,
+    /// By what the web is ended.
+    pub web_stop: WebStop,
+}
 
 /// What each thread of a master owns from its start on. It is one struct, since one for each step
 /// of the preparation would hide who owns what.
@@ -63,7 +70,7 @@ pub struct MasterLeft<Y: Yard, O> {
 // Joins the coordinator, and then ends the threads that serve lanes. None where there is no
 // coordinator. `room` is for the lanes' reader's ends.
 fn join_all<Y, R, O>(
-    shared: &SharedState<Y, R>,
+    lanes: &LaneThreadsShared<Y, R>,
     coordinator: Option<JoinHandle<Coordinator<Y, O>>>,
     lane_threads: LaneThreads<Y>,
     room: Vec<ReaderEnd<Y>>,
@@ -77,10 +84,10 @@ where
         (λ left. IfNone lane_threads.pool (left.is_whole ≡ false)) }
 {
     let left = match coordinator {
-        Some(thread) => Some(thread.join(&shared.base.rt)),
+        Some(thread) => Some(thread.join(&lanes.base.rt)),
         None => None,
     };
-    let (readers, is_whole) = lane_threads.end(shared, room);
+    let (readers, is_whole) = lane_threads.end(lanes, room);
     match left {
         Some(coordinator) => Some(MasterLeft {
             readers,
@@ -101,8 +108,9 @@ where
     R: MasterHost,
     O: Write + Drop,
 {
-    let left = coordinate(&shared.base, coordinator);
-    shared.web_stop.end(&shared.base.rt);
+    let base = &shared.lanes.base;
+    let left = coordinate(base, coordinator);
+    shared.web_stop.end(&base.rt);
     left
 }
 
@@ -120,11 +128,12 @@ where
     I: Read + Drop + Send + 's,
     O: Write + Drop + Send + 's,
 {
-    let begin = start_input(scope, shared, input)?;
+    let base = &shared.lanes.base;
+    let begin = start_input(scope, base, input)?;
     let thread = scope
         .spawn(move || coordinate_all(shared, coordinator))
         .ok();
-    let _ = begin.send(&shared.base.rt, thread.is_some());
+    let _ = begin.send(&base.rt, thread.is_some());
     thread
 }
 
@@ -142,8 +151,8 @@ where
     I: Read + Drop + Send + 's,
     O: Write + Drop + Send + 's,
 {
-    let lanes = shared.writers.len();
-    let Ok(room) = Vec::with_capacity(shared.base.alloc, lanes) else {
+    let (lanes, base) = (&shared.lanes, &shared.lanes.base);
+    let Ok(room) = Vec::with_capacity(base.alloc, lanes.writers.len()) else {
         drop(owned);
         return None;
     };
@@ -158,7 +167,7 @@ where
         input,
     } = owned;
     let (lane_threads, are_started) = start_lanes(
-        scope, shared, states, mailboxes, workers, sockets,
+        scope, lanes, states, mailboxes, workers, sockets,
     );
     let coordinator = if are_started {
         start_coordinator(scope, shared, coordinator, input)
@@ -168,10 +177,10 @@ where
         None
     };
     if coordinator.is_none() {
-        shared.web_stop.end(&shared.base.rt);
+        shared.web_stop.end(&base.rt);
     }
-    serve_web(shared, &web, &logs);
-    join_all(shared, coordinator, lane_threads, room)
+    serve_web(base, &shared.web_stop, &web, &logs);
+    join_all(lanes, coordinator, lane_threads, room)
 }
 
 /// Runs all threads, and joins them. None where one of them could not be started, or memory is
@@ -188,7 +197,7 @@ where
 {
     let left = thread::scope(
         thread::scope_env(),
-        &shared.base.rt,
+        &shared.lanes.base.rt,
         |scope| -> Option<MasterLeft<Y, O>>
             requires { IsSend Y.row × IsSync Y.row × IsSend R.row × IsSync R.row × IsSend I.row
                 × IsSend O.row }

@@ -4,8 +4,7 @@ ghost use Rattle.std.specs.Prelude.{◌≡◌, ◌*◌, ◌&&◌, false, not, tr
 ghost use Rattle.std.specs.Duration.{as_nanos};
 ghost use Rattle.bm_master_threads.specs.Stopping.{Waits};
 
-use crate::shared_state::SharedState;
-use bm_coordinator::{EventSender, MasterEvent};
+use bm_coordinator::{CoordinatorShared, EventSender, MasterEvent};
 use bm_lane::Yard;
 use bm_web_server::{LogService, PauseSink, WebLimits, serve};
 use std::alloc::{AllocError, AllocGlobal, Global};
@@ -119,7 +118,8 @@ impl<Y: Yard> PauseSink for WebPauses<Y> {
 /// it can't begin or go on, it begins anew after a while: who connects meanwhile waits. That is
 /// told, and changes nothing of how the builds end.
 pub fn serve_web<Y, R>(
-    shared: &SharedState<Y, R>,
+    shared: &CoordinatorShared<Y, R>,
+    stop: &WebStop,
     listener: &TcpListener,
     logs: &Arc<LogService<Y>>,
 )
@@ -127,13 +127,12 @@ where
     Y: Yard + Send + Sync,
     R: Wait + Threads + Clock + RandomSource + AllocGlobal + Net + Copy + Drop + Send + Sync,
 {
-    let base = &shared.base;
-    let rt = &base.rt;
+    let rt = &shared.rt;
     let mut is_served = true;
     for _ in rt.forever() {
         let was_served = is_served;
-        match shared.web_stop.wait_for(rt, base.alloc) {
-            Ok(Some(stopped)) => is_served = match base.events.copy() {
+        match stop.wait_for(rt, shared.alloc) {
+            Ok(Some(stopped)) => is_served = match shared.events.copy() {
                 Ok(events) => serve_once(*rt, listener, logs, WebPauses { events }, stopped),
                 Err(_) => false,
             },
@@ -141,7 +140,7 @@ where
             Err(_) => is_served = false,
         }
         if is_told(was_served, is_served) {
-            base.events.tell(rt, MasterEvent::Paused);
+            shared.events.tell(rt, MasterEvent::Paused);
         }
         thread::sleep(rt, Duration::from_millis(PAUSE_MS));
     }

@@ -40,6 +40,7 @@ impl Teller {
 
     /// It has told nothing, and hasn't begun.
     pub fn new(alloc: Global, remarks: Option<Remarks>) -> Teller
+        ensures remarks { result.remarks ≡ remarks }
         ensures refusals { result.refusals ≡ no_refusals 10 }
         ensures begun { result.began ≡ None }
     {

@@ -1,10 +1,9 @@
-//! What all threads of a master share.
+//! What the threads that serve lanes share.
 
 ghost use Rattle.std.specs.Prelude.{◌≡◌, IfSome};
 ghost use Rattle.bm_lanes.specs.ConfigLists.{users};
 
 use crate::sockets::AcceptorWaker;
-use crate::web::WebStop;
 use bm_config::Config;
 use bm_coordinator::{CoordinatorShared, EventSender};
 use bm_lane::{WriterEnd, Yard};
@@ -16,9 +15,9 @@ use std::sync::atomic::AtomicBool;
 use std::sync::{Arc, Mutex, Wait};
 use std::time::Clock;
 
-/// What all threads of a master share. Each list is in the order of the lanes.
+/// What the threads that serve lanes share. Each list is in the order of the lanes.
 #[derive(Drop)]
-pub struct SharedState<Y: Yard, R: Wait + Clock + Drop> {
+pub struct LaneThreadsShared<Y: Yard, R: Wait + Clock + Drop> {
     /// What the coordinator and the builds have of it.
     pub base: CoordinatorShared<Y, R>,
     /// Who may log in.
@@ -31,11 +30,9 @@ pub struct SharedState<Y: Yard, R: Wait + Clock + Drop> {
     pub writers: Vec<Mutex<WriterEnd<Y, R>>>,
     /// Set once the coordinator has left.
     pub is_over: Arc<AtomicBool, Global>,
-    /// By what the web is ended.
-    pub web_stop: WebStop,
 }
 
-impl<Y: Yard, R: Wait + Clock + Copy + Drop> SharedState<Y, R> {
+impl<Y: Yard, R: Wait + Clock + Copy + Drop> LaneThreadsShared<Y, R> {
     /// What is shared before the first thread starts. None where memory is wanting.
     pub fn new(
         rt: &R,
@@ -45,7 +42,7 @@ impl<Y: Yard, R: Wait + Clock + Copy + Drop> SharedState<Y, R> {
         events: EventSender<Y>,
         acceptor: AcceptorWaker,
         writers: Vec<Mutex<WriterEnd<Y, R>>>,
-    ) -> Option<SharedState<Y, R>>
+    ) -> Option<LaneThreadsShared<Y, R>>
         ensures config { IfSome result (λ shared. shared.base.config ≡ config) }
         ensures lanes { IfSome result (λ shared. shared.base.lanes ≡ lanes) }
         ensures users { IfSome result (λ shared. shared.users.items ≡ users config.workers) }
@@ -57,14 +54,13 @@ impl<Y: Yard, R: Wait + Clock + Copy + Drop> SharedState<Y, R> {
         let base = CoordinatorShared::new(rt, alloc, config, lanes, events, writers.len())?;
         let is_over = Arc::new(alloc, AtomicBool::new(false)).ok()?;
         let logins = LoginLimit::new(alloc).ok()?;
-        Some(SharedState {
+        Some(LaneThreadsShared {
             base,
             users,
             acceptor,
             logins,
             writers,
             is_over,
-            web_stop: WebStop::new(),
         })
     }
 }

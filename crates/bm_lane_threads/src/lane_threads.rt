@@ -1,10 +1,10 @@
 //! The threads that serve lanes: their actors, the pool that drains them, and the acceptor of
 //! workers' connections.
 
-ghost use Rattle.std.specs.Prelude.{◌≡◌, ◌+◌, false, IfNone, IfSome, IsSome, length, true};
+ghost use Rattle.std.specs.Prelude.{◌≡◌, false, IfNone, IfSome, IsSome, length, true};
 
 use crate::acceptor::accept_connections;
-use crate::shared_state::SharedState;
+use crate::shared::LaneThreadsShared;
 use crate::sockets::SocketEvents;
 use bm_coordinator::{EventSender, MasterEvent, MasterHost};
 use bm_lane::{Gate, Pass, ReaderEnd, Yard, writers};
@@ -36,7 +36,7 @@ impl<'s, Y: Yard, R: Wait + Clock> EventSink for LaneReporter<'s, Y, R> {
 // started.
 fn start_actor<'s, E, Y, R>(
     scope: &Scope<'s, E>,
-    shared: &'s SharedState<Y, R>,
+    shared: &'s LaneThreadsShared<Y, R>,
     state: LaneState<Y, WorkerStream<R>>,
     mailbox: Mailbox<WorkerStream<R>>,
 ) -> Option<JoinHandle<ReaderEnd<Y>>>
@@ -61,7 +61,7 @@ where
 // Starts the lanes' actors. The answer is whether all were started.
 fn start_actors<'s, E, Y, R>(
     scope: &Scope<'s, E>,
-    shared: &'s SharedState<Y, R>,
+    shared: &'s LaneThreadsShared<Y, R>,
     states: Vec<LaneState<Y, WorkerStream<R>>>,
     mailboxes: Vec<Mailbox<WorkerStream<R>>>,
     actors: &mut Vec<JoinHandle<ReaderEnd<Y>>>,
@@ -91,7 +91,7 @@ where
 /// Starts the threads that serve lanes. The answer is also whether all were started.
 pub fn start_lanes<'s, E, Y, R>(
     scope: &Scope<'s, E>,
-    shared: &'s SharedState<Y, R>,
+    shared: &'s LaneThreadsShared<Y, R>,
     states: Vec<LaneState<Y, WorkerStream<R>>>,
     mailboxes: Vec<Mailbox<WorkerStream<R>>>,
     workers: TcpListener,
@@ -100,28 +100,31 @@ pub fn start_lanes<'s, E, Y, R>(
 where
     Y: Yard + Send + Sync + 's,
     R: MasterHost + 's,
+    ensures actors { result.1 ≡ true
+        → (length result.0.actors.items ≡ length states.items) }
     ensures pool { result.1 ≡ true → IsSome result.0.pool }
     ensures acceptor { result.1 ≡ true → IsSome result.0.acceptor }
 {
     let pool = scope.spawn(move || drain_lanes(shared)).ok();
+    let lanes = states.len();
     let mut actors = Vec::new(shared.base.alloc);
     let have_started = start_actors(scope, shared, states, mailboxes, &mut actors);
     let acceptor = scope
         .spawn(move || accept_connections(shared, workers, sockets))
         .ok();
-    let are_started = have_started && pool.is_some() && acceptor.is_some();
     let threads = LaneThreads {
         pool,
         actors,
         acceptor,
     };
+    let are_started = have_started && threads.are_all(lanes);
     (threads, are_started)
 }
 
 /// Drains the lanes until the gate says stop. Where the pool's writers can't be started this thread
 /// drains alone, so that no build waits for ever; the answer is then false. Its loop isn't the
 /// pool's: one for both would have both contracts.
-pub fn drain_lanes<Y, R>(shared: &SharedState<Y, R>) -> bool
+pub fn drain_lanes<Y, R>(shared: &LaneThreadsShared<Y, R>) -> bool
 where
     Y: Yard + Send + Sync,
     R: Wait + Clock + Threads + Drop + Send + Sync,
@@ -156,12 +159,21 @@ pub struct LaneThreads<Y: Yard> {
 }
 
 impl<Y: Yard> LaneThreads<Y> {
+    // Whether they are all that serve so many lanes.
+    fn are_all(&self, lanes: usize) -> bool
+        ensures actors { result ≡ true → (length self.now.actors.items ≡ lanes) }
+        ensures pool { result ≡ true → IsSome self.now.pool }
+        ensures acceptor { result ≡ true → IsSome self.now.acceptor }
+    {
+        self.actors.len() == lanes && self.pool.is_some() && self.acceptor.is_some()
+    }
+
     /// Ends all of them: no connection is waited for any more, and the actors end while the pool
     /// still drains. The lanes' reader's ends come back in `room`, where there is room for them.
     /// The answer is also whether the pool did its work.
     pub fn end<R: Wait + Clock + Threads + Drop>(
         self,
-        shared: &SharedState<Y, R>,
+        shared: &LaneThreadsShared<Y, R>,
         room: Vec<ReaderEnd<Y>>,
     ) -> (Vec<ReaderEnd<Y>>, bool)
         ensures { IfNone self.pool (result.1 ≡ false) }

@@ -6,9 +6,9 @@ ghost use Rattle.std.specs.IoError.{error_kind};
 ghost use Rattle.std.specs.Thread.{IsSend, IsSync};
 ghost use Rattle.mio.specs.Events.{items};
 ghost use Rattle.bm_lane_actor.specs.LoginRefusals.{refusal_in};
-ghost use Rattle.bm_master_threads.specs.Arrivals.{has_connections, is_late, is_none_left, longest_wait};
+ghost use Rattle.bm_lane_threads.specs.Arrivals.{has_connections, is_late, is_none_left, longest_wait};
 
-use crate::shared_state::SharedState;
+use crate::shared::LaneThreadsShared;
 use crate::sockets::{LISTENER, SocketEvents};
 use bm_coordinator::MasterEvent;
 use bm_lane::Yard;
@@ -38,7 +38,7 @@ fn nameless(from: SocketAddr, why: LoginRefusal) -> RefusedConnection
 
 // Tells the coordinator of a connection that gave no name and isn't taken up.
 fn refuse<Y: Yard, R: Wait + Clock + Drop>(
-    shared: &SharedState<Y, R>,
+    shared: &LaneThreadsShared<Y, R>,
     from: SocketAddr,
     why: LoginRefusal,
 ) {
@@ -62,7 +62,7 @@ fn why_not(
 
 // Serves a connection up to its login. The answer is what is told of it where that is refused.
 fn refused<Y, R>(
-    shared: &SharedState<Y, R>,
+    shared: &LaneThreadsShared<Y, R>,
     stream: WorkerStream<R>,
     from: SocketAddr,
     began: Option<Instant>,
@@ -87,7 +87,7 @@ where
 
 // Serves a connection up to its login, and tells the coordinator where that is refused.
 fn welcome<Y, R>(
-    shared: &SharedState<Y, R>,
+    shared: &LaneThreadsShared<Y, R>,
     stream: WorkerStream<R>,
     from: SocketAddr,
     began: Option<Instant>,
@@ -113,7 +113,7 @@ struct Entry {
 }
 
 // One more connection comes in, or is told why not.
-fn entered<Y, R>(shared: &SharedState<Y, R>) -> Result<Entry, LoginRefusal>
+fn entered<Y, R>(shared: &LaneThreadsShared<Y, R>) -> Result<Entry, LoginRefusal>
 where
     Y: Yard,
     R: Wait + Clock + Drop,
@@ -143,7 +143,7 @@ where
 // Serves a connection up to its login, in a thread of its own.
 fn receive<'s, E, Y, R>(
     scope: &Scope<'s, E>,
-    shared: &'s SharedState<Y, R>,
+    shared: &'s LaneThreadsShared<Y, R>,
     stream: TcpStream,
     from: SocketAddr,
 )
@@ -187,7 +187,7 @@ fn is_none_left(error: &io::Error) -> bool
 // not be accepted, and is to be tried again after a pause.
 fn accept_all<'s, E, Y, R>(
     scope: &Scope<'s, E>,
-    shared: &'s SharedState<Y, R>,
+    shared: &'s LaneThreadsShared<Y, R>,
     listener: &TcpListener,
     was_paused: bool,
 ) -> bool
@@ -238,7 +238,7 @@ fn longest_wait(is_paused: bool) -> Option<Duration>
 // Accepts connections until the master ends.
 fn serve_sockets<'s, E, Y, R>(
     scope: &Scope<'s, E>,
-    shared: &'s SharedState<Y, R>,
+    shared: &'s LaneThreadsShared<Y, R>,
     listener: &TcpListener,
     sockets: SocketEvents,
 )
@@ -267,7 +267,7 @@ where
 
 /// Accepts connections until the master ends. Then those that have not logged in end too.
 pub fn accept_connections<Y, R>(
-    shared: &SharedState<Y, R>,
+    shared: &LaneThreadsShared<Y, R>,
     listener: TcpListener,
     sockets: SocketEvents,
 )
